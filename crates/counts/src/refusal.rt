@@ -1,0 +1,39 @@
+// The causes for which input is turned away, one variant for each row of the table of refusals. specs/Refusal.antt gives each its
+// number and its two places. The upper crates refuse by the same enum, so all their causes stand here too.
+
+pub enum Refusal {
+    Malformed,
+    BadIdeal(u32),
+    EdgeOutOfRange(u32, u32),
+    EdgeRepeated(u32, u32),
+    EdgeOnBothSides(u32, u32),
+    EdgeOverused(u32),
+    TooManyMoves,
+    LengthsDiffer,
+    CountTooLarge(u32),
+    LimitTooLarge,
+    OutputTooShort,
+    BadLoop,
+    CurveTooShort(u32),
+    PointNotFinite(u32),
+    BadCurveLength(u32),
+    CurvesApart(u32),
+    CornersClockwise,
+    SeamTooShort(u32),
+    SeamOutOfRange(u32, u32),
+    SeamFalling(u32, u32),
+    SeamEnds(u32),
+    SeamsUnequal(u32),
+    LinesParallel(u32, u32),
+    CrossingOutside(u32, u32),
+    BadQuadArea(u32, u32),
+    NoCells,
+    BreaksMismatch(u32),
+    RootUndefined,
+}
+
+// The outcome of one test.
+pub enum Check {
+    Passed,
+    Refused(Refusal),
+}
