@@ -87,8 +87,8 @@ pairs-test p n r zero regions = passed
 pairs-test p n r (suc m) regions =
     then-test
     (then-test
-      (pair-test n r 0 2 (side p regions 0) (side p regions 2))
-      (pair-test n r 1 3 (side p regions 1) (side p regions 3)))
+    (pair-test n r 0 2 (side p regions 0) (side p regions 2))
+    (pair-test n r 1 3 (side p regions 1) (side p regions 3)))
     (pairs-test p n (suc r) m (drop (record-size p) regions))
 
 -- 6: "edge in over two constraints (lowest)", of m edges from e on

@@ -28,7 +28,7 @@ weigh st b =
     record {
       cut = b .cut || st .cut;
       kept = cond (improves (b .kept) (st .kept)) (st .kept) (b .kept);
-      best = cond (improves (b .kept) (st .kept)) (st .best) (b .best)
+      best = cond (improves (b .kept) (st .kept)) (st .best) (b .best);
     }
 
 -- "tries edges upward, +1 before -1"

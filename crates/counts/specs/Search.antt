@@ -128,3 +128,8 @@ module _ (g : List Constraint) (edge-cost : EdgeCost) (allowed : ℕ → Bool �
   unfoldable pub run : State
   unfolding dfs
   run = dfs (suc (length g)) (replicate (length g) false) ((x0, s0) ∷ []) x0 s0 (edge-cost x0 s0) fresh
+
+-- how many constraints are unused
+abbrev pub free : List Bool → ℕ
+free [] = 0
+free (b ∷ bs) = cond b (free bs) (suc (free bs))

@@ -72,8 +72,8 @@ unfoldable pub round-with : ℕ → Verdict → CostModel → List ℕ → List 
 unfolding find-move
 round-with p verdict costs regions counts limit =
     elim (is-passed verdict) [
-      true ↦ round-by (find-move (graph p regions) costs counts limit) counts
-    | false ↦ round-refused verdict counts
+      | true ↦ round-by (find-move (graph p regions) costs counts limit) counts
+      | false ↦ round-refused verdict counts
     ]
 
 unfoldable pub round : List ℕ → List Float → List ℕ → ℕ → Round
@@ -110,8 +110,8 @@ unfoldable pub solve-with : ℕ → Verdict → CostModel → List ℕ → ℕ �
 unfolding solve-zeros
 solve-with p verdict costs regions n limit lent =
     elim (is-passed verdict) [
-      true ↦ solve-by-moves n (solve-zeros (graph p regions) costs limit n) lent
-    | false ↦ record { verdict = verdict; moves = 0; counts = lent }
+      | true ↦ solve-by-moves n (solve-zeros (graph p regions) costs limit n) lent
+      | false ↦ record { verdict = verdict; moves = 0; counts = lent }
     ]
 
 -- "with limit 100,000"
@@ -143,8 +143,8 @@ unfoldable pub energy : List ℕ → List Float → Energy
 unfolding energy-test energy-from
 energy counts ideals =
     elim (is-passed (energy-test counts ideals)) [
-      true ↦ record { verdict = passed; total = energy-from (ofBits binary64 0) counts ideals }
-    | false ↦ record { verdict = energy-test counts ideals; total = ofBits binary64 0 }
+      | true ↦ record { verdict = passed; total = energy-from (ofBits binary64 0) counts ideals }
+      | false ↦ record { verdict = energy-test counts ideals; total = ofBits binary64 0 }
     ]
 
 pub record Hold : Type 0 where

@@ -1,0 +1,9 @@
+-- Laws of the definitions. Assumes nothing.
+pub mod Acts
+pub mod Balance
+pub mod BoolLaws
+pub mod Complete
+pub mod Find
+pub mod FloatLaws
+pub mod ListLaws
+pub mod Sound
