@@ -10,5 +10,6 @@ pub mod ListLaws
 pub mod Makes
 pub mod RefusalLaws
 pub mod Rounds
+pub mod SolverCases
 pub mod Solving
 pub mod Sound
