@@ -10,6 +10,7 @@ pub mod ListLaws
 pub mod Makes
 pub mod RefusalLaws
 pub mod Rounds
+pub mod Same
 pub mod SolverCases
 pub mod Solving
 pub mod Sound
