@@ -9,6 +9,7 @@ pub mod FloatLaws
 pub mod ListLaws
 pub mod Makes
 pub mod RefusalLaws
+pub mod RoundLaws
 pub mod Rounds
 pub mod Same
 pub mod SolverCases

@@ -7,5 +7,7 @@ pub mod Move
 pub mod Refusal
 pub mod Region
 pub mod Round
+pub mod RoundContract
 pub mod Search
 pub mod Solver
+pub mod Tables

@@ -1,2 +1,4 @@
 mod answer;
 mod refusal;
+mod round;
+mod search;

@@ -1,0 +1,305 @@
+// A round: the searches from every start, the choice among them, and the move made.
+use crate::search::SearchState;
+use crate::search::run;
+ghost use mathlib.Core.Path.{_≡_};
+ghost use mathlib.Core.Bool.{true, false, _||_};
+ghost use Prim.Native.Nat.{ℕ, _+_, _*_, _/_, _%_, _≤_, _<_};
+ghost use lib.Dec.{eqb};
+ghost use lib.Ieee.{inf};
+ghost use lib.ListN.{length, getD};
+ghost use Rattle.counts.specs.Move.{apply-changes as changed-counts};
+ghost use Rattle.counts.specs.Round.{improves as improves-on, find-augmentation as found-by};
+ghost use Rattle.counts.specs.Tables.{Tables, the-graph, cost-in, allowed-in, path-of};
+ghost use Rattle.counts.specs.RoundContract.{Buffers, Searched, Remembered, Recalled, AllKnown, FoundIn, CanApply, start-at, weighed as weighed-of, chosen, found-of};
+
+const NO_START: usize = 512;
+
+// What the starts weighed so far come to: the kept cost, the start that it comes from, and whether any search was cut.
+pub struct Choice {
+    pub kept: f64,
+    pub winner: usize,
+    pub cut: bool,
+}
+
+// The move found: its cost, how many changes it has (none: 0), and whether any search was cut. Its changes stand in a buffer.
+pub struct FoundMove {
+    pub kept: f64,
+    pub len: u32,
+    pub cut: bool,
+}
+
+fn infinity() -> f64
+    ensures { λ r. ⌜ r ≡ inf false ⌝ }
+{
+    f64::from_bits(0x7ff0_0000_0000_0000)
+}
+
+fn either(a: bool, b: bool) -> bool
+    ensures { λ r. ⌜ r ≡ (a || b) ⌝ }
+{
+    if a {
+        return true;
+    }
+    b
+}
+
+// The k-th start, packed: edges upward, +1 before -1.
+fn start_at(k: usize) -> usize
+    requires { ⌜ k < 512 ⌝ }
+    ensures { λ r. ⌜ (r ≡ start-at k) × (r < 512) × (r / 2 ≡ k / 2) ⌝ }
+{
+    k / 2 * 2 + (1 - k % 2)
+}
+
+// The search from one start; nothing where the change is not allowed.
+fn search_from(
+    regions: &[u16],
+    incident: &[u16; 512],
+    own: &[u16; 512],
+    costs: &[f64; 512],
+    allowed: &[bool; 512],
+    limit: u32,
+    used: &mut [bool; 257],
+    path: &mut [u16; 257],
+    best: &mut [u16; 257],
+    c: usize,
+) -> SearchState
+    requires { ⌜ Tables (now regions) (now incident) (now own) × (c < 512) ⌝ }
+    requires { ⌜ Buffers (now used) (now path) (now best) ⌝ }
+    ensures { λ r. ⌜ Searched (now (regions .entry)) (now (costs .entry)) (now (allowed .entry)) limit c (now (used .exit)) (now (path .exit)) (now (best .exit)) r ⌝ }
+{
+    if allowed[c] {
+        return run(
+            regions,
+            incident,
+            own,
+            costs,
+            allowed,
+            limit,
+            used,
+            path,
+            best,
+            c,
+        );
+    }
+    SearchState {
+        kept: infinity(),
+        expansions: 0,
+        len: 0,
+        cut: false,
+    }
+}
+
+// Sees to it that the result from start c is known.
+fn recall(
+    regions: &[u16],
+    incident: &[u16; 512],
+    own: &[u16; 512],
+    costs: &[f64; 512],
+    allowed: &[bool; 512],
+    limit: u32,
+    used: &mut [bool; 257],
+    path: &mut [u16; 257],
+    best: &mut [u16; 257],
+    kept: &mut [f64; 512],
+    cut: &mut [bool; 512],
+    known: &mut [bool; 512],
+    c: usize,
+)
+    requires { ⌜ Tables (now regions) (now incident) (now own) × (c < 512) ⌝ }
+    requires { ⌜ Buffers (now used) (now path) (now best) ⌝ }
+    requires { ⌜ Remembered (now regions) (now costs) (now allowed) limit (now kept) (now cut) (now known) ⌝ }
+    ensures { λ _. ⌜ Recalled (now (regions .entry)) (now (costs .entry)) (now (allowed .entry)) limit c (now (known .entry)) (now (used .exit)) (now (path .exit)) (now (best .exit)) (now (kept .exit)) (now (cut .exit)) (now (known .exit)) ⌝ }
+{
+    if known[c] {
+        return;
+    }
+    let r = search_from(
+        regions,
+        incident,
+        own,
+        costs,
+        allowed,
+        limit,
+        used,
+        path,
+        best,
+        c,
+    );
+    kept[c] = r.kept;
+    cut[c] = r.cut;
+    known[c] = true;
+}
+
+// Sees to it that the result from every start is known, of n edges.
+fn search_starts(
+    regions: &[u16],
+    incident: &[u16; 512],
+    own: &[u16; 512],
+    costs: &[f64; 512],
+    allowed: &[bool; 512],
+    limit: u32,
+    used: &mut [bool; 257],
+    path: &mut [u16; 257],
+    best: &mut [u16; 257],
+    kept: &mut [f64; 512],
+    cut: &mut [bool; 512],
+    known: &mut [bool; 512],
+    n: usize,
+)
+    requires { ⌜ Tables (now regions) (now incident) (now own) × (n ≤ 256) ⌝ }
+    requires { ⌜ Buffers (now used) (now path) (now best) ⌝ }
+    requires { ⌜ Remembered (now regions) (now costs) (now allowed) limit (now kept) (now cut) (now known) ⌝ }
+    ensures { λ _. ⌜ AllKnown (now (regions .entry)) (now (costs .entry)) (now (allowed .entry)) limit (n * 2) (now (used .exit)) (now (path .exit)) (now (best .exit)) (now (kept .exit)) (now (cut .exit)) (now (known .exit)) ⌝ }
+{
+    let mut c = 0;
+    while c < n * 2 {
+        recall(
+            regions,
+            incident,
+            own,
+            costs,
+            allowed,
+            limit,
+            used,
+            path,
+            best,
+            kept,
+            cut,
+            known,
+            c,
+        );
+        c += 1;
+    }
+}
+
+impl Choice {
+    // Only a cost below -E, and below the kept cost by more than E, takes its place.
+    fn improved_by(self, kept: f64) -> bool
+        ensures { λ r. ⌜ r ≡ improves-on (self .kept) kept ⌝ }
+    {
+        if kept < -1e-12 {
+            return kept < self.kept - 1e-12;
+        }
+        false
+    }
+
+    fn weighed(self, kept: f64, cut: bool, c: usize) -> Choice
+        ensures { λ r. ⌜ r ≡ weighed-of self kept cut c ⌝ }
+    {
+        let any = either(self.cut, cut);
+        if self.improved_by(kept) {
+            return Choice {
+                kept,
+                winner: c,
+                cut: any,
+            };
+        }
+        Choice {
+            kept: self.kept,
+            winner: self.winner,
+            cut: any,
+        }
+    }
+}
+
+// The first start of the lowest cost, the starts in their order.
+fn choose(kept: &[f64; 512], cut: &[bool; 512], n: usize) -> Choice
+    requires { ⌜ n ≤ 256 ⌝ }
+    ensures { λ r. ⌜ (r ≡ chosen (now (kept .entry)) (now (cut .entry)) (n * 2)) × (r .winner ≤ 512) ⌝ }
+{
+    let mut out = Choice {
+        kept: infinity(),
+        winner: NO_START,
+        cut: false,
+    };
+    let mut k = 0;
+    while k < n * 2 {
+        let c = start_at(k);
+        out = out.weighed(kept[c], cut[c], c);
+        k += 1;
+    }
+    out
+}
+
+// The best move over all starts of n edges, its changes in `best`. The winner is searched once more, for its changes.
+pub fn find_augmentation(
+    regions: &[u16],
+    incident: &[u16; 512],
+    own: &[u16; 512],
+    costs: &[f64; 512],
+    allowed: &[bool; 512],
+    limit: u32,
+    used: &mut [bool; 257],
+    path: &mut [u16; 257],
+    best: &mut [u16; 257],
+    kept: &mut [f64; 512],
+    cut: &mut [bool; 512],
+    known: &mut [bool; 512],
+    n: usize,
+) -> FoundMove
+    requires { ⌜ Tables (now regions) (now incident) (now own) × (n ≤ 256) ⌝ }
+    requires { ⌜ Buffers (now used) (now path) (now best) ⌝ }
+    requires { ⌜ Remembered (now regions) (now costs) (now allowed) limit (now kept) (now cut) (now known) ⌝ }
+    ensures { λ r. ⌜ FoundIn (now (regions .entry)) (now (costs .entry)) (now (allowed .entry)) limit n (now (used .exit)) (now (path .exit)) (now (best .exit)) (now (kept .exit)) (now (cut .exit)) (now (known .exit)) r ⌝ }
+{
+    search_starts(
+        regions,
+        incident,
+        own,
+        costs,
+        allowed,
+        limit,
+        used,
+        path,
+        best,
+        kept,
+        cut,
+        known,
+        n,
+    );
+    let choice = choose(kept, cut, n);
+    let winner = choice.winner;
+    if winner == NO_START {
+        return FoundMove {
+            kept: choice.kept,
+            len: 0,
+            cut: choice.cut,
+        };
+    }
+    let r = search_from(
+        regions,
+        incident,
+        own,
+        costs,
+        allowed,
+        limit,
+        used,
+        path,
+        best,
+        winner,
+    );
+    FoundMove {
+        kept: choice.kept,
+        len: r.len,
+        cut: choice.cut,
+    }
+}
+
+// The first `len` changes, made.
+pub fn apply_changes(counts: &mut [u32], best: &[u16; 257], len: usize)
+    requires { ⌜ CanApply (now counts) (path-of len (now best)) × (len ≤ 257) × (length (now best) ≡ 257) ⌝ }
+    ensures { λ _. ⌜ now (counts .exit) ≡ changed-counts (path-of len (now (best .entry))) (now (counts .entry)) ⌝ }
+{
+    let mut i = 0;
+    while i < len {
+        let c = best[i] as usize;
+        let e = c / 2;
+        if c % 2 == 1 {
+            counts[e] += 1;
+        } else {
+            counts[e] -= 1;
+        }
+        i += 1;
+    }
+}
