@@ -1,6 +1,7 @@
 -- Laws of the definitions. Assumes nothing.
 pub mod Accepted
 pub mod Acts
+pub mod Applying
 pub mod Balance
 pub mod BoolLaws
 pub mod Complete

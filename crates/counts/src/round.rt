@@ -1,13 +1,14 @@
 // A round: the searches from every start, the choice among them, and the move made.
 use crate::search::SearchState;
 use crate::search::run;
+use crate::search::wide;
 ghost use mathlib.Core.Path.{_≡_};
 ghost use mathlib.Core.Bool.{true, false, _||_};
 ghost use Prim.Native.Nat.{ℕ, _+_, _*_, _/_, _%_, _≤_, _<_};
-ghost use lib.Dec.{eqb};
+ghost use lib.Dec.{T, eqb, ltb};
 ghost use lib.Ieee.{inf};
 ghost use lib.ListN.{length, getD};
-ghost use Rattle.counts.specs.Move.{apply-changes as changed-counts};
+ghost use Rattle.counts.specs.Move.{changed, apply-changes as changed-counts};
 ghost use Rattle.counts.specs.Round.{improves as improves-on, find-augmentation as found-by};
 ghost use Rattle.counts.specs.Tables.{Tables, the-graph, cost-in, allowed-in, path-of};
 ghost use Rattle.counts.specs.RoundContract.{Buffers, Searched, Remembered, Recalled, AllKnown, FoundIn, CanApply, start-at, weighed as weighed-of, chosen, found-of};
@@ -286,6 +287,17 @@ pub fn find_augmentation(
     }
 }
 
+// A count after +1 or -1.
+fn changed_count(s: u32, plus: bool) -> u32
+    requires { ⌜ (s ≤ 1000000) × T (plus || ltb 0 s) ⌝ }
+    ensures { λ r. ⌜ r ≡ changed plus s ⌝ }
+{
+    if plus {
+        return s + 1;
+    }
+    s - 1
+}
+
 // The first `len` changes, made.
 pub fn apply_changes(counts: &mut [u32], best: &[u16; 257], len: usize)
     requires { ⌜ CanApply (now counts) (path-of len (now best)) × (len ≤ 257) × (length (now best) ≡ 257) ⌝ }
@@ -293,13 +305,10 @@ pub fn apply_changes(counts: &mut [u32], best: &[u16; 257], len: usize)
 {
     let mut i = 0;
     while i < len {
-        let c = best[i] as usize;
+        let c = wide(best[i]);
         let e = c / 2;
-        if c % 2 == 1 {
-            counts[e] += 1;
-        } else {
-            counts[e] -= 1;
-        }
+        let plus = c % 2 == 1;
+        counts[e] = changed_count(counts[e], plus);
         i += 1;
     }
 }

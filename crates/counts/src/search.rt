@@ -12,6 +12,12 @@ pub struct SearchState {
     pub cut: bool,
 }
 
+pub(crate) fn wide(x: u16) -> usize
+    ensures { λ r. ⌜ (r ≡ x) × (r < 65536) ⌝ }
+{
+    x as usize
+}
+
 pub fn run(
     regions: &[u16],
     incident: &[u16; 512],

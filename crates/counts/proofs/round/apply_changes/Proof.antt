@@ -1,81 +1,62 @@
+-- `round::apply_changes` meets its contract. Invariant: the first i changes are made. Measure: the changes that are left. Assumes nothing.
+use Prim.Native.Nat.{ℕ, _-_, _≤_, _<_}
+use mathlib.Core.Path.{_≡_, refl, sym, ap, _∙_}
+use native.Mathlib.Omega.{arith}
+use borrow.Author.Needs.{needs}
+use lib.ListN.{length}
+use Rattle.counts.specs.Move.{apply-changes}
+use Rattle.counts.specs.Tables.{path-of}
+use Rattle.counts.proofs.Applying.{apply-length, at-change, apply-turn}
 use Rattle.counts.proofs.round.apply_changes.Statement.{statement}
 use Rattle.counts.proofs.round.apply_changes.Tie as tie
-use Rattle.counts.proofs.round.apply_changes.Reads as reads
-use Rattle.counts.proofs.round.apply_changes.Lts as lts
 
 abbrev Inv-loop : tie.InvT-loop
-Inv-loop counts₀ best len i₀ counts i = ?
+Inv-loop counts₀ best len i₀ counts i = (counts ≡ apply-changes (path-of i best) counts₀) × (i ≤ len)
 
 abbrev μ-loop : tie.MeasureT-loop
-μ-loop counts₀ best len i₀ counts i = ?
+μ-loop counts₀ best len i₀ counts i = len - i
 
--- src/round.rt:161:5
 loop-holds : tie.Need-loop-holds Inv-loop μ-loop
-loop-holds c = ?
+loop-holds c = (refl, omega arith)
 
--- src/round.rt:162:17
-mul-c : tie.Need-mul-c Inv-loop μ-loop
-mul-c c = ?
+mul-wide : tie.Need-mul-wide Inv-loop μ-loop
+mul-wide c = omega arith
 
--- src/round.rt:162:17
-element-copy-out-c : tie.Need-element-copy-out-c Inv-loop μ-loop
-element-copy-out-c c = ?
+element-copy-out-wide : tie.Need-element-copy-out-wide Inv-loop μ-loop
+element-copy-out-wide c = omega arith
 
--- src/round.rt:162:17
-cast-c : tie.Need-cast-c Inv-loop μ-loop
-cast-c c = ?
+wide-requires : tie.Need-wide-requires Inv-loop μ-loop
+wide-requires c κs = search needs
 
--- src/round.rt:165:13
+mul-changed-count : tie.Need-mul-changed-count Inv-loop μ-loop
+mul-changed-count c = omega (arith, c .wide .ensures .1)
+
+slice-read-changed-count : tie.Need-slice-read-changed-count Inv-loop μ-loop
+slice-read-changed-count c = at-change _ _ _ _ _ _ (c .before .before .before .before .before .before .pre) (c .before .before .before .loop-test .taken) (c .before .wide .ensures) (c .before .before .before .before .loop .inv .0) .below
+
+changed-count-requires : tie.Need-changed-count-requires Inv-loop μ-loop
+changed-count-requires c κs = (at-change _ _ _ _ _ _ (c .before .before .before .before .before .before .pre) (c .before .before .before .loop-test .taken) (c .before .wide .ensures) (c .before .before .before .before .loop .inv .0) .small, at-change _ _ _ _ _ _ (c .before .before .before .before .before .before .pre) (c .before .before .before .loop-test .taken) (c .before .wide .ensures) (c .before .before .before .before .loop .inv .0) .down)
+
 mul-counts : tie.Need-mul-counts Inv-loop μ-loop
-mul-counts c = ?
+mul-counts c = omega (arith, c .before .before .wide .ensures .1)
 
--- src/round.rt:165:13
-slice-read-counts : tie.Need-slice-read-counts Inv-loop μ-loop
-slice-read-counts c = ?
-
--- src/round.rt:165:13
-add-counts : tie.Need-add-counts Inv-loop μ-loop
-add-counts c = ?
-
--- src/round.rt:165:13
 slice-write-counts : tie.Need-slice-write-counts Inv-loop μ-loop
-slice-write-counts c = ?
+slice-write-counts c = at-change _ _ _ _ _ _ (c .before .before .before .before .before .before .before .pre) (c .before .before .before .before .loop-test .taken) (c .before .before .wide .ensures) (c .before .before .before .before .before .loop .inv .0) .below
 
--- src/round.rt:167:13
-mul-counts-2 : tie.Need-mul-counts-2 Inv-loop μ-loop
-mul-counts-2 c = ?
-
--- src/round.rt:167:13
-slice-read-counts-2 : tie.Need-slice-read-counts-2 Inv-loop μ-loop
-slice-read-counts-2 c = ?
-
--- src/round.rt:167:13
-sub-counts : tie.Need-sub-counts Inv-loop μ-loop
-sub-counts c = ?
-
--- src/round.rt:167:13
-slice-write-counts-2 : tie.Need-slice-write-counts-2 Inv-loop μ-loop
-slice-write-counts-2 c = ?
-
--- src/round.rt:169:9
 add-i : tie.Need-add-i Inv-loop μ-loop
-add-i c = ?
+add-i c = omega arith
 
--- src/round.rt:161:5
 loop-less : tie.Need-loop-less Inv-loop μ-loop
-loop-less c = ?
+loop-less c = omega arith
 
--- src/round.rt:161:5
 loop-again : tie.Need-loop-again Inv-loop μ-loop
-loop-again c = ?
+loop-again c = (apply-turn _ _ _ _ _ _ (c .before .before .before .before .before .before .before .pre) (c .before .before .before .before .loop-test .taken) (c .before .before .wide .ensures) (c .before .before .before .before .before .loop .inv .0) _ (c .changed-count .ensures), omega arith)
 
--- src/round.rt:156:1
 same-length : tie.Need-same-length Inv-loop μ-loop
-same-length c = ?
+same-length c = ap length (c .before .loop .inv .0) ∙ apply-length (path-of (c .before .loop .i) (c .before .before .before .args .best .now)) (c .before .before .before .args .counts .now)
 
--- src/round.rt:156:1
 returns : tie.Need-returns Inv-loop μ-loop
-returns c = ?
+returns c = c .before .loop .inv .0 ∙ (let e : c .before .loop .i ≡ c .before .before .before .args .len = omega arith in ap (λ (n : ℕ). apply-changes (path-of n (c .before .before .before .args .best .now)) (c .before .before .before .args .counts .now)) e)
 
 pub apply-changes-spec : {M : Type 1} → statement M
 apply-changes-spec =
@@ -84,17 +65,14 @@ apply-changes-spec =
     Inv-loop
     μ-loop
     loop-holds
-    mul-c
-    element-copy-out-c
-    cast-c
+    mul-wide
+    element-copy-out-wide
+    wide-requires
+    mul-changed-count
+    slice-read-changed-count
+    changed-count-requires
     mul-counts
-    slice-read-counts
-    add-counts
     slice-write-counts
-    mul-counts-2
-    slice-read-counts-2
-    sub-counts
-    slice-write-counts-2
     add-i
     loop-less
     loop-again
