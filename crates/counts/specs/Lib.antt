@@ -1,6 +1,7 @@
 -- The definitions of the crate. Assumes nothing.
 pub mod Accept
 pub mod Cost
+pub mod Graph
 pub mod Lists
 pub mod Move
 pub mod Refusal
@@ -8,3 +9,4 @@ pub mod Region
 pub mod Round
 pub mod Search
 pub mod Solver
+pub mod Tables

@@ -1,2 +1,4 @@
 mod answer;
+mod graph;
 mod refusal;
+mod search;

@@ -1,0 +1,94 @@
+use Rattle.counts.proofs.graph.place_side.Statement.{statement}
+use Rattle.counts.proofs.graph.place_side.Tie as tie
+use Rattle.counts.proofs.graph.place_side.Reads as reads
+use Rattle.counts.proofs.graph.place_side.Lts as lts
+use Rattle.counts.proofs.graph.place_edge.Reads as place-edge-reads
+use Rattle.counts.proofs.graph.wide.Reads as wide-reads
+
+abbrev Inv-loop : tie.InvT-loop
+Inv-loop regions incident₀ own₀ uses₀ ci s start count j₀ incident own uses j = ?
+
+abbrev μ-loop : tie.MeasureT-loop
+μ-loop regions incident₀ own₀ uses₀ ci s start count j₀ incident own uses j = ?
+
+-- src/graph.rt:45:17
+mul-start : tie.Need-mul-start Inv-loop μ-loop
+mul-start c = ?
+
+-- src/graph.rt:46:22
+mul-wide : tie.Need-mul-wide Inv-loop μ-loop
+mul-wide c = ?
+
+-- src/graph.rt:46:22
+shared-slice-read-wide : tie.Need-shared-slice-read-wide Inv-loop μ-loop
+shared-slice-read-wide c = ?
+
+-- src/graph.rt:46:9
+wide-requires : tie.Need-wide-requires Inv-loop μ-loop
+wide-requires c κs = ?
+
+-- src/graph.rt:48:5
+loop-holds : tie.Need-loop-holds Inv-loop μ-loop
+loop-holds c = ?
+
+-- src/graph.rt:49:30
+add-wide : tie.Need-add-wide Inv-loop μ-loop
+add-wide c = ?
+
+-- src/graph.rt:49:30
+add-wide-2 : tie.Need-add-wide-2 Inv-loop μ-loop
+add-wide-2 c = ?
+
+-- src/graph.rt:49:22
+mul-wide-2 : tie.Need-mul-wide-2 Inv-loop μ-loop
+mul-wide-2 c = ?
+
+-- src/graph.rt:49:22
+shared-slice-read-wide-2 : tie.Need-shared-slice-read-wide-2 Inv-loop μ-loop
+shared-slice-read-wide-2 c = ?
+
+-- src/graph.rt:49:13
+wide-requires-2 : tie.Need-wide-requires-2 Inv-loop μ-loop
+wide-requires-2 c κs = ?
+
+-- src/graph.rt:50:9
+place-edge-requires : tie.Need-place-edge-requires Inv-loop μ-loop
+place-edge-requires c κs = ?
+
+-- src/graph.rt:51:9
+add-j : tie.Need-add-j Inv-loop μ-loop
+add-j c = ?
+
+-- src/graph.rt:48:5
+loop-less : tie.Need-loop-less Inv-loop μ-loop
+loop-less c = ?
+
+-- src/graph.rt:48:5
+loop-again : tie.Need-loop-again Inv-loop μ-loop
+loop-again c = ?
+
+-- src/graph.rt:40:1
+returns : tie.Need-returns Inv-loop μ-loop
+returns c = ?
+
+pub place-side-spec : {M : Type 1} → statement M
+place-side-spec =
+    tie.close
+    (tie.spec
+    Inv-loop
+    μ-loop
+    mul-start
+    mul-wide
+    shared-slice-read-wide
+    wide-requires
+    loop-holds
+    add-wide
+    add-wide-2
+    mul-wide-2
+    shared-slice-read-wide-2
+    wide-requires-2
+    place-edge-requires
+    add-j
+    loop-less
+    loop-again
+    returns)
