@@ -6,4 +6,6 @@ pub mod Complete
 pub mod Find
 pub mod FloatLaws
 pub mod ListLaws
+pub mod Placing
+pub mod Sides
 pub mod Sound

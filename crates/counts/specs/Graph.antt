@@ -20,7 +20,7 @@ second-side i = first-side i + 2
 -- ---- what records that passed tests 1 and 3 to 5 have
 
 -- of side s: it is there, its number of edges fits, its edges are distinct and each has its places
-pub record SideOk (regions : List ℕ) (s : ℕ) : Type 0 where
+pub record SideTested (regions : List ℕ) (s : ℕ) : Type 0 where
   pub numbered : s < 512
   pub fits : s * 17 + 17 ≤ length regions
   pub few : getD regions (s * 17) 0 ≤ places
@@ -28,14 +28,14 @@ pub record SideOk (regions : List ℕ) (s : ℕ) : Type 0 where
   pub once : Distinct (edges-of regions s)
 
 -- of constraint i
-pub record PairOk (regions : List ℕ) (i : ℕ) : Type 0 where
-  pub first : SideOk regions (first-side i)
-  pub second : SideOk regions (second-side i)
+pub record PairTested (regions : List ℕ) (i : ℕ) : Type 0 where
+  pub first : SideTested regions (first-side i)
+  pub second : SideTested regions (second-side i)
   pub parted : (y : ℕ) → T (member y (edges-of regions (first-side i))) → T (member y (edges-of regions (second-side i))) → ⊥
 
 pub record Tested (regions : List ℕ) : Type 0 where
   pub few : region-count places regions ≤ max-regions
-  pub pair-ok : (i : ℕ) → i < region-count places regions * 2 → PairOk regions i
+  pub pair-tested : (i : ℕ) → i < region-count places regions * 2 → PairTested regions i
 
 -- ---- what stands in the tables: `uses` has the number of constraints of each edge
 

@@ -13,7 +13,7 @@ ghost use Rattle.counts.specs.Refusal.{is-passed, outcome};
 ghost use Rattle.counts.specs.Region.{Constraint, places, region-count, incidence};
 ghost use Rattle.counts.specs.Accept.{limits-test, pairs-test, overused-test};
 ghost use Rattle.counts.specs.Tables.{the-graph, edges-of, none, Tables};
-ghost use Rattle.counts.specs.Graph.{first-side, SideOk, Tested, Sized, Placed, Filled};
+ghost use Rattle.counts.specs.Graph.{first-side, SideTested, Tested, Sized, Placed, Filled};
 
 fn wide(x: u16) -> usize
     ensures { λ r. ⌜ (r ≡ x) × (r < 65536) ⌝ }
@@ -38,7 +38,7 @@ fn place_edge(incident: &mut [u16; 512], own: &mut [u16; 512], uses: &mut [u16; 
 }
 
 fn place_side(regions: &[u16], incident: &mut [u16; 512], own: &mut [u16; 512], uses: &mut [u16; 256], ci: usize, s: usize)
-    requires { ⌜ SideOk (now regions) s × (ci < 256) ⌝ }
+    requires { ⌜ SideTested (now regions) s × (ci < 256) ⌝ }
     requires { ⌜ Sized (now incident) (now own) (now uses) × ((y : ℕ) → y < 256 → getD (now uses) y 0 ≤ 512) ⌝ }
     ensures { λ _. ⌜ Placed ci s (edges-of (now (regions .entry)) s) (now (incident .entry)) (now (own .entry)) (now (uses .entry)) (now (incident .exit)) (now (own .exit)) (now (uses .exit)) ⌝ }
 {

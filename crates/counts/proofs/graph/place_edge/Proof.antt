@@ -1,4 +1,6 @@
+use native.Mathlib.Omega.{arith}
 use borrow.Author.Needs.{needs}
+use Rattle.counts.proofs.Placing.{counted-edge, placed-edge}
 use Rattle.counts.proofs.graph.place_edge.Statement.{statement}
 use Rattle.counts.proofs.graph.place_edge.Tie as tie
 use Rattle.counts.proofs.graph.place_edge.Reads as reads
@@ -35,7 +37,7 @@ element-write-uses c = search needs
 
 -- src/graph.rt:33:9
 returns : tie.Need-returns
-returns c = ?
+returns c = counted-edge _ _ _ _ _ _ _ (c .before .before .before .pre .0) (c .before .before .before .pre .1 .2) (c .before .wide .ensures .0) (c .if1 .taken)
 
 -- src/graph.rt:35:13
 mul-p : tie.Need-mul-p
@@ -71,7 +73,7 @@ element-write-own c = search needs
 
 -- src/graph.rt:25:1
 returns-2 : tie.Need-returns-2
-returns-2 c = ?
+returns-2 c = placed-edge _ _ _ _ _ _ _ (c .before .before .before .pre .0) (c .before .before .before .pre .1 .2) (c .before .wide .ensures .0) (let h = c .if1 .left in omega (arith, h))
 
 pub place-edge-spec : {M : Type 1} → statement M
 place-edge-spec =

@@ -1,3 +1,13 @@
+use mathlib.Core.Path.{_≡_, sym, ap, subst, _∙_}
+use mathlib.Core.List.{List, [], _∷_, _++_}
+use Prim.Native.Nat.{ℕ, _+_, _-_, _*_, _≤_, _<_}
+use native.Mathlib.Omega.{arith}
+use borrow.Author.Needs.{needs}
+use lib.ListN.{length, getD, take}
+use Rattle.counts.specs.Tables.{edges-of}
+use Rattle.counts.specs.Graph.{Placed}
+use Rattle.counts.proofs.Placing.{placed-none, placed-edge, placed-more}
+use Rattle.counts.proofs.Sides.{next-edge}
 use Rattle.counts.proofs.graph.place_side.Statement.{statement}
 use Rattle.counts.proofs.graph.place_side.Tie as tie
 use Rattle.counts.proofs.graph.place_side.Reads as reads
@@ -6,26 +16,27 @@ use Rattle.counts.proofs.graph.place_edge.Reads as place-edge-reads
 use Rattle.counts.proofs.graph.wide.Reads as wide-reads
 
 abbrev Inv-loop : tie.InvT-loop
-Inv-loop regions incident₀ own₀ uses₀ ci s start count j₀ incident own uses j = ?
+Inv-loop regions incident₀ own₀ uses₀ ci s start count j₀ incident own uses j =
+    (j ≤ count) × Placed ci s (take j (edges-of regions s)) incident₀ own₀ uses₀ incident own uses
 
 abbrev μ-loop : tie.MeasureT-loop
-μ-loop regions incident₀ own₀ uses₀ ci s start count j₀ incident own uses j = ?
+μ-loop regions incident₀ own₀ uses₀ ci s start count j₀ incident own uses j = count - j
 
 -- src/graph.rt:45:17
 mul-start : tie.Need-mul-start Inv-loop μ-loop
-mul-start c = ?
+mul-start c = search needs
 
 -- src/graph.rt:46:22
 mul-wide : tie.Need-mul-wide Inv-loop μ-loop
-mul-wide c = ?
+mul-wide c = search needs
 
 -- src/graph.rt:46:22
 shared-slice-read-wide : tie.Need-shared-slice-read-wide Inv-loop μ-loop
-shared-slice-read-wide c = ?
+shared-slice-read-wide c = search needs
 
 -- src/graph.rt:46:9
 wide-requires : tie.Need-wide-requires Inv-loop μ-loop
-wide-requires c κs = ?
+wide-requires c κs = search needs
 
 -- src/graph.rt:48:5
 loop-holds : tie.Need-loop-holds Inv-loop μ-loop
@@ -33,23 +44,23 @@ loop-holds c = ?
 
 -- src/graph.rt:49:30
 add-wide : tie.Need-add-wide Inv-loop μ-loop
-add-wide c = ?
+add-wide c = search needs
 
 -- src/graph.rt:49:30
 add-wide-2 : tie.Need-add-wide-2 Inv-loop μ-loop
-add-wide-2 c = ?
+add-wide-2 c = search needs
 
 -- src/graph.rt:49:22
 mul-wide-2 : tie.Need-mul-wide-2 Inv-loop μ-loop
-mul-wide-2 c = ?
+mul-wide-2 c = search needs
 
 -- src/graph.rt:49:22
 shared-slice-read-wide-2 : tie.Need-shared-slice-read-wide-2 Inv-loop μ-loop
-shared-slice-read-wide-2 c = ?
+shared-slice-read-wide-2 c = search needs
 
 -- src/graph.rt:49:13
 wide-requires-2 : tie.Need-wide-requires-2 Inv-loop μ-loop
-wide-requires-2 c κs = ?
+wide-requires-2 c κs = search needs
 
 -- src/graph.rt:50:9
 place-edge-requires : tie.Need-place-edge-requires Inv-loop μ-loop
@@ -57,11 +68,11 @@ place-edge-requires c κs = ?
 
 -- src/graph.rt:51:9
 add-j : tie.Need-add-j Inv-loop μ-loop
-add-j c = ?
+add-j c = search needs
 
 -- src/graph.rt:48:5
 loop-less : tie.Need-loop-less Inv-loop μ-loop
-loop-less c = ?
+loop-less c = search needs
 
 -- src/graph.rt:48:5
 loop-again : tie.Need-loop-again Inv-loop μ-loop

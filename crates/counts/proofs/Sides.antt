@@ -1,0 +1,88 @@
+-- Laws of the sides of the records, read one edge after the other, and as sides of the constraints. Assumes nothing.
+use mathlib.Core.Logic.{_⊎_, inl, inr}
+use mathlib.Core.Path.{_≡_, refl, sym, ap, subst, _∙_}
+use mathlib.Core.Bool.{Bool, true, false, not, _||_, cond}
+use mathlib.Core.List.{List, [], _∷_, _++_}
+use Prim.Native.Nat.{ℕ, zero, suc, _+_, _*_, _/_, _%_, _≤_, _<_}
+use native.Mathlib.Numerals.{add-one}
+use native.Mathlib.Omega.{arith}
+use lib.ListN.{length, getD, take, drop, length-drop}
+use lib.Seq.{take-suc, length-take-le, getD-take, getD-drop, drop-drop}
+use lib.Dec.{T, eqb, eqb→eq, leb→le}
+use lib.Ieee.Fits.{and-l, and-r}
+use Rattle.counts.specs.Lists.{member, Distinct}
+use Rattle.counts.specs.Region.{places, constraint, constraints}
+use Rattle.counts.specs.Accept.{sides-fit}
+use Rattle.counts.specs.Tables.{edges-of}
+use Rattle.counts.specs.Graph.{first-side, second-side, SideTested}
+use Rattle.counts.proofs.BoolLaws.{clash, eq→eqb, or-split, or-left, or-right}
+
+-- ---- one edge of a side after the other
+
+member-getD : (l : List ℕ) (j : ℕ) → j < length l → T (member (getD l j 0) l)
+member-getD [] j h = absurd (omega arith)
+member-getD (x ∷ l) zero h = or-left (eqb x x) (member x l) (eq→eqb x x refl)
+member-getD (x ∷ l) (suc j) h = or-right (eqb (getD l j 0) x) (member (getD l j 0) l) (member-getD l j (omega arith))
+
+-- an element of a list without repetitions is not among those before it
+distinct-before : (l : List ℕ) (j : ℕ) → Distinct l → j < length l → T (member (getD l j 0) (take j l)) → ⊥
+distinct-before [] j d h t = omega arith
+distinct-before (x ∷ l) zero d h t = t
+distinct-before (x ∷ l) (suc j) d h t =
+    elim (or-split (eqb (getD l j 0) x) (member (getD l j 0) (take j l)) t) [
+      inl u ↦ clash (member x l) (subst (λ (z : ℕ). T (member z l)) (eqb→eq (getD l j 0) x u) (member-getD l j (omega arith))) (d .0)
+    | inr u ↦ distinct-before l j (d .1) (omega arith) u
+    ]
+
+-- edge e is read at j, after the edges before it
+pub record Next (regions : List ℕ) (s j e : ℕ) : Type 0 where
+  pub inside : e < 256
+  pub fresh : T (member e (take j (edges-of regions s))) → ⊥
+  pub reached : take (j + 1) (edges-of regions s) ≡ take j (edges-of regions s) ++ e ∷ []
+
+module _ (regions : List ℕ) (s : ℕ) (ok : SideTested regions s) where
+  pub length-edges : length (edges-of regions s) ≡ getD regions (s * 17) 0
+  length-edges =
+      length-take-le (getD regions (s * 17) 0) (drop (s * 17 + 1) regions) (simp length-drop (let f = ok .fits in let g = ok .few in omega (arith, f, g)))
+
+  pub next-edge : (j e : ℕ) → j < getD regions (s * 17) 0 → e ≡ getD regions (s * 17 + 1 + j) 0 → Next regions s j e
+  next-edge j e h q =
+      let l = edges-of regions s in
+      let hl : j < length l = omega (arith, length-edges) in
+      let at : getD l j 0 ≡ e = getD-take (getD regions (s * 17) 0) (drop (s * 17 + 1) regions) j 0 h ∙ getD-drop (s * 17 + 1) regions j 0 ∙ sym q in
+      record {
+        inside = ok .inside e (subst (λ (x : ℕ). T (member x l)) at (member-getD l j hl));
+        fresh = λ t. distinct-before l j (ok .once) hl (subst (λ (x : ℕ). T (member x (take j l))) (sym at) t);
+        reached = ap (λ (n : ℕ). take n l) (add-one j) ∙ take-suc l j 0 hl ∙ ap (λ (x : ℕ). take j l ++ x ∷ []) at
+      }
+
+-- ---- the sides of the constraints
+
+edges-drop : (l : List ℕ) (s s' : ℕ) → s' ≡ s + 4 → edges-of (drop 68 l) s ≡ edges-of l s'
+edges-drop l s s' e =
+    let p : 68 + s * 17 ≡ s' * 17 = omega arith in
+    let q : 68 + (s * 17 + 1) ≡ s' * 17 + 1 = omega arith in
+    ap (λ (n : ℕ). take n (drop (s * 17 + 1) (drop 68 l))) (getD-drop 68 l (s * 17) 0 ∙ ap (λ (n : ℕ). getD l n 0) p)
+    ∙ ap (λ (m : List ℕ). take (getD l (s' * 17) 0) m) (drop-drop (s * 17 + 1) 68 l ∙ ap (λ (n : ℕ). drop n l) q)
+
+pub sides-are : (m i : ℕ) (l : List ℕ) → i < m * 2
+    → (constraint (constraints places m l) i .a ≡ edges-of l (first-side i)) × (constraint (constraints places m l) i .b ≡ edges-of l (second-side i))
+unfolding constraints
+sides-are zero i l h = absurd (omega arith)
+sides-are (suc m) zero l h = (refl, refl)
+sides-are (suc m) (suc zero) l h = (refl, refl)
+sides-are (suc m) (suc (suc i)) l h =
+    let r = sides-are m i (drop 68 l) (omega arith) in
+    (r .0 ∙ edges-drop l (first-side i) (first-side (suc (suc i))) (omega arith), r .1 ∙ edges-drop l (second-side i) (second-side (suc (suc i))) (omega arith))
+
+pub length-constraints : (m : ℕ) (l : List ℕ) → length (constraints places m l) ≡ m * 2
+unfolding constraints
+length-constraints zero l = refl
+length-constraints (suc m) l = let h = length-constraints m (drop 68 l) in omega arith
+
+pub sides-few : (m i : ℕ) (l : List ℕ) → T (sides-fit places m l) → i < m * 2 → (getD l (first-side i * 17) 0 ≤ places) × (getD l (second-side i * 17) 0 ≤ places)
+unfolding sides-fit
+sides-few zero i l t h = absurd (omega arith)
+sides-few (suc m) zero l t h = ?
+sides-few (suc m) (suc zero) l t h = ?
+sides-few (suc m) (suc (suc i)) l t h = ?
