@@ -1,4 +1,5 @@
 -- Laws of the definitions. Assumes nothing.
+pub mod Accepted
 pub mod Acts
 pub mod Balance
 pub mod BoolLaws
@@ -6,6 +7,11 @@ pub mod Complete
 pub mod Find
 pub mod FloatLaws
 pub mod ListLaws
+pub mod Makes
 pub mod Placing
+pub mod RefusalLaws
+pub mod Rounds
 pub mod Sides
+pub mod SolverCases
+pub mod Solving
 pub mod Sound
