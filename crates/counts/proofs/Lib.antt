@@ -15,3 +15,4 @@ pub mod Sides
 pub mod SolverCases
 pub mod Solving
 pub mod Sound
+pub mod Tabled

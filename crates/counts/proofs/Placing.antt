@@ -9,7 +9,7 @@ use Prim.Native.Nat.{ℕ, zero, suc, _+_, _-_, _*_, _/_, _%_, _≤_, _<_}
 use native.Mathlib.Nat.{zero-add, add-zero, add-suc, suc-add}
 use native.Mathlib.Numerals.{add-one}
 use native.Mathlib.Omega.{arith}
-use lib.ListN.{length, getD, set, take, replicate, length-append, length-set, length-replicate, getD-replicate}
+use lib.ListN.{length, getD, set, take, replicate, length-append, length-take, length-set, length-replicate, getD-replicate}
 use lib.Seq.{getD-set-same, getD-set-other, take-suc, length-take-le}
 use lib.Dec.{T, eqb, eqb→eq, eqb·zero-suc, eqb·suc-zero, eqb·suc-suc}
 use lib.Ieee.Fits.{and-i, and-l, and-r}
@@ -38,7 +38,7 @@ member-append y (x ∷ l) m = go (eqb y x) (member-append y l m)
     go true e = refl
     go false e = e
 
-one-in : (y e : ℕ) → T (member y (e ∷ [])) → y ≡ e
+pub one-in : (y e : ℕ) → T (member y (e ∷ [])) → y ≡ e
 one-in y e t = elim (member→in y (e ∷ []) t) [ inl q ↦ q | inr q ↦ absurd q ]
 
 in-one : (y e : ℕ) → y ≡ e → T (member y (e ∷ []))
@@ -154,6 +154,19 @@ placed-none i s incident own uses size =
       own-at = λ y k ly lk. refl
     }
 
+-- an edge that is not among those placed has as many uses as before
+pub not-counted : {i s y : ℕ} {l incident own uses incident1 own1 uses1 : List ℕ} → Placed i s l incident own uses incident1 own1 uses1 → y < 256
+    → (T (member y l) → ⊥) → getD uses1 y 0 ≡ getD uses y 0
+not-counted {y = y} {l = l} {uses = uses} a ly n = a .counted y ly ∙ ap (λ (k : ℕ). getD uses y 0 + k) (cond-no (member y l) 1 0 n) ∙ add-zero (getD uses y 0)
+
+pub counted-once : {i s y : ℕ} {l incident own uses incident1 own1 uses1 : List ℕ} → Placed i s l incident own uses incident1 own1 uses1 → y < 256
+    → getD uses1 y 0 ≤ getD uses y 0 + 1
+counted-once {y = y} {l = l} a ly = let e = a .counted y ly in let h = at-most-one (member y l) in omega (arith, e, h)
+  where
+    at-most-one : (b : Bool) → cond b 1 0 ≤ 1
+    at-most-one true = omega arith
+    at-most-one false = omega arith
+
 -- both lists placed, at the same side: the two are placed like their sum
 pub placed-more : (i s : ℕ) (l m incident own uses incident1 own1 uses1 incident2 own2 uses2 : List ℕ)
     → ((y : ℕ) → T (member y l) → T (member y m) → ⊥)
@@ -214,6 +227,9 @@ length-incidence k (c ∷ g) y = go (holds c y) (length-incidence (suc k) g y)
     go true h = omega arith
     go false h = omega arith
 
+pub uses-few : {g : List Constraint} (i : ℕ) {incident own uses : List ℕ} → Filled g (take i g) incident own uses → (y : ℕ) → y < 256 → getD uses y 0 ≤ i
+uses-few {g} i f y ly = let e = f .counted y ly in let h = length-incidence 0 (take i g) y in let k = length-take i g in omega (arith, e, h, k)
+
 -- what a list grows by, counted and read
 length-grown : (l : List ℕ) (i : ℕ) (b : Bool) → length l + cond b 1 0 ≡ length (l ++ cond b (i ∷ []) [])
 length-grown l i true = sym (length-append l (i ∷ []))
@@ -230,14 +246,23 @@ own-kept f i s s' n o p true hp hq h l = hq tt
 own-kept f i s s' n o true false hp hq h l = hp tt
 own-kept f i s s' n o false false hp hq h l = h l
 
-pub filled-none : (g : List Constraint) (own : List ℕ) → length own ≡ 512 → Filled g [] (replicate 512 none) own (replicate 256 0)
-filled-none g own size =
+pub filled-none : (g : List Constraint) (incident own uses : List ℕ) → incident ≡ replicate 512 none → length own ≡ 512 → uses ≡ replicate 256 0
+    → Filled g [] incident own uses
+filled-none g incident own uses ei size eu =
     record {
-      sized = record { incident-size = length-replicate {A = ℕ} 512 none; own-size = size; uses-size = length-replicate {A = ℕ} 256 0 };
-      counted = λ y ly. getD-replicate 256 y 0 0 ly;
-      incident-is = λ y k ly lk. getD-replicate 512 (y * 2 + k) none 0 (omega arith);
-      own-is = λ y k ly lk h. let e = getD-replicate 512 (y * 2 + k) none 0 (omega arith) in absurd (omega (arith, e))
+      sized =
+        record {
+          incident-size = ap length ei ∙ length-replicate {A = ℕ} 512 none;
+          own-size = size;
+          uses-size = ap length eu ∙ length-replicate {A = ℕ} 256 0
+        };
+      counted = λ y ly. ap (λ (l : List ℕ). getD l y 0) eu ∙ getD-replicate 256 y 0 0 ly;
+      incident-is = empty;
+      own-is = λ y k ly lk h. let e = empty y k ly lk in absurd (omega (arith, e))
     }
+  where
+    empty : (y k : ℕ) → y < 256 → k < 2 → getD incident (y * 2 + k) 0 ≡ none
+    empty y k ly lk = ap (λ (l : List ℕ). getD l (y * 2 + k) 0) ei ∙ getD-replicate 512 (y * 2 + k) none 0 (omega arith)
 
 pub filled-more : (g : List Constraint) (i : ℕ) (incident own uses incident1 own1 uses1 incident2 own2 uses2 : List ℕ) → i < length g
     → ((y : ℕ) → T (member y (constraint g i .a)) → T (member y (constraint g i .b)) → ⊥)

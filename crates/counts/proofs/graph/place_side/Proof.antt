@@ -6,8 +6,8 @@ use borrow.Author.Needs.{needs}
 use lib.ListN.{length, getD, take}
 use Rattle.counts.specs.Tables.{edges-of}
 use Rattle.counts.specs.Graph.{Placed}
-use Rattle.counts.proofs.Placing.{placed-none, placed-edge, placed-more}
-use Rattle.counts.proofs.Sides.{next-edge}
+use Rattle.counts.proofs.Placing.{placed-none, not-counted}
+use Rattle.counts.proofs.Sides.{next-edge, side-more, side-done}
 use Rattle.counts.proofs.graph.place_side.Statement.{statement}
 use Rattle.counts.proofs.graph.place_side.Tie as tie
 use Rattle.counts.proofs.graph.place_side.Reads as reads
@@ -40,7 +40,7 @@ wide-requires c κs = search needs
 
 -- src/graph.rt:48:5
 loop-holds : tie.Need-loop-holds Inv-loop μ-loop
-loop-holds c = ?
+loop-holds c = (omega arith, placed-none _ _ _ _ _ (c .before .before .before .pre .1 .0))
 
 -- src/graph.rt:49:30
 add-wide : tie.Need-add-wide Inv-loop μ-loop
@@ -64,7 +64,11 @@ wide-requires-2 c κs = search needs
 
 -- src/graph.rt:50:9
 place-edge-requires : tie.Need-place-edge-requires Inv-loop μ-loop
-place-edge-requires c κs = ?
+place-edge-requires c κs =
+    let x = next-edge _ _ (c .before .before .before .before .before .before .before .before .before .before .pre .0 .0) (c .before .before .before .before .before .before .loop .j) (c .before .before .before .wide2 .result) (let t = c .before .before .before .before .before .loop-test .taken in let w = c .before .before .before .before .before .before .before .wide .ensures .0 in omega (arith, t, w)) (c .before .before .before .wide2 .ensures .0) in
+    let u = not-counted (c .before .before .before .before .before .before .loop .inv .1) (x .inside) (x .fresh) in
+    let v = c .before .before .before .before .before .before .before .before .before .before .pre .1 .1 (c .before .before .before .wide2 .result) (x .inside) in
+    (c .before .before .before .before .before .before .loop .inv .1 .sized, (c .before .before .before .before .before .before .before .before .before .before .pre .0 .1, c .before .before .before .before .before .before .before .before .before .before .pre .0 .0 .numbered, x .inside, omega (arith, u, v)))
 
 -- src/graph.rt:51:9
 add-j : tie.Need-add-j Inv-loop μ-loop
@@ -76,11 +80,13 @@ loop-less c = search needs
 
 -- src/graph.rt:48:5
 loop-again : tie.Need-loop-again Inv-loop μ-loop
-loop-again c = ?
+loop-again c =
+    let x = next-edge _ _ (c .before .before .before .before .before .before .before .before .before .before .before .pre .0 .0) (c .before .before .before .before .before .before .before .loop .j) (c .before .before .before .before .wide2 .result) (let t = c .before .before .before .before .before .before .loop-test .taken in let w = c .before .before .before .before .before .before .before .before .wide .ensures .0 in omega (arith, t, w)) (c .before .before .before .before .wide2 .ensures .0) in
+    (omega (arith, c .before .before .before .before .before .before .loop-test .taken), side-more x (c .before .before .before .before .before .before .before .loop .inv .1) (c .place-edge .ensures))
 
 -- src/graph.rt:40:1
 returns : tie.Need-returns Inv-loop μ-loop
-returns c = ?
+returns c = side-done {j = c .before .loop .j} (c .before .before .before .before .before .pre .0 .0) (let w = c .before .before .wide .ensures .0 in let t = c .loop-test .left in omega (arith, w, t)) (c .before .loop .inv .1)
 
 pub place-side-spec : {M : Type 1} → statement M
 place-side-spec =
