@@ -15,19 +15,13 @@ ghost use Rattle.counts.specs.Accept.{limits-test, pairs-test, overused-
 ghost use Rattle.counts.specs.Tables.{the-graph, edges-of, none, Tables};
 ghost use Rattle.counts.specs.Graph.{first-side, SideTested, Tested, Sized, Placed, Filled};
 
-fn wide(x: u16) -> usize
-    ensures { λ r. ⌜ (r ≡ x) × (r < 65536) ⌝ }
-{
-    x as usize
-}
-
 // Puts edge e, which stands on side s of constraint ci, at its next place. An edge in over two constraints is only counted, for test 6.
 fn place_edge(incident: &mut [u16; 512], own: &mut [u16; 512], uses: &mut [u16; 256], ci: usize, s: usize, e: usize)
     requires { ⌜ Sized (now incident) (now own) (now uses) ⌝ }
     requires { ⌜ (ci < 256) × (s < 512) × (e < 256) × (getD (now uses) e 0 ≤ 512) ⌝ }
     ensures { λ _. ⌜ Placed ci s (e ∷ []) (now (incident .entry)) (now (own .entry)) (now (uses .entry)) (now (incident .exit)) (now (own .exit)) (now (uses .exit)) ⌝ }
 {
-    let n = wide(uses[e]);
+    let n = uses[e] as usize;
     uses[e] = (n + 1) as u16;
     if n >= 2 {
         return;
@@ -43,10 +37,10 @@ fn place_side(regions: &[u16], incident: &mut [u16; 512], own: &mut [u16; 512], 
     ensures { λ _. ⌜ Placed ci s (edges-of (now (regions .entry)) s) (now (incident .entry)) (now (own .entry)) (now (uses .entry)) (now (incident .exit)) (now (own .exit)) (now (uses .exit)) ⌝ }
 {
     let start = s * 17;
-    let count = wide(regions[start]);
+    let count = regions[start] as usize;
     let mut j = 0;
     while j < count {
-        let e = wide(regions[start + 1 + j]);
+        let e = regions[start + 1 + j] as usize;
         place_edge(incident, own, uses, ci, s, e);
         j += 1;
     }
@@ -83,7 +77,7 @@ fn check_overused(uses: &[u16; 256], n: usize) -> Check
 }
 
 // n: the number of edges. The tables stand for the records if the answer is that test 6 passed.
-fn build_graph(regions: &[u16], n: usize, incident: &mut [u16; 512], own: &mut [u16; 512]) -> Check
+pub(crate) fn build_graph(regions: &[u16], n: usize, incident: &mut [u16; 512], own: &mut [u16; 512]) -> Check
     requires { ⌜ T (is-passed (limits-test places n (now regions))) × T (is-passed (pairs-test places n 0 (region-count places (now regions)) (now regions))) ⌝ }
     requires { ⌜ (now incident ≡ replicate 512 none) × (length (now own) ≡ 512) ⌝ }
     ensures { λ r. ⌜ (outcome r ≡ overused-test (the-graph (now (regions .entry))) 0 n) × (T (is-passed (outcome r)) → Tables (now (regions .entry)) (now (incident .exit)) (now (own .exit))) × (length (now (incident .exit)) ≡ 512) × (length (now (own .exit)) ≡ 512) ⌝ }
