@@ -11,6 +11,7 @@ pub mod Makes
 pub mod Placing
 pub mod RefusalLaws
 pub mod Rounds
+pub mod Same
 pub mod Sides
 pub mod SolverCases
 pub mod Solving
