@@ -3,6 +3,7 @@ pub mod Accepted
 pub mod Acts
 pub mod Balance
 pub mod BoolLaws
+pub mod BuiltTables
 pub mod Complete
 pub mod Find
 pub mod FloatLaws
@@ -16,4 +17,3 @@ pub mod Sides
 pub mod SolverCases
 pub mod Solving
 pub mod Sound
-pub mod Tabled

@@ -1,55 +1,23 @@
 -- Laws of filling the tables: one edge, one side, one constraint after the other. Assumes nothing.
 -- An edge of which u constraints are placed gets its next one at its place u, if u is below 2. So two lists of edges placed one after the
 -- other are placed like their sum, as long as no edge is in both; and the places of an edge hold the list of its constraints.
-use mathlib.Core.Logic.{_≢_, _⊎_, inl, inr}
+use mathlib.Core.Logic.{inl, inr}
 use mathlib.Core.Path.{_≡_, refl, sym, ap, subst, _∙_}
 use mathlib.Core.Bool.{Bool, true, false, not, _&&_, _||_, cond}
-use mathlib.Core.List.{List, [], _∷_, _++_, append-nil}
-use Prim.Native.Nat.{ℕ, zero, suc, _+_, _-_, _*_, _/_, _%_, _≤_, _<_}
-use native.Mathlib.Nat.{zero-add, add-zero, add-suc, suc-add}
-use native.Mathlib.Numerals.{add-one}
+use mathlib.Core.List.{List, [], _∷_, _++_}
+use Prim.Native.Nat.{ℕ, _+_, _*_, _≤_, _<_}
+use native.Mathlib.Nat.{add-zero}
 use native.Mathlib.Omega.{arith}
-use lib.ListN.{length, getD, set, take, replicate, length-append, length-take, length-set, length-replicate, getD-replicate}
-use lib.Seq.{getD-set-same, getD-set-other, take-suc, length-take-le}
-use lib.Dec.{T, eqb, eqb→eq, eqb·zero-suc, eqb·suc-zero, eqb·suc-suc}
+use lib.ListN.{length, getD, set, take, replicate, length-take, length-set, length-replicate, getD-replicate}
+use lib.Seq.{getD-set-same, getD-set-other}
+use lib.Dec.{T, eqb, eqb→eq}
 use lib.Ieee.Fits.{and-i, and-l, and-r}
-use Rattle.counts.specs.Lists.{In, member, Distinct}
-use Rattle.counts.specs.Region.{Constraint, constraint, no-sides, holds, incidence, incidence-from}
+use Rattle.counts.specs.Lists.{member}
+use Rattle.counts.specs.Region.{Constraint, constraint, holds, incidence}
 use Rattle.counts.specs.Tables.{none}
 use Rattle.counts.specs.Graph.{first-side, second-side, side-of, Sized, Placed, Filled}
-use Rattle.counts.proofs.BoolLaws.{T-or-not, clash, eq→eqb, T-true, not-T-false}
-use Rattle.counts.proofs.ListLaws.{member→in, in→member}
-
--- ---- Booleans and lists
-
-pub cond-yes {ℓ} : {A : Type ℓ} (b : Bool) (x y : A) → T b → cond b x y ≡ x
-cond-yes true x y t = refl
-cond-yes false x y t = absurd t
-
-pub cond-no {ℓ} : {A : Type ℓ} (b : Bool) (x y : A) → (T b → ⊥) → cond b x y ≡ y
-cond-no true x y n = absurd (n tt)
-cond-no false x y n = refl
-
-pub member-append : (y : ℕ) (l m : List ℕ) → member y (l ++ m) ≡ member y l || member y m
-member-append y [] m = refl
-member-append y (x ∷ l) m = go (eqb y x) (member-append y l m)
-  where
-    go : (b : Bool) → member y (l ++ m) ≡ member y l || member y m → b || member y (l ++ m) ≡ (b || member y l) || member y m
-    go true e = refl
-    go false e = e
-
-pub one-in : (y e : ℕ) → T (member y (e ∷ [])) → y ≡ e
-one-in y e t = elim (member→in y (e ∷ []) t) [ inl q ↦ q | inr q ↦ absurd q ]
-
-in-one : (y e : ℕ) → y ≡ e → T (member y (e ∷ []))
-in-one y e q = in→member y (e ∷ []) (inl q)
-
--- what stands at k once i is put behind a list
-getD-snoc : (l : List ℕ) (i k d : ℕ) → getD (l ++ i ∷ []) k d ≡ cond (eqb (length l) k) i (getD l k d)
-getD-snoc [] i zero d = refl
-getD-snoc [] i (suc k) d = sym (ap (λ (b : Bool). cond b i d) (eqb·zero-suc k))
-getD-snoc (x ∷ l) i zero d = sym (ap (λ (b : Bool). cond b i x) (eqb·suc-zero (length l)))
-getD-snoc (x ∷ l) i (suc k) d = getD-snoc l i k d ∙ sym (ap (λ (b : Bool). cond b i (getD l k d)) (eqb·suc-suc (length l) k))
+use Rattle.counts.proofs.BoolLaws.{T-or-not, clash, eq→eqb, cond-yes, cond-no}
+use Rattle.counts.proofs.ListLaws.{member-append, one-in, in-one, length-grown, getD-grown, incidence-take, length-incidence}
 
 -- ---- one edge
 
@@ -72,9 +40,9 @@ set-place table e n v y k u size le ln lk un = elim (T-or-not (member y (e ∷ [
     there t =
         getD-set-other table (e * 2 + n) (y * 2 + k) v 0
         (λ at.
-          let ye : y ≡ e = omega arith in
-          let q = un ye in
-          clash (member y (e ∷ []) && eqb u k) (and-i (member y (e ∷ [])) (eqb u k) (in-one y e ye) (eq→eqb u k (omega arith))) t)
+        let ye : y ≡ e = omega arith in
+        let q = un ye in
+        clash (member y (e ∷ []) && eqb u k) (and-i (member y (e ∷ [])) (eqb u k) (in-one y e ye) (eq→eqb u k (omega arith))) t)
         ∙ sym (cond-no (member y (e ∷ []) && eqb u k) v (getD table (y * 2 + k) 0) (λ q. clash (member y (e ∷ []) && eqb u k) q t))
 
 count-one : (uses : List ℕ) (e n y : ℕ) → e < length uses → n ≡ getD uses e 0
@@ -103,14 +71,14 @@ module _ (i s e n : ℕ) (incident own uses : List ℕ) (size : Sized incident o
   placed-edge ln =
       record {
         sized =
-          record {
-            incident-size = length-set incident (e * 2 + n) i ∙ size .incident-size;
-            own-size = length-set own (e * 2 + n) s ∙ size .own-size;
-            uses-size = length-set uses e (n + 1) ∙ size .uses-size
-          };
+            record {
+              incident-size = length-set incident (e * 2 + n) i ∙ size .incident-size;
+              own-size = length-set own (e * 2 + n) s ∙ size .own-size;
+              uses-size = length-set uses e (n + 1) ∙ size .uses-size;
+            };
         counted = λ y ly. count-one uses e n y (omega (arith, size .uses-size)) en;
         incident-at = λ y k ly lk. set-place incident e n i y k (getD uses y 0) (size .incident-size) le ln lk (has y);
-        own-at = λ y k ly lk. set-place own e n s y k (getD uses y 0) (size .own-size) le ln lk (has y)
+        own-at = λ y k ly lk. set-place own e n s y k (getD uses y 0) (size .own-size) le ln lk (has y);
       }
 
   no-place : 2 ≤ n → (y k : ℕ) → k < 2 → T (member y (e ∷ []) && eqb (getD uses y 0) k) → ⊥
@@ -123,14 +91,14 @@ module _ (i s e n : ℕ) (incident own uses : List ℕ) (size : Sized incident o
   counted-edge ln =
       record {
         sized =
-          record {
-            incident-size = size .incident-size;
-            own-size = size .own-size;
-            uses-size = length-set uses e (n + 1) ∙ size .uses-size
-          };
+            record {
+              incident-size = size .incident-size;
+              own-size = size .own-size;
+              uses-size = length-set uses e (n + 1) ∙ size .uses-size;
+            };
         counted = λ y ly. count-one uses e n y (omega (arith, size .uses-size)) en;
         incident-at = λ y k ly lk. sym (cond-no (member y (e ∷ []) && eqb (getD uses y 0) k) i (getD incident (y * 2 + k) 0) (no-place ln y k lk));
-        own-at = λ y k ly lk. sym (cond-no (member y (e ∷ []) && eqb (getD uses y 0) k) s (getD own (y * 2 + k) 0) (no-place ln y k lk))
+        own-at = λ y k ly lk. sym (cond-no (member y (e ∷ []) && eqb (getD uses y 0) k) s (getD own (y * 2 + k) 0) (no-place ln y k lk));
       }
 
 -- ---- one list of edges after the other: y is in the first (p) or in the second (q), and has u constraints before
@@ -151,7 +119,7 @@ placed-none i s incident own uses size =
       sized = size;
       counted = λ y ly. sym (add-zero (getD uses y 0));
       incident-at = λ y k ly lk. refl;
-      own-at = λ y k ly lk. refl
+      own-at = λ y k ly lk. refl;
     }
 
 -- an edge that is not among those placed has as many uses as before
@@ -177,12 +145,12 @@ placed-more i s l m incident own uses incident1 own1 uses1 incident2 own2 uses2 
     record {
       sized = b .sized;
       counted = λ y ly.
-        b .counted y ly
-        ∙ ap (λ (u : ℕ). u + cond (member y m) 1 0) (a .counted y ly)
-        ∙ both-counted (member y l) (member y m) (getD uses y 0) (apart y)
-        ∙ ap (λ (q : Bool). getD uses y 0 + cond q 1 0) (sym (member-append y l m));
+          b .counted y ly
+          ∙ ap (λ (u : ℕ). u + cond (member y m) 1 0) (a .counted y ly)
+          ∙ both-counted (member y l) (member y m) (getD uses y 0) (apart y)
+          ∙ ap (λ (q : Bool). getD uses y 0 + cond q 1 0) (sym (member-append y l m));
       incident-at = λ y k ly lk. at y k ly i (getD incident (y * 2 + k) 0) _ _ (a .incident-at y k ly lk) (b .incident-at y k ly lk);
-      own-at = λ y k ly lk. at y k ly s (getD own (y * 2 + k) 0) _ _ (a .own-at y k ly lk) (b .own-at y k ly lk)
+      own-at = λ y k ly lk. at y k ly s (getD own (y * 2 + k) 0) _ _ (a .own-at y k ly lk) (b .own-at y k ly lk);
     }
   where
     at : (y k : ℕ) → y < 256 → (v t t1 t2 : ℕ) → t1 ≡ cond (member y l && eqb (getD uses y 0) k) v t → t2 ≡ cond (member y m && eqb (getD uses1 y 0) k) v t1
@@ -196,48 +164,8 @@ placed-more i s l m incident own uses incident1 own1 uses1 incident2 own2 uses2 
 
 -- ---- one constraint after the other
 
-incidence-snoc : (k : ℕ) (g : List Constraint) (c : Constraint) (y : ℕ)
-    → incidence-from k (g ++ c ∷ []) y ≡ incidence-from k g y ++ cond (holds c y) ((k + length g) ∷ []) []
-incidence-snoc k [] c y = ap (λ (n : ℕ). cond (holds c y) (n ∷ []) []) (sym (add-zero k))
-incidence-snoc k (d ∷ g) c y =
-    go (holds d y)
-    (incidence-snoc (suc k) g c y ∙ ap (λ (n : ℕ). incidence-from (suc k) g y ++ cond (holds c y) (n ∷ []) []) (suc-add k (length g) ∙ sym (add-suc k (length g))))
-  where
-    go : (b : Bool) → incidence-from (suc k) (g ++ c ∷ []) y ≡ incidence-from (suc k) g y ++ cond (holds c y) ((k + suc (length g)) ∷ []) []
-        → cond b (k ∷ incidence-from (suc k) (g ++ c ∷ []) y) (incidence-from (suc k) (g ++ c ∷ []) y)
-          ≡ cond b (k ∷ incidence-from (suc k) g y) (incidence-from (suc k) g y) ++ cond (holds c y) ((k + suc (length g)) ∷ []) []
-    go true e = ap {B = List ℕ} (λ l. k ∷ l) e
-    go false e = e
-
--- the constraints of y among the first i + 1
-incidence-take : (g : List Constraint) (i y : ℕ) → i < length g
-    → incidence (take (i + 1) g) y ≡ incidence (take i g) y ++ cond (holds (constraint g i) y) (i ∷ []) []
-incidence-take g i y h =
-    ap (λ (n : ℕ). incidence (take n g) y) (add-one i)
-    ∙ ap (λ (l : List Constraint). incidence l y) (take-suc g i no-sides h)
-    ∙ incidence-snoc 0 (take i g) (constraint g i) y
-    ∙ ap (λ (n : ℕ). incidence (take i g) y ++ cond (holds (constraint g i) y) (n ∷ []) []) (zero-add (length (take i g)) ∙ length-take-le i g (omega arith))
-
--- no edge is in more constraints than there are
-pub length-incidence : (k : ℕ) (g : List Constraint) (y : ℕ) → length (incidence-from k g y) ≤ length g
-length-incidence k [] y = omega arith
-length-incidence k (c ∷ g) y = go (holds c y) (length-incidence (suc k) g y)
-  where
-    go : (b : Bool) → length (incidence-from (suc k) g y) ≤ length g → length (cond b (k ∷ incidence-from (suc k) g y) (incidence-from (suc k) g y)) ≤ suc (length g)
-    go true h = omega arith
-    go false h = omega arith
-
 pub uses-few : {g : List Constraint} (i : ℕ) {incident own uses : List ℕ} → Filled g (take i g) incident own uses → (y : ℕ) → y < 256 → getD uses y 0 ≤ i
 uses-few {g} i f y ly = let e = f .counted y ly in let h = length-incidence 0 (take i g) y in let k = length-take i g in omega (arith, e, h, k)
-
--- what a list grows by, counted and read
-length-grown : (l : List ℕ) (i : ℕ) (b : Bool) → length l + cond b 1 0 ≡ length (l ++ cond b (i ∷ []) [])
-length-grown l i true = sym (length-append l (i ∷ []))
-length-grown l i false = sym (length-append l [])
-
-getD-grown : (l : List ℕ) (i k d : ℕ) (b : Bool) → cond (b && eqb (length l) k) i (getD l k d) ≡ getD (l ++ cond b (i ∷ []) []) k d
-getD-grown l i k d true = sym (getD-snoc l i k d)
-getD-grown l i k d false = ap (λ (m : List ℕ). getD m k d) (sym (append-nil l))
 
 -- the side that stands beside a constraint is the one on which the edge stands in it
 own-kept : (f : ℕ → ℕ) (i s s' n o : ℕ) (p q : Bool) → (T p → s ≡ f i) → (T q → s' ≡ f i) → (n < none → o ≡ f n)
@@ -251,14 +179,14 @@ pub filled-none : (g : List Constraint) (incident own uses : List ℕ) → incid
 filled-none g incident own uses ei size eu =
     record {
       sized =
-        record {
-          incident-size = ap length ei ∙ length-replicate {A = ℕ} 512 none;
-          own-size = size;
-          uses-size = ap length eu ∙ length-replicate {A = ℕ} 256 0
-        };
+          record {
+            incident-size = ap length ei ∙ length-replicate {A = ℕ} 512 none;
+            own-size = size;
+            uses-size = ap length eu ∙ length-replicate {A = ℕ} 256 0;
+          };
       counted = λ y ly. ap (λ (l : List ℕ). getD l y 0) eu ∙ getD-replicate 256 y 0 0 ly;
       incident-is = empty;
-      own-is = λ y k ly lk h. let e = empty y k ly lk in absurd (omega (arith, e))
+      own-is = λ y k ly lk h. let e = empty y k ly lk in absurd (omega (arith, e));
     }
   where
     empty : (y k : ℕ) → y < 256 → k < 2 → getD incident (y * 2 + k) 0 ≡ none
@@ -274,17 +202,17 @@ filled-more g i incident own uses incident1 own1 uses1 incident2 own2 uses2 li a
     record {
       sized = b .sized;
       counted = λ y ly.
-        b .counted y ly
-        ∙ ap (λ (u : ℕ). u + cond (in-b y) 1 0) (count1 y ly)
-        ∙ both-counted (in-a y) (in-b y) (length (before y)) (apart y)
-        ∙ length-grown (before y) i (holds (constraint g i) y)
-        ∙ ap (λ (l : List ℕ). length l) (sym (incidence-take g i y li));
+          b .counted y ly
+          ∙ ap (λ (u : ℕ). u + cond (in-b y) 1 0) (count1 y ly)
+          ∙ both-counted (in-a y) (in-b y) (length (before y)) (apart y)
+          ∙ length-grown (before y) i (holds (constraint g i) y)
+          ∙ ap (λ (l : List ℕ). length l) (sym (incidence-take g i y li));
       incident-is = λ y k ly lk.
-        incident-now y k ly lk
-        ∙ both-placed (in-a y) (in-b y) (length (before y)) k i (getD (before y) k none) (apart y)
-        ∙ getD-grown (before y) i k none (holds (constraint g i) y)
-        ∙ ap (λ (l : List ℕ). getD l k none) (sym (incidence-take g i y li));
-      own-is = own-now
+          incident-now y k ly lk
+          ∙ both-placed (in-a y) (in-b y) (length (before y)) k i (getD (before y) k none) (apart y)
+          ∙ getD-grown (before y) i k none (holds (constraint g i) y)
+          ∙ ap (λ (l : List ℕ). getD l k none) (sym (incidence-take g i y li));
+      own-is = own-now;
     }
   where
     in-a : ℕ → Bool
@@ -301,14 +229,14 @@ filled-more g i incident own uses incident1 own1 uses1 incident2 own2 uses2 li a
 
     incident-now : (y k : ℕ) → y < 256 → k < 2
         → getD incident2 (y * 2 + k) 0
-          ≡ cond (in-b y && eqb (length (before y) + cond (in-a y) 1 0) k) i (cond (in-a y && eqb (length (before y)) k) i (getD (before y) k none))
+        ≡ cond (in-b y && eqb (length (before y) + cond (in-a y) 1 0) k) i (cond (in-a y && eqb (length (before y)) k) i (getD (before y) k none))
     incident-now y k ly lk =
         b .incident-at y k ly lk
         ∙ ap (λ (u : ℕ). cond (in-b y && eqb u k) i (getD incident1 (y * 2 + k) 0)) (count1 y ly)
         ∙ ap (λ (w : ℕ). cond (in-b y && eqb (length (before y) + cond (in-a y) 1 0) k) i w)
-          (a .incident-at y k ly lk
-            ∙ ap (λ (u : ℕ). cond (in-a y && eqb u k) i (getD incident (y * 2 + k) 0)) (f .counted y ly)
-            ∙ ap (λ (w : ℕ). cond (in-a y && eqb (length (before y)) k) i w) (f .incident-is y k ly lk))
+        (a .incident-at y k ly lk
+        ∙ ap (λ (u : ℕ). cond (in-a y && eqb u k) i (getD incident (y * 2 + k) 0)) (f .counted y ly)
+        ∙ ap (λ (w : ℕ). cond (in-a y && eqb (length (before y)) k) i w) (f .incident-is y k ly lk))
 
     own-now : (y k : ℕ) → y < 256 → k < 2 → getD incident2 (y * 2 + k) 0 < none → getD own2 (y * 2 + k) 0 ≡ side-of g y (getD incident2 (y * 2 + k) 0)
     own-now y k ly lk h =
@@ -318,8 +246,8 @@ filled-more g i incident own uses incident1 own1 uses1 incident2 own2 uses2 li a
         b .own-at y k ly lk
         ∙ ap (λ (w : ℕ). cond q (second-side i) w) (a .own-at y k ly lk)
         ∙ own-kept (side-of g y) i (first-side i) (second-side i) (getD incident (y * 2 + k) 0) (getD own (y * 2 + k) 0) p q
-          (λ t. sym (ap (λ (w : ℕ). first-side i + w) (cond-yes (in-a y) 0 2 (and-l (in-a y) (eqb (getD uses y 0) k) t)) ∙ add-zero (first-side i)))
-          (λ t. sym (ap (λ (w : ℕ). first-side i + w) (cond-no (in-a y) 0 2 (λ u. apart y u (and-l (in-b y) (eqb (getD uses1 y 0) k) t)))))
-          (f .own-is y k ly lk)
-          (subst (λ (n : ℕ). n < none) e h)
+        (λ t. sym (ap (λ (w : ℕ). first-side i + w) (cond-yes (in-a y) 0 2 (and-l (in-a y) (eqb (getD uses y 0) k) t)) ∙ add-zero (first-side i)))
+        (λ t. sym (ap (λ (w : ℕ). first-side i + w) (cond-no (in-a y) 0 2 (λ u. apart y u (and-l (in-b y) (eqb (getD uses1 y 0) k) t)))))
+        (f .own-is y k ly lk)
+        (subst (λ (n : ℕ). n < none) e h)
         ∙ ap (side-of g y) (sym e)

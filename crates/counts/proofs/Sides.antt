@@ -1,39 +1,23 @@
 -- Laws of the sides of the records, read one edge after the other, and as sides of the constraints. Assumes nothing.
-use mathlib.Core.Logic.{_⊎_, inl, inr}
 use mathlib.Core.Path.{_≡_, refl, sym, ap, subst, _∙_}
-use mathlib.Core.Bool.{Bool, true, false, not, _&&_, _||_, cond}
+use mathlib.Core.Bool.{Bool, _&&_}
 use mathlib.Core.List.{List, [], _∷_, _++_}
-use Prim.Native.Nat.{ℕ, zero, suc, _+_, _*_, _/_, _%_, _≤_, _<_}
+use Prim.Native.Nat.{ℕ, zero, suc, _+_, _*_, _≤_, _<_}
 use native.Mathlib.Numerals.{add-one}
 use native.Mathlib.Omega.{arith}
 use lib.ListN.{length, getD, take, drop, length-drop}
 use lib.Seq.{take-all, take-suc, length-take-le, getD-take, getD-drop, drop-drop}
-use lib.Dec.{T, leb, eqb, eqb→eq, leb→le}
+use lib.Dec.{T, leb, leb→le}
 use lib.Ieee.Fits.{and-l, and-r}
-use Rattle.counts.specs.Lists.{member, Distinct}
+use Rattle.counts.specs.Lists.{member}
 use Rattle.counts.specs.Region.{places, constraint, constraints}
 use Rattle.counts.specs.Accept.{sides-fit}
 use Rattle.counts.specs.Tables.{edges-of}
 use Rattle.counts.specs.Graph.{first-side, second-side, SideTested, Placed}
-use Rattle.counts.proofs.BoolLaws.{clash, eq→eqb, or-split, or-left, or-right}
-use Rattle.counts.proofs.Placing.{one-in, placed-more}
+use Rattle.counts.proofs.ListLaws.{one-in, member-getD, distinct-before}
+use Rattle.counts.proofs.Placing.{placed-more}
 
 -- ---- one edge of a side after the other
-
-member-getD : (l : List ℕ) (j : ℕ) → j < length l → T (member (getD l j 0) l)
-member-getD [] j h = absurd (omega arith)
-member-getD (x ∷ l) zero h = or-left (eqb x x) (member x l) (eq→eqb x x refl)
-member-getD (x ∷ l) (suc j) h = or-right (eqb (getD l j 0) x) (member (getD l j 0) l) (member-getD l j (omega arith))
-
--- an element of a list without repetitions is not among those before it
-distinct-before : (l : List ℕ) (j : ℕ) → Distinct l → j < length l → T (member (getD l j 0) (take j l)) → ⊥
-distinct-before [] j d h t = omega arith
-distinct-before (x ∷ l) zero d h t = t
-distinct-before (x ∷ l) (suc j) d h t =
-    elim (or-split (eqb (getD l j 0) x) (member (getD l j 0) (take j l)) t) [
-      inl u ↦ clash (member x l) (subst (λ (z : ℕ). T (member z l)) (eqb→eq (getD l j 0) x u) (member-getD l j (omega arith))) (d .0)
-    | inr u ↦ distinct-before l j (d .1) (omega arith) u
-    ]
 
 -- edge e is read at j, after the edges before it
 pub record Next (regions : List ℕ) (s j e : ℕ) : Type 0 where
@@ -54,7 +38,7 @@ module _ (regions : List ℕ) (s : ℕ) (ok : SideTested regions s) where
       record {
         inside = ok .inside e (subst (λ (x : ℕ). T (member x l)) at (member-getD l j hl));
         fresh = λ t. distinct-before l j (ok .once) hl (subst (λ (x : ℕ). T (member x (take j l))) (sym at) t);
-        reached = ap (λ (n : ℕ). take n l) (add-one j) ∙ take-suc l j 0 hl ∙ ap (λ (x : ℕ). take j l ++ x ∷ []) at
+        reached = ap (λ (n : ℕ). take n l) (add-one j) ∙ take-suc l j 0 hl ∙ ap (λ (x : ℕ). take j l ++ x ∷ []) at;
       }
 
 -- a turn of the loop over a side's edges, and its end
@@ -65,7 +49,7 @@ pub side-more : {i s j e : ℕ} {regions incident own uses incident1 own1 uses1 
 side-more {i} {s} {j} {e} {regions} {incident} {own} {uses} {incident1} {own1} {uses1} {incident2} {own2} {uses2} x a b =
     subst (λ (l : List ℕ). Placed i s l incident own uses incident2 own2 uses2) (sym (x .reached))
     (placed-more i s (take j (edges-of regions s)) (e ∷ []) incident own uses incident1 own1 uses1 incident2 own2 uses2
-      (λ y t u. x .fresh (subst (λ (z : ℕ). T (member z (take j (edges-of regions s)))) (one-in y e u) t)) a b)
+    (λ y t u. x .fresh (subst (λ (z : ℕ). T (member z (take j (edges-of regions s)))) (one-in y e u) t)) a b)
 
 pub side-done : {i s j : ℕ} {regions incident own uses incident1 own1 uses1 : List ℕ} → SideTested regions s → getD regions (s * 17) 0 ≤ j
     → Placed i s (take j (edges-of regions s)) incident own uses incident1 own1 uses1
@@ -118,7 +102,7 @@ region-few m l t =
       side-1 = leb→le (getD l 17 0) places (and-l (f 17) (f 34 && (f 51 && rest)) t1);
       side-2 = leb→le (getD l 34 0) places (and-l (f 34) (f 51 && rest) t2);
       side-3 = leb→le (getD l 51 0) places (and-l (f 51) rest t3);
-      rest = and-r (f 51) rest t3
+      rest = and-r (f 51) rest t3;
     }
 
 pub sides-few : (m i : ℕ) (l : List ℕ) → T (sides-fit places m l) → i < m * 2

@@ -1,15 +1,16 @@
 -- How the tables are filled: the records that the contracts of src/graph.rt cite. Assumes nothing.
 -- Constraint i is pair i % 2 of region i / 2, so that its two sides are first-side i and, two further on, the opposite one.
 use mathlib.Core.Path.{_≡_}
-use mathlib.Core.Bool.{Bool, _&&_, cond}
+use mathlib.Core.Bool.{_&&_, cond}
 use mathlib.Core.List.{List}
 use Prim.Native.Nat.{ℕ, _+_, _*_, _/_, _%_, _≤_, _<_}
 use lib.ListN.{length, getD}
 use lib.Dec.{T, eqb}
 use Rattle.counts.specs.Lists.{member, Distinct}
+use Rattle.counts.specs.Refusal.{Verdict, is-passed}
 use Rattle.counts.specs.Region.{Constraint, places, region-count, constraint, incidence}
-use Rattle.counts.specs.Accept.{max-regions, max-edges}
-use Rattle.counts.specs.Tables.{none, edges-of}
+use Rattle.counts.specs.Accept.{max-regions, max-edges, overused-test}
+use Rattle.counts.specs.Tables.{the-graph, none, edges-of, Tables}
 
 abbrev pub first-side : ℕ → ℕ
 first-side i = i / 2 * 4 + i % 2
@@ -50,10 +51,10 @@ pub record Placed (i s : ℕ) (l incident own uses incident' own' uses' : List �
   pub sized : Sized incident' own' uses'
   pub counted : (y : ℕ) → y < 256 → getD uses' y 0 ≡ getD uses y 0 + cond (member y l) 1 0
   pub incident-at :
-    (y k : ℕ) → y < 256 → k < 2
-    → getD incident' (y * 2 + k) 0 ≡ cond (member y l && eqb (getD uses y 0) k) i (getD incident (y * 2 + k) 0)
+      (y k : ℕ) → y < 256 → k < 2
+      → getD incident' (y * 2 + k) 0 ≡ cond (member y l && eqb (getD uses y 0) k) i (getD incident (y * 2 + k) 0)
   pub own-at :
-    (y k : ℕ) → y < 256 → k < 2 → getD own' (y * 2 + k) 0 ≡ cond (member y l && eqb (getD uses y 0) k) s (getD own (y * 2 + k) 0)
+      (y k : ℕ) → y < 256 → k < 2 → getD own' (y * 2 + k) 0 ≡ cond (member y l && eqb (getD uses y 0) k) s (getD own (y * 2 + k) 0)
 
 -- the side of constraint i on which y stands
 abbrev pub side-of : List Constraint → ℕ → ℕ → ℕ
@@ -65,4 +66,11 @@ pub record Filled (g placed : List Constraint) (incident own uses : List ℕ) : 
   pub counted : (y : ℕ) → y < 256 → getD uses y 0 ≡ length (incidence placed y)
   pub incident-is : (y k : ℕ) → y < 256 → k < 2 → getD incident (y * 2 + k) 0 ≡ getD (incidence placed y) k none
   pub own-is :
-    (y k : ℕ) → y < 256 → k < 2 → getD incident (y * 2 + k) 0 < none → getD own (y * 2 + k) 0 ≡ side-of g y (getD incident (y * 2 + k) 0)
+      (y k : ℕ) → y < 256 → k < 2 → getD incident (y * 2 + k) 0 < none → getD own (y * 2 + k) 0 ≡ side-of g y (getD incident (y * 2 + k) 0)
+
+-- what `build_graph` leaves for n edges: 6's verdict, and the search's tables if that is that it passed
+pub record Built (n : ℕ) (regions incident own : List ℕ) (verdict : Verdict) : Type 0 where
+  pub verdict-is : verdict ≡ overused-test (the-graph regions) 0 n
+  pub tables : T (is-passed verdict) → Tables regions incident own
+  pub incident-size : length incident ≡ 512
+  pub own-size : length own ≡ 512

@@ -1,18 +1,15 @@
-use mathlib.Core.Path.{_≡_, sym, subst}
-use mathlib.Core.List.{List}
-use Prim.Native.Nat.{ℕ, _+_, _-_, _*_, _≤_, _<_}
+-- `place_constraints` meets its contract. The loop's invariant: the tables hold the first ci constraints. The measure is what is left of them.
+-- Assumes nothing.
+use Prim.Native.Nat.{_-_, _≤_}
 use native.Mathlib.Omega.{arith}
 use borrow.Author.Needs.{needs}
-use lib.ListN.{length, getD, take}
+use lib.ListN.{take}
 use Rattle.counts.specs.Tables.{the-graph}
 use Rattle.counts.specs.Graph.{Filled}
 use Rattle.counts.proofs.Placing.{filled-none, uses-few, counted-once}
-use Rattle.counts.proofs.Tabled.{constraint-more, constraints-done}
+use Rattle.counts.proofs.BuiltTables.{constraint-more, constraints-done}
 use Rattle.counts.proofs.graph.place_constraints.Statement.{statement}
 use Rattle.counts.proofs.graph.place_constraints.Tie as tie
-use Rattle.counts.proofs.graph.place_constraints.Reads as reads
-use Rattle.counts.proofs.graph.place_constraints.Lts as lts
-use Rattle.counts.proofs.graph.place_side.Reads as place-side-reads
 
 abbrev Inv-loop : tie.InvT-loop
 Inv-loop regions incident₀ own₀ uses₀ m ci₀ incident own uses ci =
@@ -21,53 +18,44 @@ Inv-loop regions incident₀ own₀ uses₀ m ci₀ incident own uses ci =
 abbrev μ-loop : tie.MeasureT-loop
 μ-loop regions incident₀ own₀ uses₀ m ci₀ incident own uses ci = m - ci
 
--- src/graph.rt:60:13
 mul-m : tie.Need-mul-m Inv-loop μ-loop
 mul-m c = search needs
 
--- src/graph.rt:62:5
 loop-holds : tie.Need-loop-holds Inv-loop μ-loop
 loop-holds c = (omega arith, filled-none _ _ _ _ (c .before .pre .1 .0) (c .before .pre .1 .1) (c .before .pre .1 .2))
 
--- src/graph.rt:63:17
 mul-s : tie.Need-mul-s Inv-loop μ-loop
 mul-s c = search needs
 
--- src/graph.rt:63:17
 add-s : tie.Need-add-s Inv-loop μ-loop
 add-s c = search needs
 
--- src/graph.rt:64:9
 place-side-requires : tie.Need-place-side-requires Inv-loop μ-loop
 place-side-requires c κs =
-    let few = c .before .before .before .before .before .before .pre .0 .few in
-    ((c .before .before .before .before .before .before .pre .0 .pair-tested (c .before .before .before .before .loop .ci) (c .before .before .before .loop-test .taken) .first, omega (arith, few)),
-      (c .before .before .before .before .loop .inv .1 .sized, λ y l. let u = uses-few (c .before .before .before .before .loop .ci) (c .before .before .before .before .loop .inv .1) y l in omega (arith, u, few)))
+    let few = c .before .before .before .before .before .before .pre .0 .few in (
+      (c .before .before .before .before .before .before .pre .0 .pair-tested (c .before .before .before .before .loop .ci) (c .before .before .before .loop-test .taken) .first, omega (arith, few)),
+      (c .before .before .before .before .loop .inv .1 .sized, λ y l. let u = uses-few (c .before .before .before .before .loop .ci) (c .before .before .before .before .loop .inv .1) y l in omega (arith, u, few)),
+    )
 
--- src/graph.rt:65:54
 add-place-side : tie.Need-add-place-side Inv-loop μ-loop
 add-place-side c = search needs
 
--- src/graph.rt:65:9
 place-side-requires-2 : tie.Need-place-side-requires-2 Inv-loop μ-loop
 place-side-requires-2 c κs =
-    let few = c .before .before .before .before .before .before .before .before .before .before .pre .0 .few in
-    ((c .before .before .before .before .before .before .before .before .before .before .pre .0 .pair-tested (c .before .before .before .before .before .before .before .before .loop .ci) (c .before .before .before .before .before .before .before .loop-test .taken) .second, omega (arith, few)),
-      (c .before .before .before .place-side .ensures .sized, λ y l. let u = uses-few (c .before .before .before .before .before .before .before .before .loop .ci) (c .before .before .before .before .before .before .before .before .loop .inv .1) y l in let v = counted-once (c .before .before .before .place-side .ensures) l in omega (arith, u, v, few)))
+    let few = c .before .before .before .before .before .before .before .before .before .before .pre .0 .few in (
+      (c .before .before .before .before .before .before .before .before .before .before .pre .0 .pair-tested (c .before .before .before .before .before .before .before .before .loop .ci) (c .before .before .before .before .before .before .before .loop-test .taken) .second, omega (arith, few)),
+      (c .before .before .before .place-side .ensures .sized, λ y l. let u = uses-few (c .before .before .before .before .before .before .before .before .loop .ci) (c .before .before .before .before .before .before .before .before .loop .inv .1) y l in let v = counted-once (c .before .before .before .place-side .ensures) l in omega (arith, u, v, few)),
+    )
 
--- src/graph.rt:66:9
 add-ci : tie.Need-add-ci Inv-loop μ-loop
 add-ci c = search needs
 
--- src/graph.rt:62:5
 loop-less : tie.Need-loop-less Inv-loop μ-loop
 loop-less c = search needs
 
--- src/graph.rt:62:5
 loop-again : tie.Need-loop-again Inv-loop μ-loop
 loop-again c = (omega arith, constraint-more (c .before .before .before .before .before .before .before .before .before .before .before .pre .0) (c .before .before .before .before .before .before .before .before .loop-test .taken) (c .before .before .before .before .before .before .before .before .before .loop .inv .1) (c .before .before .before .before .place-side .ensures) (c .place-side2 .ensures))
 
--- src/graph.rt:55:1
 returns : tie.Need-returns Inv-loop μ-loop
 returns c = constraints-done (c .before .loop .ci) (c .before .before .before .args .regions .now) (let t = c .loop-test .left in omega (arith, t)) (c .before .loop .inv .1)
 

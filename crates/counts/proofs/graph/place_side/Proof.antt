@@ -1,3 +1,5 @@
+-- `place_side` meets its contract. The loop's invariant: the first j edges of the side are placed. The measure is what is left of them.
+-- Assumes nothing.
 use Prim.Native.Nat.{_+_, _-_, _*_, _≤_}
 use mathlib.Core.Path.{refl}
 use native.Mathlib.Omega.{arith}
@@ -9,9 +11,6 @@ use Rattle.counts.proofs.Placing.{placed-none, not-counted}
 use Rattle.counts.proofs.Sides.{next-edge, side-more, side-done}
 use Rattle.counts.proofs.graph.place_side.Statement.{statement}
 use Rattle.counts.proofs.graph.place_side.Tie as tie
-use Rattle.counts.proofs.graph.place_side.Reads as reads
-use Rattle.counts.proofs.graph.place_side.Lts as lts
-use Rattle.counts.proofs.graph.place_edge.Reads as place-edge-reads
 
 abbrev Inv-loop : tie.InvT-loop
 Inv-loop regions incident₀ own₀ uses₀ ci s start count j₀ incident own uses j =
@@ -20,47 +19,36 @@ Inv-loop regions incident₀ own₀ uses₀ ci s start count j₀ incident own u
 abbrev μ-loop : tie.MeasureT-loop
 μ-loop regions incident₀ own₀ uses₀ ci s start count j₀ incident own uses j = count - j
 
--- src/graph.rt:39:17
 mul-start : tie.Need-mul-start Inv-loop μ-loop
 mul-start c = search needs
 
--- src/graph.rt:40:17
 mul-count : tie.Need-mul-count Inv-loop μ-loop
 mul-count c = search needs
 
--- src/graph.rt:40:17
 shared-slice-read-count : tie.Need-shared-slice-read-count Inv-loop μ-loop
 shared-slice-read-count c = search needs
 
--- src/graph.rt:40:17
 cast-count : tie.Need-cast-count Inv-loop μ-loop
 cast-count c = search needs
 
--- src/graph.rt:42:5
 loop-holds : tie.Need-loop-holds Inv-loop μ-loop
 loop-holds c = (omega arith, placed-none _ _ _ _ _ (c .before .before .pre .1 .0))
 
--- src/graph.rt:43:25
 add-e : tie.Need-add-e Inv-loop μ-loop
 add-e c = search needs
 
--- src/graph.rt:43:25
 add-e-2 : tie.Need-add-e-2 Inv-loop μ-loop
 add-e-2 c = search needs
 
--- src/graph.rt:43:17
 mul-e : tie.Need-mul-e Inv-loop μ-loop
 mul-e c = search needs
 
--- src/graph.rt:43:17
 shared-slice-read-e : tie.Need-shared-slice-read-e Inv-loop μ-loop
 shared-slice-read-e c = search needs
 
--- src/graph.rt:43:17
 cast-e : tie.Need-cast-e Inv-loop μ-loop
 cast-e c = omega (arith, c .shared-slice-known3 .given (c .before .before .before .before .before .args .s * 17 + 1 + c .before .before .loop .j))
 
--- src/graph.rt:44:9
 place-edge-requires : tie.Need-place-edge-requires Inv-loop μ-loop
 place-edge-requires c κs =
     let e = getD (c .before .before .before .before .before .before .before .before .args .regions .now) (c .before .before .before .before .before .before .before .before .args .s * 17 + 1 + c .before .before .before .before .before .loop .j) 0 in
@@ -69,22 +57,18 @@ place-edge-requires c κs =
     let v = c .before .before .before .before .before .before .before .before .pre .1 .1 e (x .inside) in
     (c .before .before .before .before .before .loop .inv .1 .sized, (c .before .before .before .before .before .before .before .before .pre .0 .1, c .before .before .before .before .before .before .before .before .pre .0 .0 .numbered, x .inside, omega (arith, u, v)))
 
--- src/graph.rt:45:9
 add-j : tie.Need-add-j Inv-loop μ-loop
 add-j c = search needs
 
--- src/graph.rt:42:5
 loop-less : tie.Need-loop-less Inv-loop μ-loop
 loop-less c = search needs
 
--- src/graph.rt:42:5
 loop-again : tie.Need-loop-again Inv-loop μ-loop
 loop-again c =
     let e = getD (c .before .before .before .before .before .before .before .before .before .args .regions .now) (c .before .before .before .before .before .before .before .before .before .args .s * 17 + 1 + c .before .before .before .before .before .before .loop .j) 0 in
     let x = next-edge _ _ (c .before .before .before .before .before .before .before .before .before .pre .0 .0) (c .before .before .before .before .before .before .loop .j) e (c .before .before .before .before .before .loop-test .taken) refl in
     (omega (arith, c .before .before .before .before .before .loop-test .taken), side-more x (c .before .before .before .before .before .before .loop .inv .1) (c .place-edge .ensures))
 
--- src/graph.rt:34:1
 returns : tie.Need-returns Inv-loop μ-loop
 returns c = side-done {j = c .before .loop .j} (c .before .before .before .before .pre .0 .0) (let t = c .loop-test .left in omega (arith, t)) (c .before .loop .inv .1)
 

@@ -1,29 +1,29 @@
 -- Tested records and the tables filled from them: what the tests give, the loop over the constraints, test 6 counted in the tables, and
 -- the record `Tables` that the search asks for. Assumes nothing.
-use mathlib.Core.Logic.{_⊎_, inl, inr}
+use mathlib.Core.Logic.{inl, inr}
 use mathlib.Core.Path.{_≡_, refl, sym, ap, subst, _∙_}
-use mathlib.Core.Bool.{Bool, true, false, not, _&&_, cond}
+use mathlib.Core.Bool.{Bool, true, false, not, _&&_}
 use mathlib.Core.List.{List, [], _∷_}
-use Prim.Native.Nat.{ℕ, zero, suc, _+_, _-_, _*_, _/_, _%_, _≤_, _<_}
+use Prim.Native.Nat.{ℕ, suc, _+_, _-_, _*_, _/_, _%_, _≤_, _<_}
 use native.Mathlib.Nat.{zero-add}
 use native.Mathlib.Numerals.{add-one}
 use native.Mathlib.Omega.{arith}
 use lib.ListN.{length, getD, take}
 use lib.Seq.{take-all}
-use lib.Dec.{T, leb, ltb, eqb, leb→le, lt→ltb, ltb→lt, nltb→le}
+use lib.Dec.{T, leb, ltb, eqb, leb→le, lt→ltb, ltb→lt}
 use lib.Ieee.Fits.{and-l, and-r}
 use Rattle.counts.specs.Lists.{In, member, Distinct}
 use Rattle.counts.specs.Refusal.{Verdict, passed, refused, outcome, verdict-of, then-test, refuse-if, is-passed}
-use Rattle.counts.specs.Region.{Constraint, places, region-count, constraint, constraints, holds, own-side, opposite-side, incidence}
-use Rattle.counts.specs.Accept.{max-edges, max-regions, records-whole, sides-fit, limits-test, pairs-test, overused-test}
+use Rattle.counts.specs.Region.{Constraint, places, region-count, constraint, holds, incidence}
+use Rattle.counts.specs.Accept.{records-whole, sides-fit, limits-test, pairs-test, overused-test}
 use Rattle.counts.specs.Tables.{the-graph, none, edges-of, across, StandsOn, Tables}
-use Rattle.counts.specs.Graph.{first-side, second-side, side-of, SideTested, PairTested, Tested, Placed, Filled}
+use Rattle.counts.specs.Graph.{first-side, second-side, side-of, PairTested, Tested, Placed, Filled}
 use Rattle.counts.specs.declared.refusal.Check.the-variants.{Passed, Refused}
 use Rattle.counts.specs.declared.refusal.Refusal.the-variants.{EdgeOverused}
 use Rattle.counts.proofs.Accepted.{ConstraintOk, pairs-ok, overused-ok}
-use Rattle.counts.proofs.BoolLaws.{T-or-not, clash, or-left, or-right, or-split, T-true, not-T-false}
-use Rattle.counts.proofs.ListLaws.{incidence→holds}
-use Rattle.counts.proofs.Placing.{cond-yes, cond-no, filled-more}
+use Rattle.counts.proofs.BoolLaws.{T-or-not, clash, or-left, or-right, T-true, not-T-false, cond-yes, cond-no}
+use Rattle.counts.proofs.ListLaws.{getD-in, holds-numbered, incidence→holds}
+use Rattle.counts.proofs.Placing.{filled-more}
 use Rattle.counts.proofs.RefusalLaws.{not-refused}
 use Rattle.counts.proofs.Sides.{sides-are, sides-few, length-constraints}
 
@@ -44,7 +44,7 @@ limits n regions t =
     record {
       edges-few = leb→le n 256 (and-l (leb n 256) whole t1);
       regions-few = leb→le m 128 (and-l (leb m 128) (sides-fit places m regions) t2);
-      fit = and-r (leb m 128) (sides-fit places m regions) t2
+      fit = and-r (leb m 128) (sides-fit places m regions) t2;
     }
   where
     not-not : (b : Bool) → T (not (not b)) → T b
@@ -75,23 +75,23 @@ tested n regions t1 t3 = record { few = lim .regions-few; pair-tested = pair }
         let k = lim .regions-few in
         record {
           first =
-            record {
-              numbered = omega (arith, k);
-              fits = omega arith;
-              few = few .0;
-              inside = λ y t. inside i y (or-left (member y (c .a)) (member y (c .b)) (subst (λ (l : List ℕ). T (member y l)) (sym (are .0)) t));
-              once = subst Distinct (are .0) (ok i .once-a)
-            };
+              record {
+                numbered = omega (arith, k);
+                fits = omega arith;
+                few = few .0;
+                inside = λ y t. inside i y (or-left (member y (c .a)) (member y (c .b)) (subst (λ (l : List ℕ). T (member y l)) (sym (are .0)) t));
+                once = subst Distinct (are .0) (ok i .once-a);
+              };
           second =
-            record {
-              numbered = omega (arith, k);
-              fits = omega arith;
-              few = few .1;
-              inside = λ y t. inside i y (or-right (member y (c .a)) (member y (c .b)) (subst (λ (l : List ℕ). T (member y l)) (sym (are .1)) t));
-              once = subst Distinct (are .1) (ok i .once-b)
-            };
+              record {
+                numbered = omega (arith, k);
+                fits = omega arith;
+                few = few .1;
+                inside = λ y t. inside i y (or-right (member y (c .a)) (member y (c .b)) (subst (λ (l : List ℕ). T (member y l)) (sym (are .1)) t));
+                once = subst Distinct (are .1) (ok i .once-b);
+              };
           parted = λ y t u.
-            ok i .sided y (subst (λ (l : List ℕ). T (member y l)) (sym (are .0)) t) (subst (λ (l : List ℕ). T (member y l)) (sym (are .1)) u)
+              ok i .sided y (subst (λ (l : List ℕ). T (member y l)) (sym (are .0)) t) (subst (λ (l : List ℕ). T (member y l)) (sym (are .1)) u);
         }
 
 -- ---- the loop over the constraints
@@ -139,23 +139,13 @@ pub overused-next : (g : List Constraint) (e n : ℕ) → e < n → length (inci
 overused-next g e n h l =
     overused-from g e n h
     ∙ ap (λ (v : Verdict). then-test v (overused-test g (e + 1) (n - (e + 1))))
-      (cond-no (ltb 2 (length (incidence g e))) (refused 6 e 0) passed (λ t. let k = ltb→lt 2 (length (incidence g e)) t in omega arith))
+    (cond-no (ltb 2 (length (incidence g e))) (refused 6 e 0) passed (λ t. let k = ltb→lt 2 (length (incidence g e)) t in omega arith))
 
 pub overused-done : (g : List Constraint) (e n : ℕ) → n ≤ e → overused-test g e (n - e) ≡ outcome Passed
 unfolding overused-test outcome
 overused-done g e n h = let q : n - e ≡ 0 = omega arith in ap (overused-test g e) q
 
 -- ---- the tables
-
-holds-numbered : (g : List Constraint) (i y : ℕ) → T (holds (constraint g i) y) → i < length g
-holds-numbered [] i y t = absurd t
-holds-numbered (c ∷ g) zero y t = omega arith
-holds-numbered (c ∷ g) (suc i) y t = let h = holds-numbered g i y t in omega arith
-
-getD-in : (l : List ℕ) (k d : ℕ) → getD l k d < d → In (getD l k d) l
-getD-in [] k d h = absurd (omega arith)
-getD-in (x ∷ l) zero d h = inl refl
-getD-in (x ∷ l) (suc k) d h = inr (getD-in l k d h)
 
 short : (l : List ℕ) → ((i : ℕ) → In i l → ⊥) → length l ≤ 2
 short [] n = omega arith
@@ -177,7 +167,7 @@ module _ (regions : List ℕ) (i y : ℕ) (ok : PairTested regions i) (h : i < r
         opposite-fits = subst (λ (s : ℕ). s * 17 + 17 ≤ length regions) (sym over) (ok .second .fits);
         own-few = ok .first .few;
         opposite-few = subst (λ (s : ℕ). getD regions (s * 17) 0 ≤ 16) (sym over) (ok .second .few);
-        first = T-true (member y (c .a)) t ∙ sym (T-true (ltb (first-side i % 4) 2) first)
+        first = T-true (member y (c .a)) t ∙ sym (T-true (ltb (first-side i % 4) 2) first);
       }
 
   stands-second : (T (member y (constraint (the-graph regions) i .a)) → ⊥) → StandsOn regions i y (second-side i)
@@ -195,16 +185,16 @@ module _ (regions : List ℕ) (i y : ℕ) (ok : PairTested regions i) (h : i < r
         opposite-fits = subst (λ (s : ℕ). s * 17 + 17 ≤ length regions) (sym over) (ok .first .fits);
         own-few = ok .second .few;
         opposite-few = subst (λ (s : ℕ). getD regions (s * 17) 0 ≤ 16) (sym over) (ok .first .few);
-        first = not-T-false (member y (c .a)) n ∙ sym (not-T-false (ltb (second-side i % 4) 2) second)
+        first = not-T-false (member y (c .a)) n ∙ sym (not-T-false (ltb (second-side i % 4) 2) second);
       }
 
   stands-on : StandsOn regions i y (side-of (the-graph regions) y i)
   stands-on =
       let b = member y (constraint (the-graph regions) i .a) in
       elim (T-or-not b) [
-        inl t ↦ (let e : first-side i ≡ side-of (the-graph regions) y i = let q = cond-yes {A = ℕ} b 0 2 t in omega (arith, q) in subst (StandsOn regions i y) e (stands-first t))
-      | inr t ↦ (let n : T b → ⊥ = λ u. clash b u t in
-                 let e : second-side i ≡ side-of (the-graph regions) y i = let q = cond-no {A = ℕ} b 0 2 n in omega (arith, q) in subst (StandsOn regions i y) e (stands-second n))
+        | inl t ↦ (let e : first-side i ≡ side-of (the-graph regions) y i = let q = cond-yes {A = ℕ} b 0 2 t in omega (arith, q) in subst (StandsOn regions i y) e (stands-first t))
+        | inr t ↦ (let n : T b → ⊥ = λ u. clash b u t in
+            let e : second-side i ≡ side-of (the-graph regions) y i = let q = cond-no {A = ℕ} b 0 2 n in omega (arith, q) in subst (StandsOn regions i y) e (stands-second n))
       ]
 
 pub tables : (n : ℕ) (regions incident own uses : List ℕ) → T (is-passed (limits-test places n regions))
@@ -218,7 +208,7 @@ tables n regions incident own uses t1 t3 t6 f =
       numbered = λ i y h. let l = in-range i y h in let k = lim .regions-few in omega (arith, l, k);
       incident-is = f .incident-is;
       thin = thin;
-      stands = stands
+      stands = stands;
     }
   where
     lim : Limits n regions
@@ -237,8 +227,8 @@ tables n regions incident own uses t1 t3 t6 f =
     thin : (y : ℕ) → length (incidence (the-graph regions) y) ≤ 2
     thin y =
         elim (T-or-not (ltb y n)) [
-          inl t ↦ subst (λ (m : ℕ). length (incidence (the-graph regions) m) ≤ 2) (zero-add y) (overused-ok (the-graph regions) 0 n t6 y (ltb→lt y n t))
-        | inr t ↦ short (incidence (the-graph regions) y) (λ i j. clash (ltb y n) (ok i .inside y (incidence→holds (the-graph regions) i y j)) t)
+          | inl t ↦ subst (λ (m : ℕ). length (incidence (the-graph regions) m) ≤ 2) (zero-add y) (overused-ok (the-graph regions) 0 n t6 y (ltb→lt y n t))
+          | inr t ↦ short (incidence (the-graph regions) y) (λ i j. clash (ltb y n) (ok i .inside y (incidence→holds (the-graph regions) i y j)) t)
         ]
 
     stands-at : (y k : ℕ) → y < 256 → k < 2 → getD incident (y * 2 + k) 0 < none
