@@ -55,9 +55,6 @@ pub tested : (n : ℕ) (regions : List ℕ) → T (is-passed (limits-test places
     → T (is-passed (pairs-test places n 0 (region-count places regions) regions)) → Tested regions
 tested n regions t1 t3 = record { few = lim .regions-few; pair-tested = pair }
   where
-    m : ℕ
-    m = region-count places regions
-
     lim : Limits n regions
     lim = limits n regions t1
 
