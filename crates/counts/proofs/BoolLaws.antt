@@ -58,3 +58,11 @@ same→eqb x = T-true (eqb x x) (eqb-refl x)
 pub by-cases : {P : Type 0} (b : Bool) → (T b → P) → (T (not b) → P) → P
 by-cases true f h = f tt
 by-cases false f h = h tt
+
+pub cond-yes {ℓ} : {A : Type ℓ} (b : Bool) (x y : A) → T b → cond b x y ≡ x
+cond-yes true x y t = refl
+cond-yes false x y t = absurd t
+
+pub cond-no {ℓ} : {A : Type ℓ} (b : Bool) (x y : A) → (T b → ⊥) → cond b x y ≡ y
+cond-no true x y n = absurd (n tt)
+cond-no false x y n = refl

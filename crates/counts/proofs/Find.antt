@@ -20,7 +20,7 @@ use Rattle.counts.proofs.ListLaws.{every-in, select-none}
 use Rattle.counts.proofs.Sound.{OneSided, Inside, Good, empty, reading, sound-dfs}
 
 -- the starts
-starts-below : (i n : ℕ) (z : Change) → In z (starts i n) → z .0 < i + n
+pub starts-below : (i n : ℕ) (z : Change) → In z (starts i n) → z .0 < i + n
 starts-below i zero z k = absurd k
 starts-below i (suc n) z (inl e) = subst (λ (m : ℕ). m < i + suc n) (sym (ap (λ (k : Change). k .0) e)) (omega arith)
 starts-below i (suc n) z (inr (inl e)) = subst (λ (m : ℕ). m < i + suc n) (sym (ap (λ (k : Change). k .0) e)) (omega arith)

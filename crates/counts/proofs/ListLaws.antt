@@ -3,16 +3,18 @@ use mathlib.Core.Logic.{_≢_}
 use mathlib.Core.Path.{_≡_, refl, sym, ap, subst, _∙_}
 use mathlib.Core.Bool.{Bool, true, false, not, _&&_, _||_, cond, Bool·beq}
 use mathlib.Core.Logic.{_⊎_, inl, inr}
-use mathlib.Core.List.{List, [], _∷_, _++_, append-assoc, nil≢cons, head-eq-of-cons-eq, tail-eq-of-cons-eq}
+use mathlib.Core.List.{List, [], _∷_, _++_, append-assoc, append-nil, nil≢cons, head-eq-of-cons-eq, tail-eq-of-cons-eq}
 use Prim.Native.Nat.{ℕ, zero, suc, _+_, _≤_, _<_}
 use native.Mathlib.Nat.{zero-add, add-zero, add-suc, suc-add}
+use native.Mathlib.Numerals.{add-one}
 use native.Mathlib.Omega.{arith}
-use lib.ListN.{length, getD, set, replicate}
-use lib.Dec.{T, leb, eqb, eqb→eq, eqb-refl}
+use lib.ListN.{length, getD, set, take, replicate, length-append}
+use lib.Seq.{take-suc, length-take-le}
+use lib.Dec.{T, leb, eqb, eqb→eq, eqb-refl, eqb·zero-suc, eqb·suc-zero, eqb·suc-suc}
 use lib.Ieee.Fits.{and-i, and-l, and-r}
 use Rattle.counts.specs.Lists.{member, any, all, filter, Distinct, In}
 use Rattle.counts.specs.Move.{Change, select, edges, balances, Settled, share}
-use Rattle.counts.specs.Region.{Constraint, constraint, holds, incidence, incidence-from}
+use Rattle.counts.specs.Region.{Constraint, constraint, no-sides, holds, incidence, incidence-from}
 use Rattle.counts.specs.Search.{signed, partners, differs, is-used, free}
 use Rattle.counts.proofs.BoolLaws.{clash, eq→eqb, ne→differs, or-split, or-left, or-right}
 
@@ -258,3 +260,91 @@ in-partners c x z hz hx n t =
     go false false true false ha hb u = in-right (z .0, false) (signed true (c .a)) (signed false (filter (differs (x .0)) (c .b))) (in-at-sign false (z .0) (filter (differs (x .0)) (c .b)) (kp (c .b) (hb tt)))
     go false false false true ha hb u = in-right (z .0, true) (signed false (c .a)) (signed true (filter (differs (x .0)) (c .b))) (in-at-sign true (z .0) (filter (differs (x .0)) (c .b)) (kp (c .b) (hb tt)))
     go false false false false ha hb u = absurd u
+
+-- ---- members, and what stands at a number
+pub member-append : (y : ℕ) (l m : List ℕ) → member y (l ++ m) ≡ member y l || member y m
+member-append y [] m = refl
+member-append y (x ∷ l) m = go (eqb y x) (member-append y l m)
+  where
+    go : (b : Bool) → member y (l ++ m) ≡ member y l || member y m → b || member y (l ++ m) ≡ (b || member y l) || member y m
+    go true e = refl
+    go false e = e
+
+pub one-in : (y e : ℕ) → T (member y (e ∷ [])) → y ≡ e
+one-in y e t = elim (member→in y (e ∷ []) t) [ inl q ↦ q | inr q ↦ absurd q ]
+
+pub in-one : (y e : ℕ) → y ≡ e → T (member y (e ∷ []))
+in-one y e q = in→member y (e ∷ []) (inl q)
+
+pub member-getD : (l : List ℕ) (j : ℕ) → j < length l → T (member (getD l j 0) l)
+member-getD [] j h = absurd (omega arith)
+member-getD (x ∷ l) zero h = or-left (eqb x x) (member x l) (eq→eqb x x refl)
+member-getD (x ∷ l) (suc j) h = or-right (eqb (getD l j 0) x) (member (getD l j 0) l) (member-getD l j (omega arith))
+
+-- an element of a list without repetitions is not among those before it
+pub distinct-before : (l : List ℕ) (j : ℕ) → Distinct l → j < length l → T (member (getD l j 0) (take j l)) → ⊥
+distinct-before [] j d h t = omega arith
+distinct-before (x ∷ l) zero d h t = t
+distinct-before (x ∷ l) (suc j) d h t =
+    elim (or-split (eqb (getD l j 0) x) (member (getD l j 0) (take j l)) t) [
+      | inl u ↦ clash (member x l) (subst (λ (z : ℕ). T (member z l)) (eqb→eq (getD l j 0) x u) (member-getD l j (omega arith))) (d .0)
+      | inr u ↦ distinct-before l j (d .1) (omega arith) u
+    ]
+
+pub getD-in : (l : List ℕ) (k d : ℕ) → getD l k d < d → In (getD l k d) l
+getD-in [] k d h = absurd (omega arith)
+getD-in (x ∷ l) zero d h = inl refl
+getD-in (x ∷ l) (suc k) d h = inr (getD-in l k d h)
+
+-- what stands at k once i is put behind a list
+pub getD-snoc : (l : List ℕ) (i k d : ℕ) → getD (l ++ i ∷ []) k d ≡ cond (eqb (length l) k) i (getD l k d)
+getD-snoc [] i zero d = refl
+getD-snoc [] i (suc k) d = sym (ap (λ (b : Bool). cond b i d) (eqb·zero-suc k))
+getD-snoc (x ∷ l) i zero d = sym (ap (λ (b : Bool). cond b i x) (eqb·suc-zero (length l)))
+getD-snoc (x ∷ l) i (suc k) d = getD-snoc l i k d ∙ sym (ap (λ (b : Bool). cond b i (getD l k d)) (eqb·suc-suc (length l) k))
+
+-- what a list grows by, counted and read
+pub length-grown : (l : List ℕ) (i : ℕ) (b : Bool) → length l + cond b 1 0 ≡ length (l ++ cond b (i ∷ []) [])
+length-grown l i true = sym (length-append l (i ∷ []))
+length-grown l i false = sym (length-append l [])
+
+pub getD-grown : (l : List ℕ) (i k d : ℕ) (b : Bool) → cond (b && eqb (length l) k) i (getD l k d) ≡ getD (l ++ cond b (i ∷ []) []) k d
+getD-grown l i k d true = sym (getD-snoc l i k d)
+getD-grown l i k d false = ap (λ (m : List ℕ). getD m k d) (sym (append-nil l))
+
+-- ---- constraints placed one after the other
+pub holds-numbered : (g : List Constraint) (i y : ℕ) → T (holds (constraint g i) y) → i < length g
+holds-numbered [] i y t = absurd t
+holds-numbered (c ∷ g) zero y t = omega arith
+holds-numbered (c ∷ g) (suc i) y t = let h = holds-numbered g i y t in omega arith
+
+pub incidence-snoc : (k : ℕ) (g : List Constraint) (c : Constraint) (y : ℕ)
+    → incidence-from k (g ++ c ∷ []) y ≡ incidence-from k g y ++ cond (holds c y) ((k + length g) ∷ []) []
+incidence-snoc k [] c y = ap (λ (n : ℕ). cond (holds c y) (n ∷ []) []) (sym (add-zero k))
+incidence-snoc k (d ∷ g) c y =
+    go (holds d y)
+    (incidence-snoc (suc k) g c y ∙ ap (λ (n : ℕ). incidence-from (suc k) g y ++ cond (holds c y) (n ∷ []) []) (suc-add k (length g) ∙ sym (add-suc k (length g))))
+  where
+    go : (b : Bool) → incidence-from (suc k) (g ++ c ∷ []) y ≡ incidence-from (suc k) g y ++ cond (holds c y) ((k + suc (length g)) ∷ []) []
+        → cond b (k ∷ incidence-from (suc k) (g ++ c ∷ []) y) (incidence-from (suc k) (g ++ c ∷ []) y)
+        ≡ cond b (k ∷ incidence-from (suc k) g y) (incidence-from (suc k) g y) ++ cond (holds c y) ((k + suc (length g)) ∷ []) []
+    go true e = ap {B = List ℕ} (λ l. k ∷ l) e
+    go false e = e
+
+-- the constraints of y among the first i + 1
+pub incidence-take : (g : List Constraint) (i y : ℕ) → i < length g
+    → incidence (take (i + 1) g) y ≡ incidence (take i g) y ++ cond (holds (constraint g i) y) (i ∷ []) []
+incidence-take g i y h =
+    ap (λ (n : ℕ). incidence (take n g) y) (add-one i)
+    ∙ ap (λ (l : List Constraint). incidence l y) (take-suc g i no-sides h)
+    ∙ incidence-snoc 0 (take i g) (constraint g i) y
+    ∙ ap (λ (n : ℕ). incidence (take i g) y ++ cond (holds (constraint g i) y) (n ∷ []) []) (zero-add (length (take i g)) ∙ length-take-le i g (omega arith))
+
+-- no edge is in more constraints than there are
+pub length-incidence : (k : ℕ) (g : List Constraint) (y : ℕ) → length (incidence-from k g y) ≤ length g
+length-incidence k [] y = omega arith
+length-incidence k (c ∷ g) y = go (holds c y) (length-incidence (suc k) g y)
+  where
+    go : (b : Bool) → length (incidence-from (suc k) g y) ≤ length g → length (cond b (k ∷ incidence-from (suc k) g y) (incidence-from (suc k) g y)) ≤ suc (length g)
+    go true h = omega arith
+    go false h = omega arith

@@ -2,6 +2,7 @@
 pub mod Accept
 pub mod Cost
 pub mod Demand
+pub mod Graph
 pub mod Lists
 pub mod Move
 pub mod Refusal

@@ -8,13 +8,17 @@ use lib.Dec.{T, eqb}
 use lib.Ieee.{Float, nan, inf}
 use Rattle.counts.specs.Lists.{In, Distinct}
 use Rattle.counts.specs.Move.{Change, edges, allowed}
-use Rattle.counts.specs.Cost.{CostModel}
+use Rattle.counts.specs.Cost.{CostModel, by-ideals}
 use Rattle.counts.specs.Search.{State, run}
-use Rattle.counts.specs.Round.{Found, improves, find-augmentation}
+use Rattle.counts.specs.Round.{Found, improves, find-augmentation, find-move, Solved}
+use Rattle.counts.specs.Refusal.{is-passed}
+use Rattle.counts.specs.Region.{places}
+use Rattle.counts.specs.Accept.{regions-test}
 use Rattle.counts.specs.Tables.{the-graph, cost-in, allowed-in, path-of, state-of}
 use Rattle.counts.specs.declared.search.SearchState.{SearchState}
 use Rattle.counts.specs.declared.round.Choice.{Choice}
 use Rattle.counts.specs.declared.round.FoundMove.{FoundMove}
+use Rattle.counts.specs.declared.solve.MovesMade.{MovesMade}
 
 -- ---- one search for each start
 
@@ -120,3 +124,28 @@ pub record CanApply (counts : List ℕ) (r : List Change) : Type 0 where
   pub below : (z : Change) → In z r → z .0 < length counts
   pub down : (z : Change) → In z r → T (allowed counts (z .0) (z .1))
   pub small : (x : ℕ) → getD counts x 0 ≤ 1000000
+
+-- the input of a round that passed its tests: as many ideals as counts, no count too large, regions accepted
+pub record Tested (regions counts : List ℕ) (ideals : List Float) : Type 0 where
+  pub as-many : length ideals ≡ length counts
+  pub few : length counts ≤ 256
+  pub small : (x : ℕ) → getD counts x 0 ≤ 1000000
+  pub regions-pass : T (is-passed (regions-test places (length counts) regions))
+
+-- buffers and tables that hold nothing yet worth knowing
+pub record Sized (costs : List Float) (may : List Bool) (kept : List Float) (cut known : List Bool) : Type 0 where
+  pub costs-long : length costs ≡ 512
+  pub may-long : length may ≡ 512
+  pub kept-long : length kept ≡ 512
+  pub cut-long : length cut ≡ 512
+  pub known-long : length known ≡ 512
+
+pub record MoveFound (regions : List ℕ) (ideals : List Float) (counts : List ℕ) (limit : ℕ) (costs : List Float) (may : List Bool) (used : List Bool) (path best : List ℕ) (kept : List Float) (cut known : List Bool) (r : FoundMove) : Type 0 where
+  pub answer : found-of r best ≡ find-move (the-graph regions) (by-ideals ideals) counts limit
+  pub len-fits : r .len ≤ 257
+  pub buffers : Buffers used path best
+  pub sized : Sized costs may kept cut known
+
+-- a solve's moves, with the counts that it leaves
+abbrev pub solved-of : MovesMade → List ℕ → Solved
+solved-of r counts = record { moves = r .moves; counts = counts; more = r .more }

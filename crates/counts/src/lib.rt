@@ -1,4 +1,7 @@
 mod answer;
+mod cost;
+mod graph;
 mod refusal;
 mod round;
 mod search;
+mod solve;

@@ -1,0 +1,115 @@
+// `build_graph`: the tables that tell the search which constraints hold an edge. In 000 these are lists of lists; here the constraints stay in
+// the records, and each edge has two places, since test 6 turns away an edge in over two constraints. Tests 1 and 3 to 5 come before.
+// At place 2 * e + k, k being 0 or 1, `incident` has the number of the k-th constraint that holds edge e, 256 if there is none, and `own` the
+// side on which e stands in it. Sides are counted over all records: side s starts at s * 17, with its number of edges, and constraint ci has
+// the sides ci / 2 * 4 + ci % 2 and, two further on, the opposite one.
+use crate::refusal::Check;
+use crate::refusal::Refusal;
+ghost use mathlib.Core.Path.{_≡_};
+ghost use mathlib.Core.List.{List, [], _∷_};
+ghost use Prim.Native.Nat.{ℕ, _≤_, _<_};
+ghost use lib.ListN.{length, getD, replicate};
+ghost use lib.Dec.{T};
+ghost use Rattle.counts.specs.Refusal.{is-passed, outcome};
+ghost use Rattle.counts.specs.Region.{Constraint, places, region-count, incidence};
+ghost use Rattle.counts.specs.Accept.{limits-test, pairs-test, overused-test};
+ghost use Rattle.counts.specs.Tables.{the-graph, edges-of, none};
+ghost use Rattle.counts.specs.Graph.{SideTested, Tested, Sized, Placed, Filled, Built};
+
+// Edge e stands on side s of constraint ci: both go to its next place. An edge in over two constraints is only counted, for test 6.
+fn place_edge(
+    incident: &mut [u16; 512],
+    own: &mut [u16; 512],
+    uses: &mut [u16; 256],
+    ci: usize,
+    s: usize,
+    e: usize,
+)
+    requires { ⌜ Sized (now incident) (now own) (now uses) ⌝ }
+    requires { ⌜ (ci < 256) × (s < 512) × (e < 256) × (getD (now uses) e 0 ≤ 512) ⌝ }
+    ensures { λ _. ⌜ Placed ci s (e ∷ []) (now (incident .entry)) (now (own .entry)) (now (uses .entry)) (now (incident .exit)) (now (own .exit)) (now (uses .exit)) ⌝ }
+{
+    let n = uses[e] as usize;
+    uses[e] = (n + 1) as u16;
+    if n >= 2 {
+        return;
+    }
+    let p = e * 2 + n;
+    incident[p] = ci as u16;
+    own[p] = s as u16;
+}
+
+// The edges of side s, in listed order.
+fn place_side(
+    regions: &[u16],
+    incident: &mut [u16; 512],
+    own: &mut [u16; 512],
+    uses: &mut [u16; 256],
+    ci: usize,
+    s: usize,
+)
+    requires { ⌜ SideTested (now regions) s × (ci < 256) ⌝ }
+    requires { ⌜ Sized (now incident) (now own) (now uses) × ((y : ℕ) → y < 256 → getD (now uses) y 0 ≤ 512) ⌝ }
+    ensures { λ _. ⌜ Placed ci s (edges-of (now (regions .entry)) s) (now (incident .entry)) (now (own .entry)) (now (uses .entry)) (now (incident .exit)) (now (own .exit)) (now (uses .exit)) ⌝ }
+{
+    let start = s * 17;
+    let count = regions[start] as usize;
+    let mut j = 0;
+    while j < count {
+        let e = regions[start + 1 + j] as usize;
+        place_edge(incident, own, uses, ci, s, e);
+        j += 1;
+    }
+}
+
+// Constraints in region order, so that the places of an edge hold its constraints rising.
+fn place_constraints(
+    regions: &[u16],
+    incident: &mut [u16; 512],
+    own: &mut [u16; 512],
+    uses: &mut [u16; 256],
+)
+    requires { ⌜ Tested (now regions) ⌝ }
+    requires { ⌜ (now incident ≡ replicate 512 none) × (length (now own) ≡ 512) × (now uses ≡ replicate 256 0) ⌝ }
+    ensures { λ _. ⌜ Filled (the-graph (now (regions .entry))) (the-graph (now (regions .entry))) (now (incident .exit)) (now (own .exit)) (now (uses .exit)) ⌝ }
+{
+    let m = regions.len() / 68 * 2;
+    let mut ci = 0;
+    while ci < m {
+        let s = ci / 2 * 4 + ci % 2;
+        place_side(regions, incident, own, uses, ci, s);
+        place_side(regions, incident, own, uses, ci, s + 2);
+        ci += 1;
+    }
+}
+
+// 6: the lowest edge in over two constraints, by the numbers counted in `uses`: of whatever graph they are the numbers, the answer is its test.
+fn check_overused(uses: &[u16; 256], n: usize) -> Check
+    requires { ⌜ n ≤ 256 ⌝ }
+    ensures { λ r. ⌜ ((g : List Constraint) → ((y : ℕ) → y < n → getD (now (uses .entry)) y 0 ≡ length (incidence g y)) → outcome r ≡ overused-test g 0 n) ⌝ }
+{
+    let mut e = 0;
+    while e < n {
+        if uses[e] > 2 {
+            return Check::Refused(Refusal::EdgeOverused(e as u32));
+        }
+        e += 1;
+    }
+    Check::Passed
+}
+
+// For n edges, on records that passed tests 1 and 3 to 5. If 6 passes too, the tables are those of the search.
+pub(crate) fn build_graph(
+    regions: &[u16],
+    n: usize,
+    incident: &mut [u16; 512],
+    own: &mut [u16; 512],
+) -> Check
+    requires { ⌜ T (is-passed (limits-test places n (now regions))) × T (is-passed (pairs-test places n 0 (region-count places (now regions)) (now regions))) ⌝ }
+    requires { ⌜ (now incident ≡ replicate 512 none) × (length (now own) ≡ 512) ⌝ }
+    ensures { λ r. ⌜ Built n (now (regions .entry)) (now (incident .exit)) (now (own .exit)) (outcome r) ⌝ }
+{
+    let mut uses = [0; 256];
+    place_constraints(regions, incident, own, &mut uses);
+    check_overused(&uses, n)
+}

@@ -1,0 +1,93 @@
+// Rounds and solves on tested input.
+use crate::answer::RoundAnswer;
+use crate::round::apply_changes;
+use crate::round::find_move;
+ghost use mathlib.Core.Path.{_≡_};
+ghost use lib.ListN.{length, replicate};
+ghost use Rattle.counts.specs.Cost.{by-ideals};
+ghost use Rattle.counts.specs.Round.{find-move, solve-from, max-moves};
+ghost use Rattle.counts.specs.Solver.{round-of, round-by};
+ghost use Rattle.counts.specs.Tables.{Tables, the-graph};
+ghost use Rattle.counts.specs.RoundContract.{Buffers, Sized, Tested, solved-of};
+
+fn wide_len(x: u32) -> usize
+    ensures { λ r. ⌜ r ≡ x ⌝ }
+{
+    x as usize
+}
+
+const MAX_MOVES: u32 = 200_000;
+
+// How many moves a solve made, and whether it found a further one after the last that is allowed.
+pub struct MovesMade {
+    pub moves: u32,
+    pub more: bool,
+}
+
+// One round: the move found, if any, is made. The buffers are lent.
+fn round_in(regions: &[u16], incident: &[u16; 512], own: &[u16; 512], ideals: &[f64], counts: &mut [u32], limit: u32, costs: &mut [f64; 512], allowed: &mut [bool; 512], used: &mut [bool; 257], path: &mut [u16; 257], best: &mut [u16; 257], kept: &mut [f64; 512], cut: &mut [bool; 512], known: &mut [bool; 512]) -> RoundAnswer
+    requires { ⌜ Tables (now regions) (now incident) (now own) × Tested (now regions) (now counts) (now ideals) ⌝ }
+    requires { ⌜ Buffers (now used) (now path) (now best) × Sized (now costs) (now allowed) (now kept) (now cut) (now known) ⌝ }
+    ensures { λ r. ⌜ round-of r (now (counts .exit)) ≡ round-by (find-move (the-graph (now (regions .entry))) (by-ideals (now (ideals .entry))) (now (counts .entry)) limit) (now (counts .entry)) ⌝ }
+{
+    let found = find_move(regions, incident, own, ideals, counts, limit, costs, allowed, used, path, best, kept, cut, known);
+    let len = wide_len(found.len);
+    if len == 0 {
+        return RoundAnswer::Idle(found.cut);
+    }
+    apply_changes(counts, best, len);
+    RoundAnswer::Moved(found.kept, found.cut)
+}
+
+pub fn make_round(regions: &[u16], incident: &[u16; 512], own: &[u16; 512], ideals: &[f64], counts: &mut [u32], limit: u32) -> RoundAnswer
+    requires { ⌜ Tables (now regions) (now incident) (now own) × Tested (now regions) (now counts) (now ideals) ⌝ }
+    ensures { λ r. ⌜ round-of r (now (counts .exit)) ≡ round-by (find-move (the-graph (now (regions .entry))) (by-ideals (now (ideals .entry))) (now (counts .entry)) limit) (now (counts .entry)) ⌝ }
+{
+    let mut costs = [0.0; 512];
+    let mut allowed = [false; 512];
+    let mut used = [false; 257];
+    used[256] = true;
+    let mut path = [0; 257];
+    let mut best = [0; 257];
+    let mut kept = [0.0; 512];
+    let mut cut = [false; 512];
+    let mut known = [false; 512];
+    round_in(regions, incident, own, ideals, counts, limit, &mut costs, &mut allowed, &mut used, &mut path, &mut best, &mut kept, &mut cut, &mut known)
+}
+
+// Round after round until one finds no move. The buffers are lent.
+fn moves_in(regions: &[u16], incident: &[u16; 512], own: &[u16; 512], ideals: &[f64], counts: &mut [u32], limit: u32, costs: &mut [f64; 512], allowed: &mut [bool; 512], used: &mut [bool; 257], path: &mut [u16; 257], best: &mut [u16; 257], kept: &mut [f64; 512], cut: &mut [bool; 512], known: &mut [bool; 512]) -> MovesMade
+    requires { ⌜ Tables (now regions) (now incident) (now own) × Tested (now regions) (now counts) (now ideals) × (now counts ≡ replicate (length (now counts)) 0) ⌝ }
+    requires { ⌜ Buffers (now used) (now path) (now best) × Sized (now costs) (now allowed) (now kept) (now cut) (now known) ⌝ }
+    ensures { λ r. ⌜ solved-of r (now (counts .exit)) ≡ solve-from (the-graph (now (regions .entry))) (by-ideals (now (ideals .entry))) limit max-moves 0 (now (counts .entry)) ⌝ }
+{
+    let mut moves = 0;
+    loop {
+        let found = find_move(regions, incident, own, ideals, counts, limit, costs, allowed, used, path, best, kept, cut, known);
+        let len = wide_len(found.len);
+        if len == 0 {
+            return MovesMade { moves, more: false };
+        }
+        if moves == MAX_MOVES {
+            return MovesMade { moves, more: true };
+        }
+        apply_changes(counts, best, len);
+        moves += 1;
+    }
+}
+
+pub fn make_moves(regions: &[u16], incident: &[u16; 512], own: &[u16; 512], ideals: &[f64], counts: &mut [u32], limit: u32) -> MovesMade
+    requires { ⌜ Tables (now regions) (now incident) (now own) × Tested (now regions) (now counts) (now ideals) × (now counts ≡ replicate (length (now counts)) 0) ⌝ }
+    ensures { λ r. ⌜ solved-of r (now (counts .exit)) ≡ solve-from (the-graph (now (regions .entry))) (by-ideals (now (ideals .entry))) limit max-moves 0 (now (counts .entry)) ⌝ }
+{
+    let mut costs = [0.0; 512];
+    let mut allowed = [false; 512];
+    let mut used = [false; 257];
+    used[256] = true;
+    let mut path = [0; 257];
+    let mut best = [0; 257];
+    let mut kept = [0.0; 512];
+    let mut cut = [false; 512];
+    let mut known = [false; 512];
+    moves_in(regions, incident, own, ideals, counts, limit, &mut costs, &mut allowed, &mut used, &mut path, &mut best, &mut kept, &mut cut, &mut known)
+}
