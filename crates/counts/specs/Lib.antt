@@ -7,4 +7,6 @@ pub mod Refusal
 pub mod Region
 pub mod Round
 pub mod Search
+pub mod SearchContract
 pub mod Solver
+pub mod Tables

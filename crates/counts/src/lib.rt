@@ -1,2 +1,3 @@
 mod answer;
 mod refusal;
+mod search;
