@@ -12,7 +12,7 @@ use lib.Dec.{eqb, T, eqb→eq, eqb-refl}
 use lib.Ieee.{Float, nan, lt, sub, add, binary64}
 use Rattle.counts.specs.Lists.{all, member}
 use Rattle.counts.specs.Region.{Constraint, constraint, holds, incidence}
-use Rattle.counts.specs.Move.{Change, allowed, balances, select}
+use Rattle.counts.specs.Move.{Change, balances, select}
 use Rattle.counts.specs.Search.{Act, State, differs, entered, eps, free, is-used, others-changed, path-is-complete, record-path, skip, visit, visit-by}
 use Rattle.counts.specs.Tables.{Other, Tables, after, all-decoded, allowed-in, alone, before, cost-in, decoded, path-of, state-of, the-graph}
 use Rattle.counts.specs.SearchContract.{Crossed, MayCross, MayStep, Stepped, changed-by, dfs-of, try-partner-of, visit-of}
@@ -22,15 +22,15 @@ use Rattle.counts.specs.declared.search.Changed.the-variants.{One}
 use Rattle.counts.proofs.BoolLaws.{T-true, clash, false-T, ne→eqb, not-T-false}
 use Rattle.counts.proofs.ListLaws.{every-in, holds→incidence, in-left, incidence→holds, nothing-in, select-in, set-used, still-used}
 use Rattle.counts.proofs.SearchLaws.{all-used, barred-alone, chain-complete, dfs-enters, dfs-turned-back, enter-none, none-held, record-high, record-incomplete, record-kept, unused-alone}
-use Rattle.counts.proofs.Places.{decoded-append, encoded-decoded, start-in}
-use Rattle.counts.proofs.Steps.{step-taken}
+use Rattle.counts.proofs.Places.{cost-at, decoded-append, start-in}
+use Rattle.counts.proofs.Steps.{nothing-written, step-taken}
 use Rattle.counts.proofs.Scan.{found-one}
 
 pub incomplete : (g : List Constraint) (used : List Bool) (l : List ℕ) (n home : ℕ) (z : List Change) → 1 ≤ n → 1 ≤ length l → T (holds (constraint g home) (getD l 0 0 / 2)) → is-used used home ≡ false → path-is-complete g used (path-of n l ++ z) ≡ false
 incomplete g used l n home z h h' t v =
     not-T-false (path-is-complete g used (path-of n l ++ z)) (λ u. clash (is-used used home)
-      (every-in (is-used used) (incidence g (getD l 0 0 / 2)) (every-in (λ (w : Change). all (is-used used) (incidence g (w .0))) (path-of n l ++ z) u (decoded (getD l 0 0)) (in-left (decoded (getD l 0 0)) (path-of n l) z (start-in l n h h'))) home (holds→incidence g home (getD l 0 0 / 2) t))
-      (false-T (is-used used home) v))
+    (every-in (is-used used) (incidence g (getD l 0 0 / 2)) (every-in (λ (w : Change). all (is-used used) (incidence g (w .0))) (path-of n l ++ z) u (decoded (getD l 0 0)) (in-left (decoded (getD l 0 0)) (path-of n l) z (start-in l n h h'))) home (holds→incidence g home (getD l 0 0 / 2) t))
+    (false-T (is-used used home) v))
 
 -- ---- the end of a chain
 module _ (regions incident own : List ℕ) (costs : List Float) (allowed : List Bool) (limit : ℕ) (used : List Bool) (path best : List ℕ) (n e i d home : ℕ) (t : Float) (st : SearchState) where
@@ -59,30 +59,21 @@ module _ (regions incident own : List ℕ) (costs : List Float) (allowed : List 
   pub end-turned-back : MayStep (the-graph regions) used path n e i d home → d / 2 ≢ e → getD allowed d false ≡ true → Other (the-graph regions) (d / 2) i 256 → limit ≤ st .expansions
       → Stepped regions costs allowed limit used path best n e i d t st used path best (record { kept = st .kept; expansions = st .expansions; len = st .len; cut = true })
   end-turned-back s ne h w l =
-      record {
-        used-kept = refl; path-kept = refl; long-kept = refl; best-kept = refl;
-        answer = dfs-turned-back (the-graph regions) (cost-in costs) (allowed-in allowed) limit (c0 / 2) (eqb (c0 % 2) 1) (free used) used (path-of n path ++ decoded d ∷ []) (d / 2) (eqb (d % 2) 1) cost (state-of st best) l
-          ∙ step-taken regions costs allowed limit used path best n e i d t st home s ne h (barred-alone (the-graph regions) (cost-in costs) (allowed-in allowed) limit (c0 / 2) (eqb (c0 % 2) 1) used (d / 2) i (only w))
-      }
+      nothing-written regions costs allowed limit used path best n e i d t st _ refl (dfs-turned-back (the-graph regions) (cost-in costs) (allowed-in allowed) limit (c0 / 2) (eqb (c0 % 2) 1) (free used) used (path-of n path ++ decoded d ∷ []) (d / 2) (eqb (d % 2) 1) cost (state-of st best) l
+      ∙ step-taken regions costs allowed limit used path best n e i d t st home s ne h (barred-alone (the-graph regions) (cost-in costs) (allowed-in allowed) limit (c0 / 2) (eqb (c0 % 2) 1) used (d / 2) i (only w)))
 
   pub end-open : MayStep (the-graph regions) used path n e i d home → d / 2 ≢ e → getD allowed d false ≡ true → Other (the-graph regions) (d / 2) i 256 → st .expansions < limit → home ≢ 256
       → Stepped regions costs allowed limit used path best n e i d t st used path best (record { kept = st .kept; expansions = st .expansions + 1; len = st .len; cut = st .cut })
   end-open s ne h w l nh =
-      record {
-        used-kept = refl; path-kept = refl; long-kept = refl; best-kept = refl;
-        answer = entered-once ∙ record-incomplete (the-graph regions) used (path-of n path ++ decoded d ∷ []) cost (entered (state-of st best)) (incomplete (the-graph regions) used path n home (decoded d ∷ []) (s .one) (let q = s .path-long in omega (arith, q)) (s .home-is .at-start nh) (s .home-is .unmet nh)) ∙ enters-end s ne h w l
-      }
+      nothing-written regions costs allowed limit used path best n e i d t st _ refl (entered-once ∙ record-incomplete (the-graph regions) used (path-of n path ++ decoded d ∷ []) cost (entered (state-of st best)) (incomplete (the-graph regions) used path n home (decoded d ∷ []) (s .one) (let q = s .path-long in omega (arith, q)) (s .home-is .at-start nh) (s .home-is .unmet nh)) ∙ enters-end s ne h w l)
 
   cost-is : (p : Float) → p ≡ getD costs d nan → add binary64 t p ≡ cost
-  cost-is p q = ap (λ (v : Float). add binary64 t v) (q ∙ ap (λ (m : ℕ). getD costs m nan) (sym (encoded-decoded d)))
+  cost-is p q = ap (λ (v : Float). add binary64 t v) (cost-at costs d p q)
 
   pub end-high : (p : Float) → MayStep (the-graph regions) used path n e i d home → d / 2 ≢ e → getD allowed d false ≡ true → Other (the-graph regions) (d / 2) i 256 → st .expansions < limit → p ≡ getD costs d nan → lt (add binary64 t p) (sub binary64 (st .kept) eps) ≡ false
       → Stepped regions costs allowed limit used path best n e i d t st used path best (record { kept = st .kept; expansions = st .expansions + 1; len = st .len; cut = st .cut })
   end-high p s ne h w l q b =
-      record {
-        used-kept = refl; path-kept = refl; long-kept = refl; best-kept = refl;
-        answer = entered-once ∙ record-high (the-graph regions) used (path-of n path ++ decoded d ∷ []) cost (entered (state-of st best)) (ap (λ (v : Float). lt v (sub binary64 (st .kept) eps)) (sym (cost-is p q)) ∙ b) ∙ enters-end s ne h w l
-      }
+      nothing-written regions costs allowed limit used path best n e i d t st _ refl (entered-once ∙ record-high (the-graph regions) used (path-of n path ++ decoded d ∷ []) cost (entered (state-of st best)) (ap (λ (v : Float). lt v (sub binary64 (st .kept) eps)) (sym (cost-is p q)) ∙ b) ∙ enters-end s ne h w l)
 
   pub end-kept : (p : Float) (best' : List ℕ) → Tables regions incident own → MayStep (the-graph regions) used path n e i d home → d / 2 ≢ e → getD allowed d false ≡ true → Other (the-graph regions) (d / 2) i 256 → st .expansions < limit → home ≡ 256 → p ≡ getD costs d nan → lt (add binary64 t p) (sub binary64 (st .kept) eps) ≡ true
       → take (n + 1) best' ≡ take (n + 1) (set path n d) → length best' ≡ length best
@@ -93,15 +84,17 @@ module _ (regions incident own : List ℕ) (costs : List Float) (allowed : List 
         path-kept = take-set-le n path n d (omega arith);
         long-kept = length-set path n d;
         best-kept = lb;
+        short = λ _. (let r = s .room in omega (arith, r));
         answer = ap (λ (k : ℕ). at k (add binary64 t p) (path-of (n + 1) best')) (add-one (st .expansions)) ∙ ap (λ (v : Float). at (suc (st .expansions)) v (path-of (n + 1) best')) (cost-is p q)
-          ∙ ap (at (suc (st .expansions)) cost) (ap all-decoded tk ∙ ap (λ (k : ℕ). all-decoded (take k (set path n d))) (add-one n) ∙ ap all-decoded (take-suc-set path n d room) ∙ decoded-append (take n path) (d ∷ []))
-          ∙ record-kept (the-graph regions) used (path-of n path ++ decoded d ∷ []) cost (entered (state-of st best)) (ap (λ (v : Float). lt v (sub binary64 (st .kept) eps)) (sym (cost-is p q)) ∙ b)
+            ∙ ap (at (suc (st .expansions)) cost) (ap all-decoded tk ∙ ap (λ (k : ℕ). all-decoded (take k (set path n d))) (add-one n) ∙ ap all-decoded (take-suc-set path n d room) ∙ decoded-append (take n path) (d ∷ []))
+            ∙ record-kept (the-graph regions) used (path-of n path ++ decoded d ∷ []) cost (entered (state-of st best)) (ap (λ (v : Float). lt v (sub binary64 (st .kept) eps)) (sym (cost-is p q)) ∙ b)
             (chain-complete (the-graph regions) used (path-of n path) (decoded d) i (λ j v nj. s .away j v (λ r. nj (r ∙ hm))) (f .numbered) (only w) (s .taken))
-          ∙ enters-end s ne h w l
+            ∙ enters-end s ne h w l;
       }
     where
       room : n < length path
       room = let a = s .path-long in let r = s .room in omega (arith, a, r)
+
       at : ℕ → Float → List Change → State
       at k v l = record { expansions = k; cut = st .cut; kept = v; best = l }
 
@@ -161,7 +154,7 @@ module _ (regions incident own : List ℕ) (costs : List Float) (allowed : List 
   start-there : Tables regions incident own → MayCross (the-graph regions) incident used path n p home → getD incident p 0 ≡ home → rest ≡ [] → ⊥
   start-there f rd e q =
       nothing-in (decoded s0) rest (select-in (λ (k : ℕ). differs (p / 2) k && holds (constraint (the-graph regions) home) k) (decoded s0) (path-of n path) (start-in path n (rd .one) (let a = rd .path-long in omega (arith, a)))
-        (lib.Ieee.Fits.and-i (differs (p / 2) (s0 / 2)) (holds (constraint (the-graph regions) home) (s0 / 2)) (lib.Dec.not-T (eqb (s0 / 2) (p / 2)) (λ u. rd .far e (eqb→eq (s0 / 2) (p / 2) u))) (rd .home-is .at-start (let a = rd .real in λ h. omega (arith, a, e, h))))) q
+      (lib.Ieee.Fits.and-i (differs (p / 2) (s0 / 2)) (holds (constraint (the-graph regions) home) (s0 / 2)) (lib.Dec.not-T (eqb (s0 / 2) (p / 2)) (λ u. rd .far e (eqb→eq (s0 / 2) (p / 2) u))) (rd .home-is .at-start (let a = rd .real in λ h. omega (arith, a, e, h))))) q
 
   abbrev ways : List Change → State
   ways os = visit-by (the-graph regions) (cost-in costs) (allowed-in allowed) limit (s0 / 2) (eqb (s0 % 2) 1) (dfs-of regions costs allowed limit s0 (free used)) used (path-of n path) (p / 2) (eqb (last % 2) 1) t home os (state-of st best)
@@ -172,7 +165,7 @@ module _ (regions incident own : List ℕ) (costs : List Float) (allowed : List 
       ∙ ap (λ (i : ℕ). visit-by (the-graph regions) (cost-in costs) (allowed-in allowed) limit (s0 / 2) (eqb (s0 % 2) 1) (dfs-of regions costs allowed limit s0 (free used)) used (path-of n path) (last / 2) (eqb (last % 2) 1) t i (others-changed (constraint (the-graph regions) i) (last / 2) (path-of n path)) (state-of st best)) (sym e)
 
   stays : MayCross (the-graph regions) incident used path n p home → getD incident p 0 ≡ home → state-of st best ≡ ways rest → Crossed regions incident costs allowed limit used path best n p t st used path best (record { kept = st .kept; expansions = st .expansions; len = st .len; cut = st .cut })
-  stays rd e q = record { used-kept = refl; path-kept = refl; long-kept = refl; best-kept = refl; answer = q ∙ is-visit rd e }
+  stays rd e q = record { used-kept = refl; path-kept = refl; long-kept = refl; best-kept = refl; short = λ h. h; answer = q ∙ is-visit rd e }
 
   abbrev fits-in : Bool
   fits-in = balances (constraint (the-graph regions) home) (decoded s0) (p / 2, eqb (last % 2) 1)
@@ -183,9 +176,11 @@ module _ (regions incident own : List ℕ) (costs : List Float) (allowed : List 
     where
       v' : fits-in ≡ false
       v' = ap (λ (y : ℕ). balances (constraint (the-graph regions) home) (decoded s0) (y, eqb (last % 2) 1)) (sym (rd .here)) ∙ v
+
       no : (b : Bool) (f : Act) → state-of st best ≡ cond (b && false) f skip (state-of st best)
       no true f = refl
       no false f = refl
+
       go : (os : List Change) → (os ≡ [] → ⊥) → state-of st best ≡ ways os
       go [] h = absurd (h refl)
       go (w ∷ []) h = no (eqb (w .0) (s0 / 2)) (record-path (the-graph regions) (set used home true) (path-of n path) t) ∙ ap (λ (b : Bool). cond (eqb (w .0) (s0 / 2) && b) (record-path (the-graph regions) (set used home true) (path-of n path) t) skip (state-of st best)) (sym v')
@@ -198,6 +193,7 @@ module _ (regions incident own : List ℕ) (costs : List Float) (allowed : List 
       no : (b : Bool) → state-of st best ≡ cond b (record-path (the-graph regions) (set used home true) (path-of n path) t) skip (state-of st best)
       no true = record-high (the-graph regions) (set used home true) (path-of n path) t (state-of st best) v
       no false = refl
+
       go : (os : List Change) → (os ≡ [] → ⊥) → state-of st best ≡ ways os
       go [] h = absurd (h refl)
       go (w ∷ []) h = no (eqb (w .0) (s0 / 2) && fits-in)
@@ -216,20 +212,24 @@ module _ (regions incident own : List ℕ) (costs : List Float) (allowed : List 
       → changed-by rest ≡ One (s0 / 2) → take n best' ≡ take n path → length best' ≡ length best
       → Crossed regions incident costs allowed limit used path best n p t st used path best' (record { kept = t; expansions = st .expansions; len = n; cut = st .cut })
   close-kept best' f rd e v l m tk lb =
-      record { used-kept = refl; path-kept = refl; long-kept = refl; best-kept = lb; answer = ap (λ (k : List ℕ). at (all-decoded k)) tk ∙ subst (λ (os : List Change). at (path-of n path) ≡ ways os) (sym (only .1)) (go (only .0) (only .2)) ∙ is-visit rd e }
+      record { used-kept = refl; path-kept = refl; long-kept = refl; best-kept = lb; short = λ _. (let r = rd .room in omega (arith, r)); answer = ap (λ (k : List ℕ). at (all-decoded k)) tk ∙ subst (λ (os : List Change). at (path-of n path) ≡ ways os) (sym (only .1)) (go (only .0) (only .2)) ∙ is-visit rd e }
     where
       at : List Change → State
       at k = record { expansions = st .expansions; cut = st .cut; kept = t; best = k }
+
       v' : fits-in ≡ true
       v' = ap (λ (y : ℕ). balances (constraint (the-graph regions) home) (decoded s0) (y, eqb (last % 2) 1)) (sym (rd .here)) ∙ v
+
       only : (w : Change) × (rest ≡ w ∷ []) × (w .0 ≡ s0 / 2)
       only = found-one rest (s0 / 2) m
+
       whole : path-is-complete (the-graph regions) (set used home true) (path-of n path) ≡ true
       whole = all-used (the-graph regions) (set used home true) (path-of n path) (λ w j i k u.
           let nj : j ≢ home = λ q. clash (is-used (set used home true) j) (subst (λ (x : ℕ). T (is-used (set used home true) x)) (sym q) (set-used used home)) (false-T (is-used (set used home true) j) u) in
           let was : is-used used j ≡ false = not-T-false (is-used used j) (λ x. clash (is-used (set used home true) j) (still-used used home j x) (false-T (is-used (set used home true) j) u)) in
           nothing-in w (select (holds (constraint (the-graph regions) j)) (path-of n path)) (select-in (holds (constraint (the-graph regions) j)) w (path-of n path) i (incidence→holds (the-graph regions) j (w .0) k))
-            (none-held (constraint (the-graph regions) j) (p / 2) (path-of n path) (rd .away j was nj) (λ y. nj (rd .mine j was nj y ∙ e))))
+          (none-held (constraint (the-graph regions) j) (p / 2) (path-of n path) (rd .away j was nj) (λ y. nj (rd .mine j was nj y ∙ e))))
+
       go : (w : Change) → w .0 ≡ s0 / 2 → at (path-of n path) ≡ ways (w ∷ [])
       go w q = record-kept (the-graph regions) (set used home true) (path-of n path) t (state-of st best) l whole
           ∙ ap (λ (b : Bool). cond b (record-path (the-graph regions) (set used home true) (path-of n path) t) skip (state-of st best)) (sym (ap (λ (b : Bool). b && fits-in) (T-true (eqb (w .0) (s0 / 2)) (subst (λ (k : ℕ). T (eqb (w .0) k)) q (eqb-refl (w .0)))) ∙ v'))

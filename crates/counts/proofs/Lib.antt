@@ -12,4 +12,5 @@ pub mod Places
 pub mod Scan
 pub mod SearchLaws
 pub mod Sound
+pub mod Start
 pub mod Steps

@@ -11,7 +11,7 @@ use lib.Dec.{eqb, T, leb}
 use lib.Ieee.{Float, add, binary64}
 use Rattle.counts.specs.Lists.{In, all, any, filter}
 use Rattle.counts.specs.Region.{Constraint, constraint, holds, incidence}
-use Rattle.counts.specs.Move.{Change, allowed, balances}
+use Rattle.counts.specs.Move.{Change, balances}
 use Rattle.counts.specs.Search.{State, dfs, differs, enter, enter-by, entered, eps, free, is-used, keep-reading, may-step, others-changed, partners, record-path, skip, try-step, turned-back, visit, visit-by}
 use Rattle.counts.proofs.BoolLaws.{T-true}
 use Rattle.counts.proofs.ListLaws.{filter-in, free-set, incidence→holds, set-used}
@@ -54,7 +54,7 @@ module _ (g : List Constraint) (edge-cost : ℕ → Bool → Float) (allowed : �
   unfolding try-step
   try-step-like m m' h u v path t i z st a f f' =
       ap (λ (b : Bool). cond (not (any (λ (w : Change). eqb (w .0) (z .0)) path) && (not b && allowed (z .0) (z .1))) (dfs g edge-cost allowed limit x0 s0 m u (path ++ z ∷ []) (z .0) (z .1) (add binary64 t (edge-cost (z .0) (z .1)))) skip st)
-        (any-same (λ (j : ℕ). differs i j && is-used u j) (λ (j : ℕ). differs i j && is-used v j) (incidence g (z .0)) (λ j k. ap (λ (b : Bool). differs i j && b) (a j (z .0) (incidence→holds g j (z .0) k))))
+      (any-same (λ (j : ℕ). differs i j && is-used u j) (λ (j : ℕ). differs i j && is-used v j) (incidence g (z .0)) (λ j k. ap (λ (b : Bool). differs i j && b) (a j (z .0) (incidence→holds g j (z .0) k))))
       ∙ go (may-step g edge-cost allowed limit x0 s0 v path i z)
     where
       go : (b : Bool) → cond b (dfs g edge-cost allowed limit x0 s0 m u (path ++ z ∷ []) (z .0) (z .1) (add binary64 t (edge-cost (z .0) (z .1)))) skip st ≡ cond b (dfs g edge-cost allowed limit x0 s0 m' v (path ++ z ∷ []) (z .0) (z .1) (add binary64 t (edge-cost (z .0) (z .1)))) skip st
@@ -68,6 +68,7 @@ module _ (g : List Constraint) (edge-cost : ℕ → Bool → Float) (allowed : �
     where
       un' : T (not (is-used v i))
       un' = subst (λ (b : Bool). T (not b)) (a i x held) un
+
       by : (os : List Change) → visit-by g edge-cost allowed limit x0 s0 (dfs g edge-cost allowed limit x0 s0 m) u path x s t i os st ≡ visit-by g edge-cost allowed limit x0 s0 (dfs g edge-cost allowed limit x0 s0 m') v path x s t i os st
       by [] = each-same (try-step g edge-cost allowed limit x0 s0 (dfs g edge-cost allowed limit x0 s0 m) (set u i true) path t i) (try-step g edge-cost allowed limit x0 s0 (dfs g edge-cost allowed limit x0 s0 m') (set v i true) path t i) (partners (constraint g i) x s)
           (λ z k st'. try-step-like m m' h (set u i true) (set v i true) path t i z st' (agree-set u v i a) (let q = free-set u i un in omega (arith, q, f)) (let q = free-set v i un' in omega (arith, q, f'))) st

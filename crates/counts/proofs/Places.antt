@@ -10,11 +10,12 @@ use lib.ListN.{length, getD, take, drop, set, length-drop, length-append}
 use lib.Seq.{take-suc, take-suc-set, getD-take, getD-drop, getD-append-add, length-take-le}
 use lib.Dec.{eqb, ltb, T, eqb→eq, lt→ltb}
 use lib.Arith.{le→nltb}
+use lib.Ieee.{Float, nan}
 use Rattle.counts.specs.Lists.{In, member}
 use Rattle.counts.specs.Region.{Constraint, constraint, holds, incidence, incidence-from, opposite-side, own-side}
 use Rattle.counts.specs.Move.{Change}
 use Rattle.counts.specs.Search.{signed}
-use Rattle.counts.specs.Tables.{Other, StandsOn, Tables, across, after, all-decoded, alone, before, decoded, edges-of, encoded, none, path-of, the-graph}
+use Rattle.counts.specs.Tables.{Other, StandsOn, Tables, across, after, all-decoded, alone, before, cost-in, decoded, edges-of, encoded, none, path-of, the-graph}
 use Rattle.counts.specs.SearchContract.{SidesAt, both-sides, both-signed}
 use Rattle.counts.proofs.BoolLaws.{T-true, clash, not-T-false, or-left, or-right}
 use Rattle.counts.proofs.ListLaws.{holds→incidence, incidence-out, incidence→holds, in→member}
@@ -43,6 +44,14 @@ pub start-in : (l : List ℕ) (n : ℕ) → 1 ≤ n → 1 ≤ length l → In (d
 start-in [] n h h' = absurd (omega (arith, h'))
 start-in (x ∷ l) zero h h' = absurd (omega (arith, h))
 start-in (x ∷ l) (suc n) h h' = inl refl
+
+-- the cost of a packed change
+pub cost-at : (costs : List Float) (d : ℕ) (v : Float) → v ≡ getD costs d nan → v ≡ cost-in costs (d / 2) (eqb (d % 2) 1)
+cost-at costs d v e = e ∙ ap (λ (k : ℕ). getD costs k nan) (sym (encoded-decoded d))
+
+-- a path of one change
+pub one-change : {c : ℕ} (l : List ℕ) → 0 < length l → getD l 0 0 ≡ c → take 1 l ≡ c ∷ []
+one-change l h e = take-suc l 0 0 h ∙ ap {B = List ℕ} (λ (k : ℕ). k ∷ []) e
 
 -- ---- entries and sides
 
@@ -119,10 +128,13 @@ module _ (regions incident own : List ℕ) (tables : Tables regions incident own
     where
       first : getD incident (y * 2) 0 ≡ getD (incidence (the-graph regions) y) 0 none
       first = ap (λ (k : ℕ). getD incident k 0) (let q : y * 2 ≡ y * 2 + 0 = omega arith in q) ∙ tables .incident-is y 0 (tables .few i y h) (omega arith)
+
       second : getD incident (y * 2 + 1) 0 ≡ getD (incidence (the-graph regions) y) 1 none
       second = tables .incident-is y 1 (tables .few i y h) (omega arith)
+
       low : (l : List ℕ) → incidence (the-graph regions) y ≡ l → (k : ℕ) → In k l → k < none
       low l e k m = tables .numbered k y (incidence→holds (the-graph regions) k y (subst (λ (s : List ℕ). In k s) (sym e) m))
+
       go : (l : List ℕ) → incidence (the-graph regions) y ≡ l → In i l → TwoPlaces i y
       go [] e m = absurd m
       go (a ∷ []) e (inl q) = inl (first ∙ ap (λ (s : List ℕ). getD s 0 none) e ∙ sym q, alone (second ∙ ap (λ (s : List ℕ). getD s 1 none) e) (e ∙ ap {B = List ℕ} (λ (k : ℕ). k ∷ []) (sym q)))
@@ -130,15 +142,80 @@ module _ (regions incident own : List ℕ) (tables : Tables regions incident own
       go (a ∷ b ∷ []) e (inl q) =
           let one = second ∙ ap (λ (s : List ℕ). getD s 1 none) e in
           let up = rising 0 (the-graph regions) y a b [] e in
-          inl (first ∙ ap (λ (s : List ℕ). getD s 0 none) e ∙ sym q,
-            subst (λ (k : ℕ). Other (the-graph regions) y i k) (sym one) (after (low (a ∷ b ∷ []) e b (inr (inl refl))) (λ r. omega (arith, up, q, r)) (e ∙ ap {B = List ℕ} (λ (k : ℕ). k ∷ b ∷ []) (sym q))))
+          inl (
+            first ∙ ap (λ (s : List ℕ). getD s 0 none) e ∙ sym q,
+            subst (λ (k : ℕ). Other (the-graph regions) y i k) (sym one) (after (low (a ∷ b ∷ []) e b (inr (inl refl))) (λ r. omega (arith, up, q, r)) (e ∙ ap {B = List ℕ} (λ (k : ℕ). k ∷ b ∷ []) (sym q))),
+          )
       go (a ∷ b ∷ []) e (inr (inl q)) =
           let zeroth = first ∙ ap (λ (s : List ℕ). getD s 0 none) e in
           let up = rising 0 (the-graph regions) y a b [] e in
-          inr (second ∙ ap (λ (s : List ℕ). getD s 1 none) e ∙ sym q, (λ r. omega (arith, up, q, zeroth, r)),
-            subst (λ (k : ℕ). Other (the-graph regions) y i k) (sym zeroth) (before (low (a ∷ b ∷ []) e a (inl refl)) (λ r. omega (arith, up, q, r)) (e ∙ ap {B = List ℕ} (λ (k : ℕ). a ∷ k ∷ []) (sym q))))
+          inr (
+            second ∙ ap (λ (s : List ℕ). getD s 1 none) e ∙ sym q,
+            (λ r. omega (arith, up, q, zeroth, r)),
+            subst (λ (k : ℕ). Other (the-graph regions) y i k) (sym zeroth) (before (low (a ∷ b ∷ []) e a (inl refl)) (λ r. omega (arith, up, q, r)) (e ∙ ap {B = List ℕ} (λ (k : ℕ). a ∷ k ∷ []) (sym q))),
+          )
       go (a ∷ b ∷ []) e (inr (inr m)) = absurd m
       go (a ∷ b ∷ c ∷ l) e m = let q = tables .thin y in let r = ap length e in absurd (omega (arith, q, r))
+
+  -- the same the other way round: the constraints of an edge, by the entries at its two places
+  module _ (y : ℕ) (h : y < 256) where
+    first-is : getD incident (y * 2) 0 ≡ getD (incidence (the-graph regions) y) 0 none
+    first-is = ap (λ (k : ℕ). getD incident k 0) (let q : y * 2 ≡ y * 2 + 0 = omega arith in q) ∙ tables .incident-is y 0 h (omega arith)
+
+    second-is : getD incident (y * 2 + 1) 0 ≡ getD (incidence (the-graph regions) y) 1 none
+    second-is = tables .incident-is y 1 h (omega arith)
+
+    low-in : (l : List ℕ) → incidence (the-graph regions) y ≡ l → (k : ℕ) → In k l → k < none
+    low-in l e k m = tables .numbered k y (incidence→holds (the-graph regions) k y (subst (λ (s : List ℕ). In k s) (sym e) m))
+
+    pub no-constraint : getD incident (y * 2) 0 ≡ none → incidence (the-graph regions) y ≡ []
+    no-constraint q = go (incidence (the-graph regions) y) refl
+      where
+        go : (l : List ℕ) → incidence (the-graph regions) y ≡ l → l ≡ []
+        go [] e = refl
+        go (a ∷ l) e =
+            let b = low-in (a ∷ l) e a (inl refl) in
+            let f = sym q ∙ first-is ∙ ap (λ (s : List ℕ). getD s 0 none) e in
+            absurd (omega (arith, b, f))
+
+    pub one-constraint : getD incident (y * 2) 0 < none → getD incident (y * 2 + 1) 0 ≡ none → incidence (the-graph regions) y ≡ getD incident (y * 2) 0 ∷ []
+    one-constraint p q = go (incidence (the-graph regions) y) refl
+      where
+        go : (l : List ℕ) → incidence (the-graph regions) y ≡ l → l ≡ getD incident (y * 2) 0 ∷ []
+        go [] e = let f = first-is ∙ ap (λ (s : List ℕ). getD s 0 none) e in absurd (omega (arith, p, f))
+        go (a ∷ []) e = ap {B = List ℕ} (λ (k : ℕ). k ∷ []) (sym (first-is ∙ ap (λ (s : List ℕ). getD s 0 none) e))
+        go (a ∷ b ∷ l) e =
+            let c = low-in (a ∷ b ∷ l) e b (inr (inl refl)) in
+            let f = sym q ∙ second-is ∙ ap (λ (s : List ℕ). getD s 1 none) e in
+            absurd (omega (arith, c, f))
+
+    pub two-constraints : getD incident (y * 2 + 1) 0 < none → incidence (the-graph regions) y ≡ getD incident (y * 2) 0 ∷ getD incident (y * 2 + 1) 0 ∷ []
+    two-constraints p = go (incidence (the-graph regions) y) refl
+      where
+        go : (l : List ℕ) → incidence (the-graph regions) y ≡ l → l ≡ getD incident (y * 2) 0 ∷ getD incident (y * 2 + 1) 0 ∷ []
+        go [] e = let f = second-is ∙ ap (λ (s : List ℕ). getD s 1 none) e in absurd (omega (arith, p, f))
+        go (a ∷ []) e = let f = second-is ∙ ap (λ (s : List ℕ). getD s 1 none) e in absurd (omega (arith, p, f))
+        go (a ∷ b ∷ []) e =
+            ap {B = List ℕ} (λ (k : ℕ). k ∷ b ∷ []) (sym (first-is ∙ ap (λ (s : List ℕ). getD s 0 none) e))
+            ∙ ap {B = List ℕ} (λ (k : ℕ). getD incident (y * 2) 0 ∷ k ∷ []) (sym (second-is ∙ ap (λ (s : List ℕ). getD s 1 none) e))
+        go (a ∷ b ∷ c ∷ l) e = let q = tables .thin y in let r = ap length e in absurd (omega (arith, q, r))
+
+-- ---- the other constraint of an edge
+
+pub other-in : (g : List Constraint) (y i o j : ℕ) → Other g y i o → In j (incidence g y) → (j ≡ i) ⊎ (j ≡ o)
+other-in g y i o j (alone e q) m = elim (subst (λ (l : List ℕ). In j l) q m) [ inl a ↦ inl a | inr a ↦ absurd a ]
+other-in g y i o j (after l n q) m = elim (subst (λ (l : List ℕ). In j l) q m) [ inl a ↦ inl a | inr (inl a) ↦ inr a | inr (inr a) ↦ absurd a ]
+other-in g y i o j (before l n q) m = elim (subst (λ (l : List ℕ). In j l) q m) [ inl a ↦ inr a | inr (inl a) ↦ inl a | inr (inr a) ↦ absurd a ]
+
+pub other-held : (g : List Constraint) (y i o : ℕ) → Other g y i o → o ≢ none → T (holds (constraint g o) y)
+other-held g y i o (alone e q) n = absurd (n e)
+other-held g y i o (after l d q) n = incidence→holds g o y (subst (λ (l : List ℕ). In o l) (sym q) (inr (inl refl)))
+other-held g y i o (before l d q) n = incidence→holds g o y (subst (λ (l : List ℕ). In o l) (sym q) (inl refl))
+
+pub other-differs : (g : List Constraint) (y i o : ℕ) → Other g y i o → i < none → i ≢ o
+other-differs g y i o (alone e q) l = λ r. omega (arith, e, l, r)
+other-differs g y i o (after h n q) l = λ r. n (sym r)
+other-differs g y i o (before h n q) l = λ r. n (sym r)
 
 -- ---- the place of a constraint, and of the other one
 
@@ -186,13 +263,15 @@ sides-at regions i x s s' a b d e p q =
       in-order = omega arith;
       few = (let k = few' in let l = d .own-few in omega (arith, k, l, p, q));
       count = p' ∙ ap (λ (n : ℕ). n + b) p ∙ ap (λ (n : ℕ). getD regions (s' * 17) 0 + n) q ∙ sym (ap (λ (n : ℕ). n + length (own-side (constraint (the-graph regions) i) x)) (ap length (d .opposite-is) ∙ ap (λ (k : ℕ). length (edges-of regions k)) (sym e) ∙ length-edges-of regions s' fits' few')
-        ∙ ap (λ (n : ℕ). getD regions (s' * 17) 0 + n) (ap length (d .own-is) ∙ length-edges-of regions s (d .own-fits) (d .own-few)))
+          ∙ ap (λ (n : ℕ). getD regions (s' * 17) 0 + n) (ap length (d .own-is) ∙ length-edges-of regions s (d .own-fits) (d .own-few)));
     }
   where
     p' : a + b ≡ a + b
     p' = refl
+
     fits' : s' * 17 + 17 ≤ length regions
     fits' = subst (λ (k : ℕ). k * 17 + 17 ≤ length regions) (sym e) (d .opposite-fits)
+
     few' : getD regions (s' * 17) 0 ≤ 16
     few' = subst (λ (k : ℕ). getD regions (k * 17) 0 ≤ 16) (sym e) (d .opposite-few)
 
@@ -243,45 +322,62 @@ abbrev Partner : List ℕ → ℕ → ℕ → ℕ → ℕ → ℕ → Type 0
 Partner regions i x c j r = (r < 512) × T (holds (constraint (the-graph regions) i) (r / 2)) × (decoded r ≡ getD (both-signed (constraint (the-graph regions) i) x (eqb (c % 2) 1)) j (decoded 0))
 
 pub partner-opposite : (regions incident own : List ℕ) (i x a b b' total c j y : ℕ) → Tables regions incident own → SidesAt regions i x a b b' total → j < b → y ≡ getD regions (a + j) 0 → Partner regions i x c j (y * 2 + c % 2)
-partner-opposite regions incident own i x a b b' total c j y f l h e =
-    (omega (arith, below), subst (λ (k : ℕ). T (holds (constraint (the-graph regions) i) k)) (let q : y ≡ (y * 2 + c % 2) / 2 = omega arith in q) there,
-      decoded-of y (c % 2) (y * 2 + c % 2) (omega arith) refl ∙ ap (λ (k : ℕ). (k, eqb (c % 2) 1)) same ∙ sym (getD-signed (eqb (c % 2) 1) A j (decoded 0) in-A) ∙ sym (getD-left (signed (eqb (c % 2) 1) A) (signed (not (eqb (c % 2) 1)) (own-side (constraint (the-graph regions) i) x)) j (decoded 0) (let q = length-signed (eqb (c % 2) 1) A in omega (arith, q, in-A))))
+partner-opposite regions incident own i x a b b' total c j y f l h e = (
+  omega (arith, below),
+  subst (λ (k : ℕ). T (holds (constraint (the-graph regions) i) k)) (let q : y ≡ (y * 2 + c % 2) / 2 = omega arith in q) there,
+  decoded-of y (c % 2) (y * 2 + c % 2) (omega arith) refl ∙ ap (λ (k : ℕ). (k, eqb (c % 2) 1)) same ∙ sym (getD-signed (eqb (c % 2) 1) A j (decoded 0) in-A) ∙ sym (getD-left (signed (eqb (c % 2) 1) A) (signed (not (eqb (c % 2) 1)) (own-side (constraint (the-graph regions) i) x)) j (decoded 0) (let q = length-signed (eqb (c % 2) 1) A in omega (arith, q, in-A))),
+)
   where
     A : List ℕ
     A = opposite-side (constraint (the-graph regions) i) x
+
     long : length A ≡ b
     long = ap length (l .opposite-is) ∙ length-take-le b (drop a regions) (let q = length-drop a regions in let r = l .opposite-fits in omega (arith, q, r))
+
     in-A : j < length A
     in-A = omega (arith, long, h)
+
     same : y ≡ getD A j 0
     same = e ∙ sym (getD-drop a regions j 0) ∙ sym (getD-take b (drop a regions) j 0 h) ∙ ap (λ (k : List ℕ). getD k j 0) (sym (l .opposite-is))
+
     there : T (holds (constraint (the-graph regions) i) y)
     there = opposite-holds (constraint (the-graph regions) i) x y (member x (constraint (the-graph regions) i .a)) (in→member y A (subst (λ (k : ℕ). In k A) (sym same) (in-getD A j in-A)))
+
     below : y < 256
     below = f .few i y there
 
 pub partner-own : (regions incident own : List ℕ) (i x a b b' total c j y : ℕ) → Tables regions incident own → SidesAt regions i x a b b' total → b ≤ j → j < total → y ≡ getD regions (b' + (j - b)) 0 → Partner regions i x c j (y * 2 + (1 - c % 2))
-partner-own regions incident own i x a b b' total c j y f l h h' e =
-    (omega (arith, below), subst (λ (k : ℕ). T (holds (constraint (the-graph regions) i) k)) (let q : y ≡ (y * 2 + (1 - c % 2)) / 2 = omega arith in q) there,
-      decoded-of y (1 - c % 2) (y * 2 + (1 - c % 2)) (omega arith) refl ∙ ap (λ (k : Bool). (y, k)) turned ∙ ap (λ (k : ℕ). (k, not (eqb (c % 2) 1))) same ∙ sym (getD-signed (not (eqb (c % 2) 1)) B (j - b) (decoded 0) in-B)
-      ∙ sym (getD-append-add (signed (eqb (c % 2) 1) A) (signed (not (eqb (c % 2) 1)) B) (j - b) (decoded 0)) ∙ ap (λ (k : ℕ). getD (both-signed (constraint (the-graph regions) i) x (eqb (c % 2) 1)) k (decoded 0)) (let q = length-signed (eqb (c % 2) 1) A in omega (arith, q, long, h)))
+partner-own regions incident own i x a b b' total c j y f l h h' e = (
+  omega (arith, below),
+  subst (λ (k : ℕ). T (holds (constraint (the-graph regions) i) k)) (let q : y ≡ (y * 2 + (1 - c % 2)) / 2 = omega arith in q) there,
+  decoded-of y (1 - c % 2) (y * 2 + (1 - c % 2)) (omega arith) refl ∙ ap (λ (k : Bool). (y, k)) turned ∙ ap (λ (k : ℕ). (k, not (eqb (c % 2) 1))) same ∙ sym (getD-signed (not (eqb (c % 2) 1)) B (j - b) (decoded 0) in-B)
+      ∙ sym (getD-append-add (signed (eqb (c % 2) 1) A) (signed (not (eqb (c % 2) 1)) B) (j - b) (decoded 0)) ∙ ap (λ (k : ℕ). getD (both-signed (constraint (the-graph regions) i) x (eqb (c % 2) 1)) k (decoded 0)) (let q = length-signed (eqb (c % 2) 1) A in omega (arith, q, long, h)),
+)
   where
     A : List ℕ
     A = opposite-side (constraint (the-graph regions) i) x
+
     B : List ℕ
     B = own-side (constraint (the-graph regions) i) x
+
     long : length A ≡ b
     long = ap length (l .opposite-is) ∙ length-take-le b (drop a regions) (let q = length-drop a regions in let r = l .opposite-fits in omega (arith, q, r))
+
     long' : length B ≡ total - b
     long' = ap length (l .own-is) ∙ length-take-le (total - b) (drop b' regions) (let q = length-drop b' regions in let r = l .own-fits in omega (arith, q, r))
+
     in-B : j - b < length B
     in-B = omega (arith, long', h, h')
+
     same : y ≡ getD B (j - b) 0
     same = e ∙ sym (getD-drop b' regions (j - b) 0) ∙ sym (getD-take (total - b) (drop b' regions) (j - b) 0 (omega (arith, h, h'))) ∙ ap (λ (k : List ℕ). getD k (j - b) 0) (sym (l .own-is))
+
     there : T (holds (constraint (the-graph regions) i) y)
     there = own-holds (constraint (the-graph regions) i) x y (member x (constraint (the-graph regions) i .a)) (in→member y B (subst (λ (k : ℕ). In k B) (sym same) (in-getD B (j - b) in-B)))
+
     below : y < 256
     below = f .few i y there
+
     turned : eqb (1 - c % 2) 1 ≡ not (eqb (c % 2) 1)
     turned = go (c % 2) (let q : c % 2 < 2 = omega arith in q)
       where

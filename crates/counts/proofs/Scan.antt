@@ -114,9 +114,9 @@ scan-first c x l i found e h q s z m =
 pub scan-second : (c : Constraint) (x : ℕ) (l : List ℕ) (i n : ℕ) (found : Changed) (e : ℕ) → i < n → i < length l → e ≡ getD l i 0 / 2 → SoFar c x l i found → found ≢ Nothing → hit c x e ≡ true → SoFar c x l n Many
 scan-second c x l i n found e h h' q s z m =
     sym (ap changed-by (ap (λ (k : ℕ). others-changed c x (path-of k l)) (let r : n ≡ (i + 1) + (n - (i + 1)) = omega (arith, h) in r) ∙ ap (λ (k : List ℕ). others-changed c x (all-decoded k)) (take-add (i + 1) (n - (i + 1)) l) ∙ ap (others-changed c x) (decoded-append (take (i + 1) l) (take (n - (i + 1)) (drop (i + 1) l)))
-      ∙ select-append (λ (e : ℕ). differs x e && holds c e) (path-of (i + 1) l) (path-of (n - (i + 1)) (drop (i + 1) l))
-      ∙ ap (λ (k : List Change). k ++ others-changed c x (path-of (n - (i + 1)) (drop (i + 1) l))) (path-more c x l i h' ∙ ap (λ (b : Bool). others-changed c x (path-of i l) ++ cond {A = List Change} b (decoded (getD l i 0) ∷ []) []) (sym (ap (hit c x) q) ∙ m)))
-      ∙ two (others-changed c x (path-of i l)) (others-changed c x (path-of (n - (i + 1)) (drop (i + 1) l))) (λ r. z (s ∙ ap changed-by r)))
+    ∙ select-append (λ (e : ℕ). differs x e && holds c e) (path-of (i + 1) l) (path-of (n - (i + 1)) (drop (i + 1) l))
+    ∙ ap (λ (k : List Change). k ++ others-changed c x (path-of (n - (i + 1)) (drop (i + 1) l))) (path-more c x l i h' ∙ ap (λ (b : Bool). others-changed c x (path-of i l) ++ cond {A = List Change} b (decoded (getD l i 0) ∷ []) []) (sym (ap (hit c x) q) ∙ m)))
+    ∙ two (others-changed c x (path-of i l)) (others-changed c x (path-of (n - (i + 1)) (drop (i + 1) l))) (λ r. z (s ∙ ap changed-by r)))
   where
     two : (os r : List Change) → (os ≡ [] → ⊥) → changed-by ((os ++ decoded (getD l i 0) ∷ []) ++ r) ≡ Many
     two [] r k = absurd (k refl)

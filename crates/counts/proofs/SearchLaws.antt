@@ -12,7 +12,7 @@ use lib.Arith.{lt→nleb}
 use lib.Ieee.{Float, lt, sub, add, binary64}
 use Rattle.counts.specs.Lists.{In, all, any, each, filter, member}
 use Rattle.counts.specs.Region.{Constraint, constraint, holds, incidence, opposite-side, own-side}
-use Rattle.counts.specs.Move.{Change, allowed, select}
+use Rattle.counts.specs.Move.{Change, select}
 use Rattle.counts.specs.Search.{Act, Go, State, dfs, differs, enter, enter-by, entered, eps, is-used, keep-reading, may-step, others-changed, partners, path-is-complete, record-path, signed, skip, try-step, turned-back, visit, visit-by}
 use Rattle.counts.specs.Tables.{Other, after, alone, before}
 use Rattle.counts.specs.SearchContract.{both-signed}
@@ -140,6 +140,7 @@ each-opposite f x s (y ∷ l) st e =
     go : (a b : Bool) → (a || b) ≡ false → (a ≡ false) × (b ≡ false)
     go true b q = absurd (true≢false q)
     go false b q = (refl, q)
+
     other-way : eqb y x ≡ false
     other-way = not-T-false (eqb y x) (λ u. clash (eqb x y) (subst (λ (k : ℕ). T (eqb x k)) (sym (eqb→eq y x u)) (eqb-refl x)) (false-T (eqb x y) (go (eqb x y) (member x l) e .0)))
 
@@ -193,9 +194,9 @@ not-on-path c x y path e h n = not-T-false (any (λ (w : Change). eqb (w .0) y) 
 pub none-but-next : (c : Constraint) (y : ℕ) (s : Bool) (path : List Change) → select (holds c) path ≡ [] → others-changed c y (path ++ (y, s) ∷ []) ≡ []
 none-but-next c y s path e =
     select-none (λ (k : ℕ). differs y k && holds c k) (path ++ (y, s) ∷ []) (λ z i t. elim (in-split z path ((y, s) ∷ []) i) [
-      inl j ↦ nothing-in z (select (holds c) path) (select-in (holds c) z path j (lib.Ieee.Fits.and-r (differs y (z .0)) (holds c (z .0)) t)) e
-    | inr (inl q) ↦ clash (eqb (z .0) y) (subst (λ (w : Change). T (eqb (w .0) y)) (sym q) (eqb-refl y)) (lib.Ieee.Fits.and-l (differs y (z .0)) (holds c (z .0)) t)
-    | inr (inr q) ↦ absurd q
+      | inl j ↦ nothing-in z (select (holds c) path) (select-in (holds c) z path j (lib.Ieee.Fits.and-r (differs y (z .0)) (holds c (z .0)) t)) e
+      | inr (inl q) ↦ clash (eqb (z .0) y) (subst (λ (w : Change). T (eqb (w .0) y)) (sym q) (eqb-refl y)) (lib.Ieee.Fits.and-l (differs y (z .0)) (holds c (z .0)) t)
+      | inr (inr q) ↦ absurd q
     ])
 
 -- ---- complete, or not
@@ -210,9 +211,9 @@ pub chain-complete : (g : List Constraint) (used : List Bool) (path : List Chang
     → ((j : ℕ) → is-used used j ≡ false → j ≢ 256 → select (holds (constraint g j)) path ≡ []) → ((j y : ℕ) → T (holds (constraint g j) y) → j < 256) → incidence g (z .0) ≡ i ∷ [] → is-used used i ≡ true → path-is-complete g used (path ++ z ∷ []) ≡ true
 chain-complete g used path z i away few one u =
     all-used g used (path ++ z ∷ []) (λ w j m k v. elim (in-split w path (z ∷ []) m) [
-      inl a ↦ nothing-in w (select (holds (constraint g j)) path) (select-in (holds (constraint g j)) w path a (incidence→holds g j (w .0) k)) (away j v (λ q. let b = few j (w .0) (incidence→holds g j (w .0) k) in omega (arith, b, q)))
-    | inr (inl a) ↦ end j v (subst (λ (l : List ℕ). In j l) one (subst (λ (y : Change). In j (incidence g (y .0))) a k))
-    | inr (inr a) ↦ absurd a
+      | inl a ↦ nothing-in w (select (holds (constraint g j)) path) (select-in (holds (constraint g j)) w path a (incidence→holds g j (w .0) k)) (away j v (λ q. let b = few j (w .0) (incidence→holds g j (w .0) k) in omega (arith, b, q)))
+      | inr (inl a) ↦ end j v (subst (λ (l : List ℕ). In j l) one (subst (λ (y : Change). In j (incidence g (y .0))) a k))
+      | inr (inr a) ↦ absurd a
     ])
   where
     end : (j : ℕ) → is-used used j ≡ false → In j (i ∷ []) → ⊥

@@ -7,13 +7,13 @@ use mathlib.Core.Path.{_≡_}
 use mathlib.Core.Bool.{Bool, true, false, not, cond}
 use mathlib.Core.List.{List, [], _∷_, _++_}
 use Prim.Native.Nat.{ℕ, suc, _+_, _-_, _*_, _/_, _%_, _≤_, _<_}
-use lib.ListN.{length, getD, take, drop}
+use lib.ListN.{length, getD, take, drop, set, replicate}
 use lib.Dec.{eqb, T}
 use lib.Ieee.{Float}
 use Rattle.counts.specs.Lists.{any}
 use Rattle.counts.specs.Region.{Constraint, constraint, holds, own-side, opposite-side}
 use Rattle.counts.specs.Move.{Change, select}
-use Rattle.counts.specs.Search.{Go, Act, skip, differs, signed, others-changed, is-used, free, try-step, visit, dfs}
+use Rattle.counts.specs.Search.{Go, Act, skip, differs, signed, others-changed, is-used, free, try-step, visit, dfs, run}
 use Rattle.counts.specs.Tables.{decoded, path-of, state-of, the-graph, cost-in, allowed-in, none}
 use Rattle.counts.specs.declared.search.SearchState.{SearchState}
 use Rattle.counts.specs.declared.search.Changed.{Changed}
@@ -105,6 +105,7 @@ pub record Crossed (regions incident : List ℕ) (costs : List Float) (allowed :
   pub path-kept : take n path' ≡ take n path
   pub long-kept : length path' ≡ length path
   pub best-kept : length best' ≡ length best
+  pub short : st .len ≤ 257 → r .len ≤ 257
   pub answer : state-of r best' ≡ visit-of regions costs allowed limit (getD path 0 0) (free used) used (path-of n path) (getD path (n - 1) 0) t (getD incident p 0) (state-of st best)
 
 pub record Stepped (regions : List ℕ) (costs : List Float) (allowed : List Bool) (limit : ℕ) (used : List Bool) (path best : List ℕ) (n e i d : ℕ) (t : Float) (st : SearchState)
@@ -113,4 +114,18 @@ pub record Stepped (regions : List ℕ) (costs : List Float) (allowed : List Boo
   pub path-kept : take n path' ≡ take n path
   pub long-kept : length path' ≡ length path
   pub best-kept : length best' ≡ length best
+  pub short : st .len ≤ 257 → r .len ≤ 257
   pub answer : state-of r best' ≡ try-partner-of regions costs allowed limit (getD path 0 0) (suc (free used)) used (path-of n path) e t i (decoded d) (state-of st best)
+
+-- ---- the whole search from one start
+
+-- the marks that it starts with: no constraint is used yet, and `none` always counts as used
+unfoldable pub no-marks : List Bool
+no-marks = set (replicate 257 false) none true
+
+pub record Searched (regions : List ℕ) (costs : List Float) (allowed : List Bool) (limit start : ℕ) (used' : List Bool) (path' best' : List ℕ) (r : SearchState) : Type 0 where
+  pub used-kept : used' ≡ no-marks
+  pub long-kept : length path' ≡ 257
+  pub best-kept : length best' ≡ 257
+  pub short : r .len ≤ 257
+  pub answer : state-of r best' ≡ run (the-graph regions) (cost-in costs) (allowed-in allowed) limit (start / 2) (eqb (start % 2) 1)

@@ -11,13 +11,13 @@ ghost use mathlib.Core.Bool.{true, false};
 ghost use Prim.Native.Nat.{ℕ, _+_, _-_, _*_, _/_, _%_, _≤_, _<_, suc};
 ghost use lib.ListN.{length, take, getD};
 ghost use lib.Dec.{T, eqb};
-ghost use lib.Ieee.{nan};
+ghost use lib.Ieee.{nan, inf};
 ghost use Rattle.counts.specs.Lists.{member};
 ghost use Rattle.counts.specs.Region.{constraint, holds};
 ghost use Rattle.counts.specs.Move.{balances};
 ghost use Rattle.counts.specs.Search.{is-used, others-changed};
 ghost use Rattle.counts.specs.Tables.{decoded, path-of, the-graph, across, Other, Tables};
-ghost use Rattle.counts.specs.SearchContract.{both-sides, both-signed, changed-by, SidesAt, MayCross, MayStep, Crossed, Stepped};
+ghost use Rattle.counts.specs.SearchContract.{both-sides, both-signed, changed-by, SidesAt, MayCross, MayStep, Crossed, Stepped, no-marks, Searched};
 
 // The kept cost and the length of the kept reading, how many entries there were, and whether one was turned back.
 pub struct SearchState {
@@ -86,7 +86,13 @@ fn number_at(regions: &[u16], i: usize) -> usize
 }
 
 // The place of the edge's constraint besides ci.
-fn other_place(regions: &[u16], incident: &[u16; 512], own: &[u16; 512], edge: usize, ci: usize) -> usize
+fn other_place(
+    regions: &[u16],
+    incident: &[u16; 512],
+    own: &[u16; 512],
+    edge: usize,
+    ci: usize,
+) -> usize
     requires { ⌜ Tables (now regions) (now incident) (now own) ⌝ }
     requires { ⌜ T (holds (constraint (the-graph (now regions)) ci) edge) ⌝ }
     ensures { λ r. ⌜ (r < 512) × (r / 2 ≡ edge) × (getD (now (incident .entry)) r 0 ≤ 256) × Other (the-graph (now (regions .entry))) edge ci (getD (now (incident .entry)) r 0) ⌝ }
@@ -96,7 +102,13 @@ fn other_place(regions: &[u16], incident: &[u16; 512], own: &[u16; 512], edge: u
 }
 
 // The place of the edge's constraint ci.
-fn place_in(regions: &[u16], incident: &[u16; 512], own: &[u16; 512], edge: usize, ci: usize) -> usize
+fn place_in(
+    regions: &[u16],
+    incident: &[u16; 512],
+    own: &[u16; 512],
+    edge: usize,
+    ci: usize,
+) -> usize
     requires { ⌜ Tables (now regions) (now incident) (now own) ⌝ }
     requires { ⌜ T (holds (constraint (the-graph (now regions)) ci) edge) ⌝ }
     ensures { λ r. ⌜ (r < 512) × (r / 2 ≡ edge) × (getD (now (incident .entry)) r 0 ≡ ci) ⌝ }
@@ -133,22 +145,46 @@ fn sides_of(regions: &[u16], incident: &[u16; 512], own: &[u16; 512], place: usi
     let there = opposite(here);
     let split = number_at(regions, there * 17);
     let count = number_at(regions, here * 17);
-    Sides { opposite: there * 17 + 1, split, own: here * 17 + 1, total: split + count }
+    Sides {
+        opposite: there * 17 + 1,
+        split,
+        own: here * 17 + 1,
+        total: split + count,
+    }
 }
 
 // The edge at j of the two sides.
-fn edge_at(regions: &[u16], incident: &[u16; 512], own: &[u16; 512], sides: Sides, place: usize, j: usize) -> usize
+fn edge_at(
+    regions: &[u16],
+    incident: &[u16; 512],
+    own: &[u16; 512],
+    sides: Sides,
+    place: usize,
+    j: usize,
+) -> usize
     requires { ⌜ Tables (now regions) (now incident) (now own) ⌝ }
     requires { ⌜ SidesAt (now regions) (getD (now incident) place 0) (place / 2) (sides .opposite) (sides .split) (sides .own) (sides .total) ⌝ }
     requires { ⌜ j < sides .total ⌝ }
     ensures { λ r. ⌜ r ≡ getD (both-sides (constraint (the-graph (now (regions .entry))) (getD (now (incident .entry)) place 0)) (place / 2)) j 0 ⌝ }
 {
     let split = sides.split;
-    if j < split { number_at(regions, sides.opposite + j) } else { number_at(regions, sides.own + (j - split)) }
+    if j < split {
+        number_at(regions, sides.opposite + j)
+    } else {
+        number_at(regions, sides.own + (j - split))
+    }
 }
 
 // The same as a change that could follow: the same sign on the opposite side, the other sign on the own side.
-fn partner(regions: &[u16], incident: &[u16; 512], own: &[u16; 512], sides: Sides, place: usize, change: usize, j: usize) -> usize
+fn partner(
+    regions: &[u16],
+    incident: &[u16; 512],
+    own: &[u16; 512],
+    sides: Sides,
+    place: usize,
+    change: usize,
+    j: usize,
+) -> usize
     requires { ⌜ Tables (now regions) (now incident) (now own) ⌝ }
     requires { ⌜ SidesAt (now regions) (getD (now incident) place 0) (place / 2) (sides .opposite) (sides .split) (sides .own) (sides .total) ⌝ }
     requires { ⌜ j < sides .total ⌝ }
@@ -163,7 +199,15 @@ fn partner(regions: &[u16], incident: &[u16; 512], own: &[u16; 512], sides: Side
 }
 
 // Whether the start's change and another one, at a place of `home`, balance there.
-fn balances_with_start(regions: &[u16], incident: &[u16; 512], own: &[u16; 512], place: usize, change: usize, start: usize, home: usize) -> bool
+fn balances_with_start(
+    regions: &[u16],
+    incident: &[u16; 512],
+    own: &[u16; 512],
+    place: usize,
+    change: usize,
+    start: usize,
+    home: usize,
+) -> bool
     requires { ⌜ Tables (now regions) (now incident) (now own) ⌝ }
     requires { ⌜ (place < 512) × (place / 2 ≡ change / 2) × (getD (now incident) place 0 ≡ home) × (home < 256) × T (holds (constraint (the-graph (now regions)) home) (start / 2)) ⌝ }
     ensures { λ r. ⌜ r ≡ balances (constraint (the-graph (now (regions .entry))) home) (decoded start) (decoded change) ⌝ }
@@ -184,7 +228,14 @@ fn balances_with_start(regions: &[u16], incident: &[u16; 512], own: &[u16; 512],
 }
 
 // The changed edges that the constraint at a place holds besides the place's own edge; left at the second one found.
-fn changed_in(regions: &[u16], incident: &[u16; 512], own: &[u16; 512], place: usize, path: &[u16; 257], depth: usize) -> Changed
+fn changed_in(
+    regions: &[u16],
+    incident: &[u16; 512],
+    own: &[u16; 512],
+    place: usize,
+    path: &[u16; 257],
+    depth: usize,
+) -> Changed
     requires { ⌜ Tables (now regions) (now incident) (now own) ⌝ }
     requires { ⌜ (place < 512) × (getD (now incident) place 0 < 256) ⌝ }
     requires { ⌜ (depth ≤ 257) × (length (now path) ≡ 257) ⌝ }
@@ -233,7 +284,24 @@ fn keep_path(path: &[u16; 257], depth: usize, best: &mut [u16; 257])
 }
 
 // The entry to an edge whose constraints are all used: a chain ends there, complete if the start has no open constraint.
-fn end_chain(regions: &[u16], incident: &[u16; 512], own: &[u16; 512], costs: &[f64; 512], allowed: &[bool; 512], limit: u32, used: &mut [bool; 257], path: &mut [u16; 257], best: &mut [u16; 257], depth: usize, current: usize, change: usize, cost: f64, ci: usize, home: usize, state: SearchState) -> SearchState
+fn end_chain(
+    regions: &[u16],
+    incident: &[u16; 512],
+    own: &[u16; 512],
+    costs: &[f64; 512],
+    allowed: &[bool; 512],
+    limit: u32,
+    used: &mut [bool; 257],
+    path: &mut [u16; 257],
+    best: &mut [u16; 257],
+    depth: usize,
+    current: usize,
+    change: usize,
+    cost: f64,
+    ci: usize,
+    home: usize,
+    state: SearchState,
+) -> SearchState
     requires { ⌜ Tables (now regions) (now incident) (now own) ⌝ }
     requires { ⌜ MayStep (the-graph (now regions)) (now used) (now path) depth current ci change home ⌝ }
     requires { ⌜ (change / 2 ≢ current) × (getD (now allowed) change false ≡ true) × Other (the-graph (now regions)) (change / 2) ci 256 ⌝ }
@@ -241,22 +309,57 @@ fn end_chain(regions: &[u16], incident: &[u16; 512], own: &[u16; 512], costs: &[
     ensures { λ r. ⌜ Stepped (now (regions .entry)) (now (costs .entry)) (now (allowed .entry)) limit (now (used .entry)) (now (path .entry)) (now (best .entry)) depth current ci change cost state (now (used .exit)) (now (path .exit)) (now (best .exit)) r ⌝ }
 {
     if state.expansions >= limit {
-        return SearchState { kept: state.kept, expansions: state.expansions, len: state.len, cut: true };
+        return SearchState {
+            kept: state.kept,
+            expansions: state.expansions,
+            len: state.len,
+            cut: true,
+        };
     }
     if home != 256 {
-        return SearchState { kept: state.kept, expansions: state.expansions + 1, len: state.len, cut: state.cut };
+        return SearchState {
+            kept: state.kept,
+            expansions: state.expansions + 1,
+            len: state.len,
+            cut: state.cut,
+        };
     }
     let c = cost + edge_cost(costs, change);
     if c < state.kept - 1e-12 {
         path[depth] = change as u16;
         keep_path(path, depth + 1, best);
-        return SearchState { kept: c, expansions: state.expansions + 1, len: (depth + 1) as u32, cut: state.cut };
+        return SearchState {
+            kept: c,
+            expansions: state.expansions + 1,
+            len: (depth + 1) as u32,
+            cut: state.cut,
+        };
     }
-    SearchState { kept: state.kept, expansions: state.expansions + 1, len: state.len, cut: state.cut }
+    SearchState {
+        kept: state.kept,
+        expansions: state.expansions + 1,
+        len: state.len,
+        cut: state.cut,
+    }
 }
 
 // The last edge stands in the start's open constraint: the loop closes there if the two balance and no other edge was changed in it.
-fn close_loop(regions: &[u16], incident: &[u16; 512], own: &[u16; 512], costs: &[f64; 512], allowed: &[bool; 512], limit: u32, used: &mut [bool; 257], path: &mut [u16; 257], best: &mut [u16; 257], depth: usize, place: usize, cost: f64, home: usize, state: SearchState) -> SearchState
+fn close_loop(
+    regions: &[u16],
+    incident: &[u16; 512],
+    own: &[u16; 512],
+    costs: &[f64; 512],
+    allowed: &[bool; 512],
+    limit: u32,
+    used: &mut [bool; 257],
+    path: &mut [u16; 257],
+    best: &mut [u16; 257],
+    depth: usize,
+    place: usize,
+    cost: f64,
+    home: usize,
+    state: SearchState,
+) -> SearchState
     requires { ⌜ Tables (now regions) (now incident) (now own) ⌝ }
     requires { ⌜ MayCross (the-graph (now regions)) (now incident) (now used) (now path) depth place home ⌝ }
     requires { ⌜ getD (now incident) place 0 ≡ home ⌝ }
@@ -271,24 +374,66 @@ fn close_loop(regions: &[u16], incident: &[u16; 512], own: &[u16; 512], costs: &
                 Changed::One(edge) => {
                     if edge == start / 2 {
                         keep_path(path, depth, best);
-                        return SearchState { kept: cost, expansions: state.expansions, len: depth as u32, cut: state.cut };
+                        return SearchState {
+                            kept: cost,
+                            expansions: state.expansions,
+                            len: depth as u32,
+                            cut: state.cut,
+                        };
                     }
-                    return SearchState { kept: state.kept, expansions: state.expansions, len: state.len, cut: state.cut };
+                    return SearchState {
+                        kept: state.kept,
+                        expansions: state.expansions,
+                        len: state.len,
+                        cut: state.cut,
+                    };
                 }
                 _ => {
-                    return SearchState { kept: state.kept, expansions: state.expansions, len: state.len, cut: state.cut };
+                    return SearchState {
+                        kept: state.kept,
+                        expansions: state.expansions,
+                        len: state.len,
+                        cut: state.cut,
+                    };
                 }
             }
         }
-        return SearchState { kept: state.kept, expansions: state.expansions, len: state.len, cut: state.cut };
+        return SearchState {
+            kept: state.kept,
+            expansions: state.expansions,
+            len: state.len,
+            cut: state.cut,
+        };
     }
-    SearchState { kept: state.kept, expansions: state.expansions, len: state.len, cut: state.cut }
+    SearchState {
+        kept: state.kept,
+        expansions: state.expansions,
+        len: state.len,
+        cut: state.cut,
+    }
 }
 
 // ---- the search
 
 // May a change follow through constraint ci, which is used already? Then its edge is entered, and its other constraint crossed.
-fn try_step(regions: &[u16], incident: &[u16; 512], own: &[u16; 512], costs: &[f64; 512], allowed: &[bool; 512], limit: u32, used: &mut [bool; 257], path: &mut [u16; 257], best: &mut [u16; 257], depth: usize, current: usize, change: usize, cost: f64, ci: usize, home: usize, state: SearchState) -> SearchState
+fn try_step(
+    regions: &[u16],
+    incident: &[u16; 512],
+    own: &[u16; 512],
+    costs: &[f64; 512],
+    allowed: &[bool; 512],
+    limit: u32,
+    used: &mut [bool; 257],
+    path: &mut [u16; 257],
+    best: &mut [u16; 257],
+    depth: usize,
+    current: usize,
+    change: usize,
+    cost: f64,
+    ci: usize,
+    home: usize,
+    state: SearchState,
+) -> SearchState
     requires { ⌜ Tables (now regions) (now incident) (now own) ⌝ }
     requires { ⌜ MayStep (the-graph (now regions)) (now used) (now path) depth current ci change home ⌝ }
     requires { ⌜ length (now best) ≡ 257 ⌝ }
@@ -301,26 +446,93 @@ fn try_step(regions: &[u16], incident: &[u16; 512], own: &[u16; 512], costs: &[f
         let place = other_place(regions, incident, own, change / 2, ci);
         let other = entry(incident, place);
         if other == 256 {
-            let t = SearchState { kept: state.kept, expansions: state.expansions, len: state.len, cut: state.cut };
-            return end_chain(regions, incident, own, costs, allowed, limit, used, path, best, depth, current, change, cost, ci, home, t);
+            let t = SearchState {
+                kept: state.kept,
+                expansions: state.expansions,
+                len: state.len,
+                cut: state.cut,
+            };
+            return end_chain(
+                regions,
+                incident,
+                own,
+                costs,
+                allowed,
+                limit,
+                used,
+                path,
+                best,
+                depth,
+                current,
+                change,
+                cost,
+                ci,
+                home,
+                t,
+            );
         }
         if is_used(used, other) {
             return state;
         }
         if state.expansions >= limit {
-            return SearchState { kept: state.kept, expansions: state.expansions, len: state.len, cut: true };
+            return SearchState {
+                kept: state.kept,
+                expansions: state.expansions,
+                len: state.len,
+                cut: true,
+            };
         }
         path[depth] = change as u16;
         let c = cost + edge_cost(costs, change);
-        let t = SearchState { kept: state.kept, expansions: state.expansions + 1, len: state.len, cut: state.cut };
-        let r = dfs(regions, incident, own, costs, allowed, limit, used, path, best, depth + 1, place, c, home, t);
-        return SearchState { kept: r.kept, expansions: r.expansions, len: r.len, cut: r.cut };
+        let t = SearchState {
+            kept: state.kept,
+            expansions: state.expansions + 1,
+            len: state.len,
+            cut: state.cut,
+        };
+        let r = dfs(
+            regions,
+            incident,
+            own,
+            costs,
+            allowed,
+            limit,
+            used,
+            path,
+            best,
+            depth + 1,
+            place,
+            c,
+            home,
+            t,
+        );
+        return SearchState {
+            kept: r.kept,
+            expansions: r.expansions,
+            len: r.len,
+            cut: r.cut,
+        };
     }
     state
 }
 
 // Crosses the unused constraint at a place of the last changed edge: tries its opposite edges, then the others of the own side.
-fn dfs(regions: &[u16], incident: &[u16; 512], own: &[u16; 512], costs: &[f64; 512], allowed: &[bool; 512], limit: u32, used: &mut [bool; 257], path: &mut [u16; 257], best: &mut [u16; 257], depth: usize, place: usize, cost: f64, home: usize, state: SearchState) -> SearchState
+fn dfs(
+    regions: &[u16],
+    incident: &[u16; 512],
+    own: &[u16; 512],
+    costs: &[f64; 512],
+    allowed: &[bool; 512],
+    limit: u32,
+    used: &mut [bool; 257],
+    path: &mut [u16; 257],
+    best: &mut [u16; 257],
+    depth: usize,
+    place: usize,
+    cost: f64,
+    home: usize,
+    state: SearchState,
+) -> SearchState
     requires { ⌜ Tables (now regions) (now incident) (now own) ⌝ }
     requires { ⌜ MayCross (the-graph (now regions)) (now incident) (now used) (now path) depth place home ⌝ }
     requires { ⌜ length (now best) ≡ 257 ⌝ }
@@ -328,20 +540,171 @@ fn dfs(regions: &[u16], incident: &[u16; 512], own: &[u16; 512], costs: &[f64; 5
 {
     let ci = entry(incident, place);
     if ci == home {
-        let t = SearchState { kept: state.kept, expansions: state.expansions, len: state.len, cut: state.cut };
-        return close_loop(regions, incident, own, costs, allowed, limit, used, path, best, depth, place, cost, home, t);
+        let t = SearchState {
+            kept: state.kept,
+            expansions: state.expansions,
+            len: state.len,
+            cut: state.cut,
+        };
+        return close_loop(
+            regions,
+            incident,
+            own,
+            costs,
+            allowed,
+            limit,
+            used,
+            path,
+            best,
+            depth,
+            place,
+            cost,
+            home,
+            t,
+        );
     }
     let last = wide(path[depth - 1]);
     let sides = sides_of(regions, incident, own, place);
     let total = sides.total;
-    let mut out = SearchState { kept: state.kept, expansions: state.expansions, len: state.len, cut: state.cut };
+    let mut out = SearchState {
+        kept: state.kept,
+        expansions: state.expansions,
+        len: state.len,
+        cut: state.cut,
+    };
     used[ci] = true;
     let mut j = 0;
     while j < total {
         let change = partner(regions, incident, own, sides, place, last, j);
-        out = try_step(regions, incident, own, costs, allowed, limit, used, path, best, depth, place / 2, change, cost, ci, home, out);
+        out = try_step(
+            regions,
+            incident,
+            own,
+            costs,
+            allowed,
+            limit,
+            used,
+            path,
+            best,
+            depth,
+            place / 2,
+            change,
+            cost,
+            ci,
+            home,
+            out,
+        );
         j += 1;
     }
     used[ci] = false;
     out
+}
+
+fn infinity() -> f64
+    ensures { λ r. ⌜ r ≡ inf false ⌝ }
+{
+    f64::from_bits(0x7ff0_0000_0000_0000)
+}
+
+// The whole search from one change. An edge without a constraint is a move by itself; else each of its constraints is crossed, while the
+// other one is `home`.
+pub fn run(
+    regions: &[u16],
+    incident: &[u16; 512],
+    own: &[u16; 512],
+    costs: &[f64; 512],
+    allowed: &[bool; 512],
+    limit: u32,
+    used: &mut [bool; 257],
+    path: &mut [u16; 257],
+    best: &mut [u16; 257],
+    start: usize,
+) -> SearchState
+    requires { ⌜ Tables (now regions) (now incident) (now own) ⌝ }
+    requires { ⌜ (start < 512) × (now used ≡ no-marks) × (length (now path) ≡ 257) × (length (now best) ≡ 257) ⌝ }
+    ensures { λ r. ⌜ Searched (now (regions .entry)) (now (costs .entry)) (now (allowed .entry)) limit start (now (used .exit)) (now (path .exit)) (now (best .exit)) r ⌝ }
+{
+    let kept = infinity();
+    if limit == 0 {
+        return SearchState {
+            kept,
+            expansions: 0,
+            len: 0,
+            cut: true,
+        };
+    }
+    path[0] = start as u16;
+    let cost = edge_cost(costs, start);
+    let place = start / 2 * 2;
+    let first = entry(incident, place);
+    if first == 256 {
+        if cost < kept - 1e-12 {
+            keep_path(path, 1, best);
+            return SearchState {
+                kept: cost,
+                expansions: 1,
+                len: 1,
+                cut: false,
+            };
+        }
+        return SearchState {
+            kept,
+            expansions: 1,
+            len: 0,
+            cut: false,
+        };
+    }
+    let second = entry(incident, place + 1);
+    let state = SearchState {
+        kept,
+        expansions: 1,
+        len: 0,
+        cut: false,
+    };
+    let r = dfs(
+        regions,
+        incident,
+        own,
+        costs,
+        allowed,
+        limit,
+        used,
+        path,
+        best,
+        1,
+        place,
+        cost,
+        second,
+        state,
+    );
+    if second == 256 {
+        return SearchState {
+            kept: r.kept,
+            expansions: r.expansions,
+            len: r.len,
+            cut: r.cut,
+        };
+    }
+    let t = SearchState {
+        kept: r.kept,
+        expansions: r.expansions,
+        len: r.len,
+        cut: r.cut,
+    };
+    dfs(
+        regions,
+        incident,
+        own,
+        costs,
+        allowed,
+        limit,
+        used,
+        path,
+        best,
+        1,
+        place + 1,
+        cost,
+        first,
+        t,
+    )
 }

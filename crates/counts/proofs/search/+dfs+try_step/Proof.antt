@@ -88,13 +88,13 @@ dfs-element-write-used : (t : ℕ) → dfs-lts.Need-element-write-used (dfs-call
 dfs-element-write-used t c = let e = c .before .before .before .before .entry .ensures in let r = c .before .before .before .before .before .before .pre .1 .1 .0 .real in omega (arith, e, r)
 
 dfs-loop-holds : (t : ℕ) → dfs-lts.Need-loop-holds (dfs-calls t) (dfs-at t) dfs.Post dfs-Inv-loop dfs-μ-loop
-dfs-loop-holds t c = record { same-used = refl; same-path = refl; same-long = refl; same-best = refl; below = omega arith; so-far = refl }
+dfs-loop-holds t c = record { same-used = refl; same-path = refl; same-long = refl; same-best = refl; short = λ h. h; below = omega arith; so-far = refl }
 
 dfs-partner-requires : (t : ℕ) → dfs-lts.Need-partner-requires (dfs-calls t) (dfs-at t) dfs.Post dfs-Inv-loop dfs-μ-loop
 dfs-partner-requires t c κs = (c .before .before .before .before .before .before .before .before .pre .1 .0, (c .before .before .sides-of .ensures, c .loop-test .taken))
 
 dfs-try-step-requires : (t : ℕ) → dfs-lts.Need-try-step-requires (dfs-calls t) (dfs-at t) dfs.Post dfs-Inv-loop dfs-μ-loop
-dfs-try-step-requires t c κs =     let s = c .before .before .before .before .before .before .before .before .before .before .before .before in
+dfs-try-step-requires t c κs = let s = c .before .before .before .before .before .before .before .before .before .before .before .before in
     let i = c .before .before .before .before .before .loop .inv in
     let r = may-step-now _ _ _ _ _ _ _ _ _ _ _ (s .pre .1 .1 .0) (c .before .before .before .before .before .before .before .before .before .before .entry .ensures) (c .before .before .before .before .before .before .before .before .before .if1 .left) (i .same-used) (i .same-path) (i .same-long) (c .before .before .before .partner .ensures .0) (c .before .before .before .partner .ensures .1) in
     (omega (arith, r .1, s .pre .0), (s .pre .1 .0, (r .0, i .same-best ∙ s .pre .1 .1 .1)))
@@ -106,7 +106,7 @@ dfs-loop-less : (t : ℕ) → dfs-lts.Need-loop-less (dfs-calls t) (dfs-at t) df
 dfs-loop-less t c = search needs
 
 dfs-loop-again : (t : ℕ) → dfs-lts.Need-loop-again (dfs-calls t) (dfs-at t) dfs.Post dfs-Inv-loop dfs-μ-loop
-dfs-loop-again t c =     let s = c .before .before .before .before .before .before .before .before .before .before .before .before .before in
+dfs-loop-again t c = let s = c .before .before .before .before .before .before .before .before .before .before .before .before .before in
     walks-on-at _ (s .args .incident .now) _ _ _ _ _ _ _ _ _ _ _ _ _ _ _ _ _ _ _ _ _ _ _ _ _ _
     (c .before .before .before .before .before .before .before .before .before .before .before .entry .ensures) (c .before .before .before .before .before .before .before .sides-of .ensures) (c .before .before .before .before .before .before .loop .inv) (s .pre .1 .1 .0 .one) (c .before .before .before .before .before .loop-test .taken) (c .before .before .before .before .partner .ensures .2) (c .try-step .ensures)
 
@@ -114,7 +114,7 @@ dfs-element-write-used-2 : (t : ℕ) → dfs-lts.Need-element-write-used-2 (dfs-
 dfs-element-write-used-2 t c = let e = c .before .before .before .before .before .before .entry .ensures in let r = c .before .before .before .before .before .before .before .before .pre .1 .1 .0 .real in omega (arith, e, r)
 
 dfs-returns-2 : (t : ℕ) → dfs-lts.Need-returns-2 (dfs-calls t) (dfs-at t) dfs.Post dfs-Inv-loop dfs-μ-loop
-dfs-returns-2 t c =     let s = c .before .before .before .before .before .before .before .before in
+dfs-returns-2 t c = let s = c .before .before .before .before .before .before .before .before in
     let n = c .loop-test .left in
     walk-done _ _ _ _ _ _ _ _ _ _ _ _ _ _ _ _ _ _ _ _ _ _ _ _ _
     (s .pre .1 .0) (s .pre .1 .1 .0) (c .before .before .before .before .before .before .entry .ensures) (c .before .before .before .before .before .if1 .left) (c .before .before .before .wide .ensures .0) (omega (arith, n)) (c .before .before .sides-of .ensures) (c .before .loop .inv)
@@ -132,7 +132,7 @@ try-step-entry-requires : (t : ℕ) → try-step-lts.Need-entry-requires (try-st
 try-step-entry-requires t c κs = search needs
 
 try-step-end-chain-requires : (t : ℕ) → try-step-lts.Need-end-chain-requires (try-step-calls t) (try-step-at t) try-step.Post
-try-step-end-chain-requires t c κs =     let s = c .before .before .before .before .before .before .before .before .before .before in
+try-step-end-chain-requires t c κs = let s = c .before .before .before .before .before .before .before .before .before .before in
     (s .pre .1 .0, (s .pre .1 .1 .0, ((c .before .before .before .before .before .before .before .before .if1 .left, sym (c .before .before .before .before .before .before .before .is-allowed .ensures) ∙ c .before .before .before .before .before .before .if2 .taken, other-same (sym (c .before .before .before .if3 .taken) ∙ c .before .before .before .before .entry .ensures) (c .before .before .before .before .before .other-place .ensures .3)), s .pre .1 .1 .1)))
 
 try-step-returns-2 : (t : ℕ) → try-step-lts.Need-returns-2 (try-step-calls t) (try-step-at t) try-step.Post
@@ -142,7 +142,7 @@ try-step-is-used-requires : (t : ℕ) → try-step-lts.Need-is-used-requires (tr
 try-step-is-used-requires t c κs = let a = c .before .before .entry .ensures in let o = c .before .before .before .other-place .ensures .2 in (omega (arith, a, o), c .before .before .before .before .before .before .before .before .pre .1 .1 .0 .long)
 
 try-step-returns-3 : (t : ℕ) → try-step-lts.Need-returns-3 (try-step-calls t) (try-step-at t) try-step.Post
-try-step-returns-3 t c =     let s = c .before .before .before .before .before .before .before .before .before .before in
+try-step-returns-3 t c = let s = c .before .before .before .before .before .before .before .before .before .before in
     let a = c .before .before .before .before .entry .ensures in
     let o = c .before .before .before .before .before .other-place .ensures in
     let m = o .2 in
@@ -150,7 +150,7 @@ try-step-returns-3 t c =     let s = c .before .before .before .before .before .
     step-shut _ _ _ _ _ _ _ _ _ _ _ _ _ _ _ (s .pre .1 .1 .0) (c .before .before .before .before .before .before .before .before .if1 .left) (sym (c .before .before .before .before .before .before .before .is-allowed .ensures) ∙ c .before .before .before .before .before .before .if2 .taken) (omega (arith, a, m, n)) (other-same a (o .3)) (sym (c .before .is-used .ensures) ∙ c .if4 .taken)
 
 try-step-returns-4 : (t : ℕ) → try-step-lts.Need-returns-4 (try-step-calls t) (try-step-at t) try-step.Post
-try-step-returns-4 t c =     let s = c .before .before .before .before .before .before .before .before .before .before .before .before in
+try-step-returns-4 t c = let s = c .before .before .before .before .before .before .before .before .before .before .before .before in
     let a = c .before .before .before .before .before .before .entry .ensures in
     let o = c .before .before .before .before .before .before .before .other-place .ensures in
     let m = o .2 in
@@ -176,7 +176,7 @@ try-step-add-dfs : (t : ℕ) → try-step-lts.Need-add-dfs (try-step-calls t) (t
 try-step-add-dfs t c = search needs
 
 try-step-dfs-requires : (t : ℕ) → try-step-lts.Need-dfs-requires (try-step-calls t) (try-step-at t) try-step.Post
-try-step-dfs-requires t c κs =     let s = c .before .before .before .before .before .before .before .before .before .before .before .before .before .before .before .before .before in
+try-step-dfs-requires t c κs = let s = c .before .before .before .before .before .before .before .before .before .before .before .before .before .before .before .before .before in
     let a = c .before .before .before .before .before .before .before .before .before .before .before .entry .ensures in
     let o = c .before .before .before .before .before .before .before .before .before .before .before .before .other-place .ensures in
     let m = o .2 in
@@ -186,7 +186,7 @@ try-step-dfs-requires t c κs =     let s = c .before .before .before .before .b
     (omega (arith, h), (s .pre .1 .0, (r, s .pre .1 .1 .1)))
 
 try-step-returns-5 : (t : ℕ) → try-step-lts.Need-returns-5 (try-step-calls t) (try-step-at t) try-step.Post
-try-step-returns-5 t c =     let s = c .before .before .before .before .before .before .before .before .before .before .before .before .before .before .before .before .before .before in
+try-step-returns-5 t c = let s = c .before .before .before .before .before .before .before .before .before .before .before .before .before .before .before .before .before .before in
     let a = c .before .before .before .before .before .before .before .before .before .before .before .before .entry .ensures in
     let o = c .before .before .before .before .before .before .before .before .before .before .before .before .before .other-place .ensures in
     let m = o .2 in

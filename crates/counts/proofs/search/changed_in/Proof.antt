@@ -32,13 +32,13 @@ no-later (inl e) = omega (arith, e)
 no-later (inr e) = omega (arith, e)
 
 abbrev Inv-loop : tie.InvT-loop
-Inv-loop regions incident own place path depth sides total found₀ i edge j₀ found j =     (found ≡ found₀) × (j ≤ total) × (member edge (take j (both-sides (constraint (the-graph regions) (getD incident place 0)) (place / 2))) ≡ false)
+Inv-loop regions incident own place path depth sides total found₀ i edge j₀ found j = (found ≡ found₀) × (j ≤ total) × (member edge (take j (both-sides (constraint (the-graph regions) (getD incident place 0)) (place / 2))) ≡ false)
 
 abbrev μ-loop : tie.MeasureT-loop
 μ-loop regions incident own place path depth sides total found₀ i edge j₀ found j = total - j
 
 abbrev Inv-changes : tie.InvT-changes
-Inv-changes regions incident own place path depth sides total found₀ i₀ found i =     (i ≤ depth) × (found ≡ changed-by (others-changed (constraint (the-graph regions) (getD incident place 0)) (place / 2) (path-of i path)))
+Inv-changes regions incident own place path depth sides total found₀ i₀ found i = (i ≤ depth) × (found ≡ changed-by (others-changed (constraint (the-graph regions) (getD incident place 0)) (place / 2) (path-of i path)))
 
 abbrev μ-changes : tie.MeasureT-changes
 μ-changes regions incident own place path depth sides total found₀ i₀ found i = depth - i
@@ -74,7 +74,7 @@ loop-less : tie.Need-loop-less Inv-loop μ-loop Inv-changes μ-changes
 loop-less c = let b = c .before .before .loop-test .taken in omega (arith, b)
 
 loop-again : tie.Need-loop-again Inv-loop μ-loop Inv-changes μ-changes
-loop-again c =     let s = c .before .before .before .before .before .before .before .before .before .before .before in
+loop-again c = let s = c .before .before .before .before .before .before .before .before .before .before .before in
     let i = c .before .before .before .loop in
     let t = c .before .before .loop-test .taken in
     let q = length-both-sides _ _ _ _ _ _ _ (c .before .before .before .before .before .before .before .before .before .sides-of .ensures) in
@@ -87,7 +87,7 @@ changes-less : tie.Need-changes-less Inv-loop μ-loop Inv-changes μ-changes
 changes-less c = let a = c .before .before .before .changes-test .taken in omega (arith, a)
 
 changes-again : tie.Need-changes-again Inv-loop μ-loop Inv-changes μ-changes
-changes-again c =     let s = c .before .before .before .before .before .before .before in
+changes-again c = let s = c .before .before .before .before .before .before .before in
     let i = c .before .before .before .before .changes in
     let l = s .args .path .now in
     let edge = c .before .wide .result / 2 in
@@ -96,16 +96,18 @@ changes-again c =     let s = c .before .before .before .before .before .before 
     let long = s .pre .1 .1 .1 in
     let q = length-both-sides _ _ _ _ _ _ _ (c .before .before .before .before .before .sides-of .ensures) in
     let e : edge ≡ getD l (i .i) 0 / 2 = ap (λ (k : ℕ). k / 2) (c .before .wide .ensures .0) in
-    let h : i .i < length l = omega (arith, a, few, long) in
-    (omega (arith, a), ⊎-elim
-      (λ w. (w .3 ∙ w .1 .inv .0) ∙ scan-miss (constraint (the-graph (s .args .regions .now)) (getD (s .args .incident .now) (s .args .place) 0)) (s .args .place / 2) l (i .i) (i .found) edge h e (i .inv .1) (hit-none (constraint (the-graph (s .args .regions .now)) (getD (s .args .incident .now) (s .args .place) 0)) (s .args .place / 2) edge (w .1 .j) (w .1 .inv .2) (let x = w .2 .left in omega (arith, q, x))))
-      (⊎-elim
-        (λ w. w .7 ∙ scan-first (constraint (the-graph (s .args .regions .now)) (getD (s .args .incident .now) (s .args .place) 0)) (s .args .place / 2) l (i .i) (i .found) edge h e (i .inv .1) (sym (w .1 .inv .0) ∙ w .6 .given .1)
+    let h : i .i < length l = omega (arith, a, few, long) in (
+      omega (arith, a),
+      ⊎-elim
+          (λ w. (w .3 ∙ w .1 .inv .0) ∙ scan-miss (constraint (the-graph (s .args .regions .now)) (getD (s .args .incident .now) (s .args .place) 0)) (s .args .place / 2) l (i .i) (i .found) edge h e (i .inv .1) (hit-none (constraint (the-graph (s .args .regions .now)) (getD (s .args .incident .now) (s .args .place) 0)) (s .args .place / 2) edge (w .1 .j) (w .1 .inv .2) (let x = w .2 .left in omega (arith, q, x))))
+          (⊎-elim
+          (λ w. w .7 ∙ scan-first (constraint (the-graph (s .args .regions .now)) (getD (s .args .incident .now) (s .args .place) 0)) (s .args .place / 2) l (i .i) (i .found) edge h e (i .inv .1) (sym (w .1 .inv .0) ∙ w .6 .given .1)
           (hit-yes (constraint (the-graph (s .args .regions .now)) (getD (s .args .incident .now) (s .args .place) 0)) (s .args .place / 2) edge (w .1 .j) (w .0 .taken) (let x = w .2 .taken in omega (arith, q, x)) (sym (w .3 .ensures) ∙ w .4 .taken)))
-        (λ w. w .1 ∙ scan-miss (constraint (the-graph (s .args .regions .now)) (getD (s .args .incident .now) (s .args .place) 0)) (s .args .place / 2) l (i .i) (i .found) edge h e (i .inv .1) (hit-self (constraint (the-graph (s .args .regions .now)) (getD (s .args .incident .now) (s .args .place) 0)) (s .args .place / 2) edge (w .0 .left)))) (c .if1 .came))
+          (λ w. w .1 ∙ scan-miss (constraint (the-graph (s .args .regions .now)) (getD (s .args .incident .now) (s .args .place) 0)) (s .args .place / 2) l (i .i) (i .found) edge h e (i .inv .1) (hit-self (constraint (the-graph (s .args .regions .now)) (getD (s .args .incident .now) (s .args .place) 0)) (s .args .place / 2) edge (w .0 .left)))) (c .if1 .came),
+    )
 
 returns : tie.Need-returns Inv-loop μ-loop Inv-changes μ-changes
-returns c =     let s = c .before .before .before .before in
+returns c = let s = c .before .before .before .before in
     let i = c .before .changes in
     let n = c .changes-test .left in
     let m = i .inv .0 in
@@ -113,7 +115,7 @@ returns c =     let s = c .before .before .before .before in
     i .inv .1 ∙ ap (λ (k : ℕ). changed-by (others-changed (constraint (the-graph (s .args .regions .now)) (getD (s .args .incident .now) (s .args .place) 0)) (s .args .place / 2) (path-of k (s .args .path .now)))) e
 
 returns-2 : tie.Need-returns-2 Inv-loop μ-loop Inv-changes μ-changes
-returns-2 c =     let s = c .before .before .before .before .before .before .before .before .before .before .before .before in
+returns-2 c = let s = c .before .before .before .before .before .before .before .before .before .before .before .before in
     let few = s .pre .1 .1 .0 in
     let long = s .pre .1 .1 .1 in
     let a = c .before .before .before .before .before .before .before .before .changes-test .taken in

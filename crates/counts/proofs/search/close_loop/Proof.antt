@@ -45,14 +45,21 @@ wide-requires-2 : tie.Need-wide-requires-2
 wide-requires-2 c κs = search needs
 
 balances-with-start-requires : tie.Need-balances-with-start-requires
-balances-with-start-requires c κs =     let s = c .before .before .before .before .before in
+balances-with-start-requires c κs = let s = c .before .before .before .before .before in
     let a = s .pre .1 .0 .real in
-    let e = s .pre .1 .1 .0 in
-    (s .pre .0, (s .pre .1 .0 .small, sym (ap (λ (k : ℕ). k / 2) (c .wide2 .ensures .0) ∙ s .pre .1 .0 .here), e, omega (arith, a, e),
-      held-same (the-graph (s .args .regions .now)) (s .args .home) _ _ (c .before .before .wide .ensures .0) (s .pre .1 .0 .home-is .at-start (λ h. omega (arith, a, e, h)))))
+    let e = s .pre .1 .1 .0 in (
+      s .pre .0,
+      (
+        s .pre .1 .0 .small,
+        sym (ap (λ (k : ℕ). k / 2) (c .wide2 .ensures .0) ∙ s .pre .1 .0 .here),
+        e,
+        omega (arith, a, e),
+        held-same (the-graph (s .args .regions .now)) (s .args .home) _ _ (c .before .before .wide .ensures .0) (s .pre .1 .0 .home-is .at-start (λ h. omega (arith, a, e, h))),
+      ),
+    )
 
 changed-in-requires : tie.Need-changed-in-requires
-changed-in-requires c κs =     let s = c .before .before .before .before .before .before .before .before .before .before in
+changed-in-requires c κs = let s = c .before .before .before .before .before .before .before .before .before .before in
     let a = s .pre .1 .0 .room in
     (s .pre .0, ((s .pre .1 .0 .small, s .pre .1 .0 .real), (omega (arith, a), s .pre .1 .0 .path-long)))
 
@@ -67,18 +74,18 @@ cast-t35 c = let a = c .before .before .before .before .before .before .before .
 
 returns : tie.Need-returns
 unfolding lib.Ieee.ofBits
-returns c =     let s = c .before .before .before .before .before .before .before .before .before .before .before .before .before .before .before .before .before .before in
+returns c = let s = c .before .before .before .before .before .before .before .before .before .before .before .before .before .before .before .before .before .before in
     close-kept _ _ _ _ _ _ _ _ _ _ _ _ _ _ _ (s .pre .0) (s .pre .1 .0) (s .pre .1 .1 .0) (balances-same (constraint (the-graph (s .args .regions .now)) (s .args .home)) _ _ _ _ _ _ (c .before .before .before .before .before .before .before .before .before .before .before .before .before .before .before .wide .ensures .0) (c .before .before .before .before .before .before .before .before .before .before .before .before .before .wide2 .ensures .0) (c .before .before .before .before .before .before .before .before .before .before .before .before .balances-with-start .ensures) (c .before .before .before .before .before .before .before .before .before .before .before .if1 .taken)) (c .before .before .before .before .before .before .before .before .before .if2 .taken)
     (changed-same (the-graph (s .args .regions .now)) (path-of (s .args .depth) (s .args .path .now)) (s .args .place / 2) _ _ (c .before .before .before .before .before .before .before .changed-in .ensures) (s .pre .1 .1 .0) ∙ c .before .before .before .before .before .edge .given .1 ∙ ap One (c .before .before .before .if3 .taken ∙ ap (λ (k : ℕ). k / 2) (c .before .before .before .before .before .before .before .before .before .before .before .before .before .before .before .wide .ensures .0)))
     (c .keep-path .ensures .0) (c .keep-path .ensures .1 ∙ sym (s .pre .1 .1 .1))
 
 returns-2 : tie.Need-returns-2
-returns-2 c =     let s = c .before .before .before .before .before .before .before .before .before .before .before .before .before .before .before in
+returns-2 c = let s = c .before .before .before .before .before .before .before .before .before .before .before .before .before .before .before in
     close-others _ _ _ _ _ _ _ _ _ _ _ _ _ _ (s .pre .0) (s .pre .1 .0) (s .pre .1 .1 .0)
     (λ q. c .if3 .left (ap the-edge (sym (c .before .before .edge .given .1) ∙ sym (changed-same (the-graph (s .args .regions .now)) (path-of (s .args .depth) (s .args .path .now)) (s .args .place / 2) _ _ (c .before .before .before .before .changed-in .ensures) (s .pre .1 .1 .0)) ∙ q) ∙ sym (ap (λ (k : ℕ). k / 2) (c .before .before .before .before .before .before .before .before .before .before .before .before .wide .ensures .0))))
 
 returns-3 : tie.Need-returns-3
-returns-3 c =     let s = c .before .before .before .before .before .before .before .before .before .before .before .before in
+returns-3 c = let s = c .before .before .before .before .before .before .before .before .before .before .before .before in
     close-others _ _ _ _ _ _ _ _ _ _ _ _ _ _ (s .pre .0) (s .pre .1 .0) (s .pre .1 .1 .0)
     (λ q. not-one (subst (λ (k : Changed). OneOf (0 ∷ 2 ∷ []) (tagOf the-type k)) (sym (changed-same (the-graph (s .args .regions .now)) (path-of (s .args .depth) (s .args .path .now)) (s .args .place / 2) _ _ (c .before .changed-in .ensures) (s .pre .1 .1 .0)) ∙ q) (c .match .keys2)))
 

@@ -38,7 +38,7 @@ loop-less : tie.Need-loop-less Inv-loop μ-loop
 loop-less c = search needs
 
 loop-again : tie.Need-loop-again Inv-loop μ-loop
-loop-again c =     let i = c .before .before .loop in
+loop-again c = let i = c .before .before .loop in
     let t = c .before .loop-test .taken in
     let s = c .before .before .before in
     let few = s .pre .0 in
@@ -48,7 +48,7 @@ loop-again c =     let i = c .before .before .loop in
     (omega (arith, t), length-set (i .best) (i .i) _ ∙ q, copied-next (s .args .path .now) (i .best) (i .i) (omega (arith, t, few, to, q)) (omega (arith, t, few, from)) (i .inv .2))
 
 returns : tie.Need-returns Inv-loop μ-loop
-returns c =     let i = c .before .loop in
+returns c = let i = c .before .loop in
     let s = c .before .before in
     let n = c .loop-test .left in
     let m = i .inv .0 in
