@@ -54,3 +54,7 @@ ne→eqb x y n = not-T-false (eqb x y) (λ t. n (eqb→eq x y t))
 
 pub same→eqb : (x : ℕ) → eqb x x ≡ true
 same→eqb x = T-true (eqb x x) (eqb-refl x)
+
+pub by-cases : {P : Type 0} (b : Bool) → (T b → P) → (T (not b) → P) → P
+by-cases true f h = f tt
+by-cases false f h = h tt

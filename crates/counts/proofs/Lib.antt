@@ -1,4 +1,5 @@
 -- Laws of the definitions. Assumes nothing.
+pub mod Accepted
 pub mod Acts
 pub mod Balance
 pub mod BoolLaws
@@ -7,10 +8,16 @@ pub mod Endings
 pub mod Find
 pub mod FloatLaws
 pub mod ListLaws
+pub mod Makes
 pub mod Marks
 pub mod Places
+pub mod RefusalLaws
+pub mod Rounds
+pub mod Same
 pub mod Scan
 pub mod SearchLaws
+pub mod SolverCases
+pub mod Solving
 pub mod Sound
 pub mod Start
 pub mod Steps

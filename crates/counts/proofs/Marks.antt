@@ -15,7 +15,7 @@ use Rattle.counts.specs.Move.{Change, balances}
 use Rattle.counts.specs.Search.{State, dfs, differs, enter, enter-by, entered, eps, free, is-used, keep-reading, may-step, others-changed, partners, record-path, skip, try-step, turned-back, visit, visit-by}
 use Rattle.counts.proofs.BoolLaws.{T-true}
 use Rattle.counts.proofs.ListLaws.{filter-in, free-set, incidence→holds, set-used}
-use Rattle.counts.proofs.SearchLaws.{each-same}
+use Rattle.counts.proofs.Same.{each-same}
 
 filter-same : (p q : ℕ → Bool) (l : List ℕ) → ((i : ℕ) → In i l → p i ≡ q i) → filter p l ≡ filter q l
 filter-same p q [] h = refl

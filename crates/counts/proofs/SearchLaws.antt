@@ -29,11 +29,6 @@ each-append f (x ∷ l) m st = each-append f l m (f x st)
 pub each-suc : {A : Type 0} (f : A → Act) (l : List A) (j : ℕ) (d : A) (st : State) → j < length l → each f (take (suc j) l) st ≡ f (getD l j d) (each f (take j l) st)
 each-suc f l j d st h = ap (λ k. each f k st) (take-suc l j d h) ∙ each-append f (take j l) (getD l j d ∷ []) st
 
--- acts that do the same at each place do the same
-pub each-same : {A : Type 0} (f f' : A → Act) (l : List A) → ((a : A) → In a l → (st : State) → f a st ≡ f' a st) → (st : State) → each f l st ≡ each f' l st
-each-same f f' [] h st = refl
-each-same f f' (x ∷ l) h st = ap (each f l) (h x (inl refl) st) ∙ each-same f f' l (λ a i. h a (inr i)) (f' x st)
-
 -- ---- the constraints of an edge reached through i
 module _ (g : List Constraint) (edge-cost : ℕ → Bool → Float) (allowed : ℕ → Bool → Bool) (limit : ℕ) (x0 : ℕ) (s0 : Bool) where
   abbrev unused-of : List Bool → ℕ → List ℕ

@@ -1,6 +1,7 @@
 -- The definitions of the crate. Assumes nothing.
 pub mod Accept
 pub mod Cost
+pub mod Demand
 pub mod Lists
 pub mod Move
 pub mod Refusal

@@ -100,18 +100,26 @@ solve-test p regions ideals room =
     (then-test (refuse-if (ltb room (length ideals)) (refused 11 0 0))
     (then-test (ideals-test ideals) (regions-test p (length ideals) regions)))
 
--- 7: "a further move found after 200,000", and counts 0; "Output past the needed part is untouched"
+abbrev pub solve-refused : Verdict → List ℕ → Solve
+solve-refused v lent = record { verdict = v; moves = 0; counts = lent }
+
+-- "Output past the needed part is untouched": the needed part of n counts, then what was lent
+abbrev pub solve-done : ℕ → Solved → List ℕ → Solve
+solve-done n s lent = record { verdict = passed; moves = s .moves; counts = s .counts ++ drop n lent }
+
+-- 7: "a further move found after 200,000", and counts 0
+abbrev pub solve-stopped : ℕ → List ℕ → Solve
+solve-stopped n lent = record { verdict = refused 7 0 0; moves = 0; counts = replicate n 0 ++ drop n lent }
+
 abbrev pub solve-by-moves : ℕ → Solved → List ℕ → Solve
-solve-by-moves n s lent =
-    cond (s .more) (record { verdict = refused 7 0 0; moves = 0; counts = replicate n 0 ++ drop n lent })
-    (record { verdict = passed; moves = s .moves; counts = s .counts ++ drop n lent })
+solve-by-moves n s lent = cond (s .more) (solve-stopped n lent) (solve-done n s lent)
 
 unfoldable pub solve-with : ℕ → Verdict → CostModel → List ℕ → ℕ → ℕ → List ℕ → Solve
 unfolding solve-zeros
 solve-with p verdict costs regions n limit lent =
     elim (is-passed verdict) [
       | true ↦ solve-by-moves n (solve-zeros (graph p regions) costs limit n) lent
-      | false ↦ record { verdict = verdict; moves = 0; counts = lent }
+      | false ↦ solve-refused verdict lent
     ]
 
 -- "with limit 100,000"
