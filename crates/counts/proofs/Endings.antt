@@ -1,4 +1,7 @@
 -- Where a reading ends: the end of a chain, and the closing of a loop. Assumes nothing.
+-- The code does not test whether a path is complete. At a chain's end every constraint of the last edge is used, and by `away` no other one but `home`
+-- holds a changed edge: the path is complete just if there is no `home`. In a loop the last edge meets `home` itself: once that is marked, by `away` and
+-- `mine` no unused constraint holds a changed edge.
 use mathlib.Core.Logic.{_≢_}
 use mathlib.Core.Path.{_≡_, refl, sym, ap, subst, _∙_}
 use mathlib.Core.Bool.{Bool, true, false, not, _&&_, cond, Bool·beq}
@@ -7,7 +10,7 @@ use Prim.Native.Nat.{ℕ, zero, suc, _+_, _-_, _/_, _%_, _≤_, _<_}
 use native.Mathlib.Omega.{arith}
 use native.Mathlib.Numerals.{add-one}
 use lib.ListN.{length, getD, take, set, length-set}
-use lib.Seq.{take-suc-set, take-set-le}
+use lib.Seq.{take-set-le}
 use lib.Dec.{eqb, T, eqb→eq, eqb-refl}
 use lib.Ieee.{Float, nan, lt, sub, add, binary64}
 use Rattle.counts.specs.Lists.{all, member}
@@ -22,17 +25,19 @@ use Rattle.counts.specs.declared.search.Changed.the-variants.{One}
 use Rattle.counts.proofs.BoolLaws.{T-true, clash, false-T, ne→eqb, not-T-false}
 use Rattle.counts.proofs.ListLaws.{every-in, holds→incidence, in-left, incidence→holds, nothing-in, select-in, set-used, still-used}
 use Rattle.counts.proofs.SearchLaws.{all-used, barred-alone, chain-complete, dfs-enters, dfs-turned-back, enter-none, none-held, record-high, record-incomplete, record-kept, unused-alone}
-use Rattle.counts.proofs.Places.{cost-at, decoded-append, start-in}
+use Rattle.counts.proofs.Places.{cost-at, path-longer, start-in}
 use Rattle.counts.proofs.Steps.{nothing-written, step-taken}
 use Rattle.counts.proofs.Scan.{found-one}
 
+-- ---- the end of a chain
+
+-- a path whose start has an open constraint is not complete
 pub incomplete : (g : List Constraint) (used : List Bool) (l : List ℕ) (n home : ℕ) (z : List Change) → 1 ≤ n → 1 ≤ length l → T (holds (constraint g home) (getD l 0 0 / 2)) → is-used used home ≡ false → path-is-complete g used (path-of n l ++ z) ≡ false
 incomplete g used l n home z h h' t v =
     not-T-false (path-is-complete g used (path-of n l ++ z)) (λ u. clash (is-used used home)
     (every-in (is-used used) (incidence g (getD l 0 0 / 2)) (every-in (λ (w : Change). all (is-used used) (incidence g (w .0))) (path-of n l ++ z) u (decoded (getD l 0 0)) (in-left (decoded (getD l 0 0)) (path-of n l) z (start-in l n h h'))) home (holds→incidence g home (getD l 0 0 / 2) t))
     (false-T (is-used used home) v))
 
--- ---- the end of a chain
 module _ (regions incident own : List ℕ) (costs : List Float) (allowed : List Bool) (limit : ℕ) (used : List Bool) (path best : List ℕ) (n e i d home : ℕ) (t : Float) (st : SearchState) where
   abbrev c0 : ℕ
   c0 = getD path 0 0
@@ -49,19 +54,21 @@ module _ (regions incident own : List ℕ) (costs : List Float) (allowed : List 
       → record-path (the-graph regions) used (path-of n path ++ decoded d ∷ []) cost (entered (state-of st best)) ≡ try-partner-of regions costs allowed limit c0 (suc (free used)) used (path-of n path) e t i (decoded d) (state-of st best)
   enters-end s ne h w l =
       enter-none (the-graph regions) (cost-in costs) (allowed-in allowed) limit (c0 / 2) (eqb (c0 % 2) 1) (dfs-of regions costs allowed limit c0 (free used)) used (path-of n path ++ decoded d ∷ []) (d / 2) (eqb (d % 2) 1) cost (state-of st best)
-      (unused-alone (the-graph regions) (cost-in costs) (allowed-in allowed) limit (c0 / 2) (eqb (c0 % 2) 1) used (d / 2) i (only w) (s .taken))
+      (unused-alone (the-graph regions) used (d / 2) i (only w) (s .taken))
       ∙ dfs-enters (the-graph regions) (cost-in costs) (allowed-in allowed) limit (c0 / 2) (eqb (c0 % 2) 1) (free used) used (path-of n path ++ decoded d ∷ []) (d / 2) (eqb (d % 2) 1) cost (state-of st best) l
-      ∙ step-taken regions costs allowed limit used path best n e i d t st home s ne h (barred-alone (the-graph regions) (cost-in costs) (allowed-in allowed) limit (c0 / 2) (eqb (c0 % 2) 1) used (d / 2) i (only w))
+      ∙ step-taken regions costs allowed limit used path best n e i d t st home s ne h (barred-alone (the-graph regions) used (d / 2) i (only w))
 
   entered-once : state-of (record { kept = st .kept; expansions = st .expansions + 1; len = st .len; cut = st .cut }) best ≡ entered (state-of st best)
   entered-once = ap (λ (k : ℕ). record { expansions = k; cut = st .cut; kept = st .kept; best = path-of (st .len) best }) (add-one (st .expansions))
 
+  -- the entry is past the limit
   pub end-turned-back : MayStep (the-graph regions) used path n e i d home → d / 2 ≢ e → getD allowed d false ≡ true → Other (the-graph regions) (d / 2) i 256 → limit ≤ st .expansions
       → Stepped regions costs allowed limit used path best n e i d t st used path best (record { kept = st .kept; expansions = st .expansions; len = st .len; cut = true })
   end-turned-back s ne h w l =
       nothing-written regions costs allowed limit used path best n e i d t st _ refl (dfs-turned-back (the-graph regions) (cost-in costs) (allowed-in allowed) limit (c0 / 2) (eqb (c0 % 2) 1) (free used) used (path-of n path ++ decoded d ∷ []) (d / 2) (eqb (d % 2) 1) cost (state-of st best) l
-      ∙ step-taken regions costs allowed limit used path best n e i d t st home s ne h (barred-alone (the-graph regions) (cost-in costs) (allowed-in allowed) limit (c0 / 2) (eqb (c0 % 2) 1) used (d / 2) i (only w)))
+      ∙ step-taken regions costs allowed limit used path best n e i d t st home s ne h (barred-alone (the-graph regions) used (d / 2) i (only w)))
 
+  -- the start is still open
   pub end-open : MayStep (the-graph regions) used path n e i d home → d / 2 ≢ e → getD allowed d false ≡ true → Other (the-graph regions) (d / 2) i 256 → st .expansions < limit → home ≢ 256
       → Stepped regions costs allowed limit used path best n e i d t st used path best (record { kept = st .kept; expansions = st .expansions + 1; len = st .len; cut = st .cut })
   end-open s ne h w l nh =
@@ -70,11 +77,13 @@ module _ (regions incident own : List ℕ) (costs : List Float) (allowed : List 
   cost-is : (p : Float) → p ≡ getD costs d nan → add binary64 t p ≡ cost
   cost-is p q = ap (λ (v : Float). add binary64 t v) (cost-at costs d p q)
 
+  -- the path is complete, but its cost is not below the kept one
   pub end-high : (p : Float) → MayStep (the-graph regions) used path n e i d home → d / 2 ≢ e → getD allowed d false ≡ true → Other (the-graph regions) (d / 2) i 256 → st .expansions < limit → p ≡ getD costs d nan → lt (add binary64 t p) (sub binary64 (st .kept) eps) ≡ false
       → Stepped regions costs allowed limit used path best n e i d t st used path best (record { kept = st .kept; expansions = st .expansions + 1; len = st .len; cut = st .cut })
   end-high p s ne h w l q b =
       nothing-written regions costs allowed limit used path best n e i d t st _ refl (entered-once ∙ record-high (the-graph regions) used (path-of n path ++ decoded d ∷ []) cost (entered (state-of st best)) (ap (λ (v : Float). lt v (sub binary64 (st .kept) eps)) (sym (cost-is p q)) ∙ b) ∙ enters-end s ne h w l)
 
+  -- it is kept
   pub end-kept : (p : Float) (best' : List ℕ) → Tables regions incident own → MayStep (the-graph regions) used path n e i d home → d / 2 ≢ e → getD allowed d false ≡ true → Other (the-graph regions) (d / 2) i 256 → st .expansions < limit → home ≡ 256 → p ≡ getD costs d nan → lt (add binary64 t p) (sub binary64 (st .kept) eps) ≡ true
       → take (n + 1) best' ≡ take (n + 1) (set path n d) → length best' ≡ length best
       → Stepped regions costs allowed limit used path best n e i d t st used (set path n d) best' (record { kept = add binary64 t p; expansions = st .expansions + 1; len = n + 1; cut = st .cut })
@@ -86,7 +95,7 @@ module _ (regions incident own : List ℕ) (costs : List Float) (allowed : List 
         best-kept = lb;
         short = λ _. (let r = s .room in omega (arith, r));
         answer = ap (λ (k : ℕ). at k (add binary64 t p) (path-of (n + 1) best')) (add-one (st .expansions)) ∙ ap (λ (v : Float). at (suc (st .expansions)) v (path-of (n + 1) best')) (cost-is p q)
-            ∙ ap (at (suc (st .expansions)) cost) (ap all-decoded tk ∙ ap (λ (k : ℕ). all-decoded (take k (set path n d))) (add-one n) ∙ ap all-decoded (take-suc-set path n d room) ∙ decoded-append (take n path) (d ∷ []))
+            ∙ ap (at (suc (st .expansions)) cost) (ap all-decoded tk ∙ path-longer path n d room)
             ∙ record-kept (the-graph regions) used (path-of n path ++ decoded d ∷ []) cost (entered (state-of st best)) (ap (λ (v : Float). lt v (sub binary64 (st .kept) eps)) (sym (cost-is p q)) ∙ b)
             (chain-complete (the-graph regions) used (path-of n path) (decoded d) i (λ j v nj. s .away j v (λ r. nj (r ∙ hm))) (f .numbered) (only w) (s .taken))
             ∙ enters-end s ne h w l;
@@ -98,24 +107,7 @@ module _ (regions incident own : List ℕ) (costs : List Float) (allowed : List 
       at : ℕ → Float → List Change → State
       at k v l = record { expansions = k; cut = st .cut; kept = v; best = l }
 
-signs-like : (c d : ℕ) → c % 2 ≡ d % 2 → Bool·beq (eqb (c % 2) 1) (eqb (d % 2) 1) ≡ true
-signs-like c d e = ap (λ (k : ℕ). Bool·beq (eqb k 1) (eqb (d % 2) 1)) e ∙ go (eqb (d % 2) 1)
-  where
-    go : (b : Bool) → Bool·beq b b ≡ true
-    go true = refl
-    go false = refl
-
-signs-unlike : (c d : ℕ) → c % 2 ≢ d % 2 → Bool·beq (eqb (c % 2) 1) (eqb (d % 2) 1) ≡ false
-signs-unlike c d n = go (c % 2) (d % 2) n (let q : c % 2 < 2 = omega arith in q) (let q : d % 2 < 2 = omega arith in q)
-  where
-    go : (a b : ℕ) → a ≢ b → a < 2 → b < 2 → Bool·beq (eqb a 1) (eqb b 1) ≡ false
-    go zero zero m h h' = absurd (m refl)
-    go zero (suc zero) m h h' = refl
-    go zero (suc (suc b)) m h h' = absurd (omega (arith, h'))
-    go (suc zero) zero m h h' = refl
-    go (suc zero) (suc zero) m h h' = absurd (m refl)
-    go (suc zero) (suc (suc b)) m h h' = absurd (omega (arith, h'))
-    go (suc (suc a)) b m h h' = absurd (omega (arith, h))
+-- ---- the start's change and the last one balance
 
 -- like signs on opposite sides, unlike ones on one side
 pub balances-by : (g : List Constraint) (incident : List ℕ) (home p q c c0 : ℕ) (a b : Bool) (r : Bool)
@@ -126,21 +118,34 @@ balances-by g incident home p q c c0 a b r qy py qh ph ea eb er =
     er ∙ ap (λ (k : Bool). Bool·beq (Bool·beq k b) (not (Bool·beq (eqb (c0 % 2) 1) (eqb (c % 2) 1)))) (ea ∙ ap (λ (k : ℕ). member k (constraint g (getD incident q 0) .a)) qy ∙ ap (λ (k : ℕ). member (c0 / 2) (constraint g k .a)) qh)
     ∙ ap (λ (k : Bool). Bool·beq (Bool·beq (member (c0 / 2) (constraint g home .a)) k) (not (Bool·beq (eqb (c0 % 2) 1) (eqb (c % 2) 1)))) (eb ∙ ap (λ (k : ℕ). member k (constraint g (getD incident p 0) .a)) py ∙ ap (λ (k : ℕ). member (c / 2) (constraint g k .a)) ph)
 
-pub like-signs : (a b : Bool) (c c0 : ℕ) (r : Bool) → Bool·beq a b ≡ false → r ≡ eqb (c0 % 2) (c % 2) → r ≡ Bool·beq (Bool·beq a b) (not (Bool·beq (eqb (c0 % 2) 1) (eqb (c % 2) 1)))
-like-signs a b c c0 r e q = q ∙ go (eqb (c0 % 2) (c % 2)) (λ t. signs-like c0 c (eqb→eq (c0 % 2) (c % 2) t)) (λ t. signs-unlike c0 c (λ s. t (subst (λ (k : ℕ). T (eqb (c0 % 2) k)) s (eqb-refl (c0 % 2))))) ∙ ap (λ (k : Bool). Bool·beq k (not (Bool·beq (eqb (c0 % 2) 1) (eqb (c % 2) 1)))) (sym e)
+same-sign : (c d : ℕ) → eqb (c % 2) (d % 2) ≡ Bool·beq (eqb (c % 2) 1) (eqb (d % 2) 1)
+same-sign c d = go (c % 2) (d % 2) (let q : c % 2 < 2 = omega arith in q) (let q : d % 2 < 2 = omega arith in q)
   where
-    go : (k : Bool) → (T k → Bool·beq (eqb (c0 % 2) 1) (eqb (c % 2) 1) ≡ true) → ((T k → ⊥) → Bool·beq (eqb (c0 % 2) 1) (eqb (c % 2) 1) ≡ false) → k ≡ Bool·beq false (not (Bool·beq (eqb (c0 % 2) 1) (eqb (c % 2) 1)))
-    go true f f' = ap (λ (m : Bool). Bool·beq false (not m)) (sym (f tt))
-    go false f f' = ap (λ (m : Bool). Bool·beq false (not m)) (sym (f' (λ t. t)))
+    go : (a b : ℕ) → a < 2 → b < 2 → eqb a b ≡ Bool·beq (eqb a 1) (eqb b 1)
+    go zero zero h h' = refl
+    go zero (suc zero) h h' = refl
+    go zero (suc (suc b)) h h' = absurd (omega (arith, h'))
+    go (suc zero) zero h h' = refl
+    go (suc zero) (suc zero) h h' = refl
+    go (suc zero) (suc (suc b)) h h' = absurd (omega (arith, h'))
+    go (suc (suc a)) b h h' = absurd (omega (arith, h))
 
-pub unlike-signs : (a b : Bool) (c c0 : ℕ) (r : Bool) → Bool·beq a b ≡ true → r ≡ not (eqb (c0 % 2) (c % 2)) → r ≡ Bool·beq (Bool·beq a b) (not (Bool·beq (eqb (c0 % 2) 1) (eqb (c % 2) 1)))
-unlike-signs a b c c0 r e q = q ∙ go (eqb (c0 % 2) (c % 2)) (λ t. signs-like c0 c (eqb→eq (c0 % 2) (c % 2) t)) (λ t. signs-unlike c0 c (λ s. t (subst (λ (k : ℕ). T (eqb (c0 % 2) k)) s (eqb-refl (c0 % 2))))) ∙ ap (λ (k : Bool). Bool·beq k (not (Bool·beq (eqb (c0 % 2) 1) (eqb (c % 2) 1)))) (sym e)
+pub like-signs : (c d : ℕ) → eqb (c % 2) (d % 2) ≡ Bool·beq false (not (Bool·beq (eqb (c % 2) 1) (eqb (d % 2) 1)))
+like-signs c d = same-sign c d ∙ go (Bool·beq (eqb (c % 2) 1) (eqb (d % 2) 1))
   where
-    go : (k : Bool) → (T k → Bool·beq (eqb (c0 % 2) 1) (eqb (c % 2) 1) ≡ true) → ((T k → ⊥) → Bool·beq (eqb (c0 % 2) 1) (eqb (c % 2) 1) ≡ false) → not k ≡ Bool·beq true (not (Bool·beq (eqb (c0 % 2) 1) (eqb (c % 2) 1)))
-    go true f f' = ap (λ (m : Bool). Bool·beq true (not m)) (sym (f tt))
-    go false f f' = ap (λ (m : Bool). Bool·beq true (not m)) (sym (f' (λ t. t)))
+    go : (b : Bool) → b ≡ Bool·beq false (not b)
+    go true = refl
+    go false = refl
+
+pub unlike-signs : (c d : ℕ) → not (eqb (c % 2) (d % 2)) ≡ Bool·beq true (not (Bool·beq (eqb (c % 2) 1) (eqb (d % 2) 1)))
+unlike-signs c d = ap not (same-sign c d) ∙ go (Bool·beq (eqb (c % 2) 1) (eqb (d % 2) 1))
+  where
+    go : (b : Bool) → not b ≡ Bool·beq true (not b)
+    go true = refl
+    go false = refl
 
 -- ---- the closing of a loop
+
 module _ (regions incident own : List ℕ) (costs : List Float) (allowed : List Bool) (limit : ℕ) (used : List Bool) (path best : List ℕ) (n p home : ℕ) (t : Float) (st : SearchState) where
   abbrev s0 : ℕ
   s0 = getD path 0 0
@@ -151,11 +156,13 @@ module _ (regions incident own : List ℕ) (costs : List Float) (allowed : List 
   abbrev rest : List Change
   rest = others-changed (constraint (the-graph regions) home) (p / 2) (path-of n path)
 
+  -- the start stands in `home`
   start-there : Tables regions incident own → MayCross (the-graph regions) incident used path n p home → getD incident p 0 ≡ home → rest ≡ [] → ⊥
   start-there f rd e q =
       nothing-in (decoded s0) rest (select-in (λ (k : ℕ). differs (p / 2) k && holds (constraint (the-graph regions) home) k) (decoded s0) (path-of n path) (start-in path n (rd .one) (let a = rd .path-long in omega (arith, a)))
       (lib.Ieee.Fits.and-i (differs (p / 2) (s0 / 2)) (holds (constraint (the-graph regions) home) (s0 / 2)) (lib.Dec.not-T (eqb (s0 / 2) (p / 2)) (λ u. rd .far e (eqb→eq (s0 / 2) (p / 2) u))) (rd .home-is .at-start (let a = rd .real in λ h. omega (arith, a, e, h))))) q
 
+  -- what the definition does by the other changed edges there
   abbrev ways : List Change → State
   ways os = visit-by (the-graph regions) (cost-in costs) (allowed-in allowed) limit (s0 / 2) (eqb (s0 % 2) 1) (dfs-of regions costs allowed limit s0 (free used)) used (path-of n path) (p / 2) (eqb (last % 2) 1) t home os (state-of st best)
 
@@ -170,6 +177,7 @@ module _ (regions incident own : List ℕ) (costs : List Float) (allowed : List 
   abbrev fits-in : Bool
   fits-in = balances (constraint (the-graph regions) home) (decoded s0) (p / 2, eqb (last % 2) 1)
 
+  -- the two do not balance
   pub close-unbalanced : Tables regions incident own → MayCross (the-graph regions) incident used path n p home → getD incident p 0 ≡ home → balances (constraint (the-graph regions) home) (decoded s0) (decoded last) ≡ false
       → Crossed regions incident costs allowed limit used path best n p t st used path best (record { kept = st .kept; expansions = st .expansions; len = st .len; cut = st .cut })
   close-unbalanced f rd e v = stays rd e (go rest (start-there f rd e))
@@ -186,6 +194,7 @@ module _ (regions incident own : List ℕ) (costs : List Float) (allowed : List 
       go (w ∷ []) h = no (eqb (w .0) (s0 / 2)) (record-path (the-graph regions) (set used home true) (path-of n path) t) ∙ ap (λ (b : Bool). cond (eqb (w .0) (s0 / 2) && b) (record-path (the-graph regions) (set used home true) (path-of n path) t) skip (state-of st best)) (sym v')
       go (w ∷ u ∷ r) h = refl
 
+  -- the cost is not below the kept one
   pub close-high : Tables regions incident own → MayCross (the-graph regions) incident used path n p home → getD incident p 0 ≡ home → lt t (sub binary64 (st .kept) eps) ≡ false
       → Crossed regions incident costs allowed limit used path best n p t st used path best (record { kept = st .kept; expansions = st .expansions; len = st .len; cut = st .cut })
   close-high f rd e v = stays rd e (go rest (start-there f rd e))
@@ -199,6 +208,7 @@ module _ (regions incident own : List ℕ) (costs : List Float) (allowed : List 
       go (w ∷ []) h = no (eqb (w .0) (s0 / 2) && fits-in)
       go (w ∷ u ∷ r) h = refl
 
+  -- the start is not the only other changed edge there
   pub close-others : Tables regions incident own → MayCross (the-graph regions) incident used path n p home → getD incident p 0 ≡ home → changed-by rest ≢ One (s0 / 2)
       → Crossed regions incident costs allowed limit used path best n p t st used path best (record { kept = st .kept; expansions = st .expansions; len = st .len; cut = st .cut })
   close-others f rd e v = stays rd e (go rest (start-there f rd e) v)
@@ -208,6 +218,7 @@ module _ (regions incident own : List ℕ) (costs : List Float) (allowed : List 
       go (w ∷ []) h m = ap (λ (b : Bool). cond (b && fits-in) (record-path (the-graph regions) (set used home true) (path-of n path) t) skip (state-of st best)) (sym (ne→eqb (w .0) (s0 / 2) (λ q. m (ap One q))))
       go (w ∷ u ∷ r) h m = refl
 
+  -- the loop is kept
   pub close-kept : (best' : List ℕ) → Tables regions incident own → MayCross (the-graph regions) incident used path n p home → getD incident p 0 ≡ home → balances (constraint (the-graph regions) home) (decoded s0) (decoded last) ≡ true → lt t (sub binary64 (st .kept) eps) ≡ true
       → changed-by rest ≡ One (s0 / 2) → take n best' ≡ take n path → length best' ≡ length best
       → Crossed regions incident costs allowed limit used path best n p t st used path best' (record { kept = t; expansions = st .expansions; len = n; cut = st .cut })
@@ -233,6 +244,8 @@ module _ (regions incident own : List ℕ) (costs : List Float) (allowed : List 
       go : (w : Change) → w .0 ≡ s0 / 2 → at (path-of n path) ≡ ways (w ∷ [])
       go w q = record-kept (the-graph regions) (set used home true) (path-of n path) t (state-of st best) l whole
           ∙ ap (λ (b : Bool). cond b (record-path (the-graph regions) (set used home true) (path-of n path) t) skip (state-of st best)) (sym (ap (λ (b : Bool). b && fits-in) (T-true (eqb (w .0) (s0 / 2)) (subst (λ (k : ℕ). T (eqb (w .0) k)) q (eqb-refl (w .0)))) ∙ v'))
+
+-- ---- the same facts, as the code has them
 
 pub balances-same : (k : Constraint) (c0 c s l : ℕ) (b v : Bool) → c0 ≡ s → c ≡ l → b ≡ balances k (decoded c0) (decoded c) → b ≡ v → balances k (decoded s) (decoded l) ≡ v
 balances-same k c0 c s l b v p q e f = ap (λ (x : ℕ). balances k (decoded x) (decoded l)) (sym p) ∙ ap (λ (x : ℕ). balances k (decoded c0) (decoded x)) (sym q) ∙ sym e ∙ f

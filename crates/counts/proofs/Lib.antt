@@ -21,3 +21,4 @@ pub mod Solving
 pub mod Sound
 pub mod Start
 pub mod Steps
+pub mod TwoSides

@@ -1,25 +1,24 @@
--- What the tables, read at a place, and the packed changes stand for. Assumes nothing.
+-- Packed changes, and what the tables say of an edge's constraints at its two places. Assumes nothing.
+-- `incident-is` lists an edge's constraints in region order. So a constraint that holds the edge stands at one of its two places, the two differ, and
+-- the entry at the other place is the edge's other constraint, or none.
 use mathlib.Core.Logic.{_≢_, _⊎_, inl, inr}
 use mathlib.Core.Path.{_≡_, refl, sym, ap, subst, _∙_}
-use mathlib.Core.Bool.{Bool, true, false, not, cond}
+use mathlib.Core.Bool.{Bool, true, false, cond}
 use mathlib.Core.List.{List, [], _∷_, _++_, nil≢cons, head-eq-of-cons-eq, tail-eq-of-cons-eq}
 use Prim.Native.Nat.{ℕ, zero, suc, _+_, _-_, _*_, _/_, _%_, _≤_, _<_}
 use native.Mathlib.Omega.{arith}
 use native.Mathlib.Numerals.{add-one}
-use lib.ListN.{length, getD, take, drop, set, length-drop, length-append}
-use lib.Seq.{take-suc, take-suc-set, getD-take, getD-drop, getD-append-add, length-take-le}
+use lib.ListN.{length, getD, take, set}
+use lib.Seq.{take-suc, take-suc-set, getD-take}
 use lib.Dec.{eqb, ltb, T, eqb→eq, lt→ltb}
 use lib.Arith.{le→nltb}
 use lib.Ieee.{Float, nan}
-use Rattle.counts.specs.Lists.{In, member}
-use Rattle.counts.specs.Region.{Constraint, constraint, holds, incidence, incidence-from, opposite-side, own-side}
+use Rattle.counts.specs.Lists.{In}
+use Rattle.counts.specs.Region.{Constraint, constraint, holds, incidence, incidence-from}
 use Rattle.counts.specs.Move.{Change}
-use Rattle.counts.specs.Search.{signed}
-use Rattle.counts.specs.Tables.{Other, StandsOn, Tables, across, after, all-decoded, alone, before, cost-in, decoded, edges-of, encoded, none, path-of, the-graph}
-use Rattle.counts.specs.SearchContract.{SidesAt, both-sides, both-signed}
-use Rattle.counts.proofs.BoolLaws.{T-true, clash, not-T-false, or-left, or-right}
-use Rattle.counts.proofs.ListLaws.{holds→incidence, incidence-out, incidence→holds, in→member}
-use Rattle.counts.proofs.SearchLaws.{length-signed}
+use Rattle.counts.specs.Tables.{Other, StandsOn, Tables, across, after, all-decoded, alone, before, cost-in, decoded, encoded, none, path-of, the-graph}
+use Rattle.counts.proofs.BoolLaws.{T-true, clash, not-T-false}
+use Rattle.counts.proofs.ListLaws.{holds→incidence, incidence-out, incidence→holds}
 
 -- ---- packed changes
 
@@ -37,9 +36,6 @@ encoded-decoded d = go (eqb (d % 2) 1) (λ u. eqb→eq (d % 2) 1 u) (λ e. subst
 pub same-entry : (n : ℕ) (l m : List ℕ) (i : ℕ) → take n l ≡ take n m → i < n → getD l i 0 ≡ getD m i 0
 same-entry n l m i e h = sym (getD-take n l i 0 h) ∙ ap (λ (k : List ℕ). getD k i 0) e ∙ getD-take n m i 0 h
 
-decoded-of : (y r s : ℕ) → r < 2 → s ≡ y * 2 + r → decoded s ≡ (y, eqb r 1)
-decoded-of y r s h e = ap (λ (k : ℕ). (k, eqb (s % 2) 1)) (let q : s / 2 ≡ y = omega (arith, h, e) in q) ∙ ap (λ (k : ℕ). (y, eqb k 1)) (let q : s % 2 ≡ r = omega (arith, h, e) in q)
-
 pub start-in : (l : List ℕ) (n : ℕ) → 1 ≤ n → 1 ≤ length l → In (decoded (getD l 0 0)) (path-of n l)
 start-in [] n h h' = absurd (omega (arith, h'))
 start-in (x ∷ l) zero h h' = absurd (omega (arith, h))
@@ -48,6 +44,10 @@ start-in (x ∷ l) (suc n) h h' = inl refl
 -- the cost of a packed change
 pub cost-at : (costs : List Float) (d : ℕ) (v : Float) → v ≡ getD costs d nan → v ≡ cost-in costs (d / 2) (eqb (d % 2) 1)
 cost-at costs d v e = e ∙ ap (λ (k : ℕ). getD costs k nan) (sym (encoded-decoded d))
+
+-- a path with one more change
+pub path-longer : (l : List ℕ) (n d : ℕ) → n < length l → path-of (n + 1) (set l n d) ≡ path-of n l ++ decoded d ∷ []
+path-longer l n d h = ap (λ (m : ℕ). path-of m (set l n d)) (add-one n) ∙ ap all-decoded (take-suc-set l n d h) ∙ decoded-append (take n l) (d ∷ [])
 
 -- a path of one change
 pub one-change : {c : ℕ} (l : List ℕ) → 0 < length l → getD l 0 0 ≡ c → take 1 l ≡ c ∷ []
@@ -117,47 +117,7 @@ module _ (regions incident own : List ℕ) (tables : Tables regions incident own
       go (inl m) = m
       go (inr e) = let q = entry-is p h in absurd (omega (arith, e, q, l))
 
-  -- constraint i of edge y stands at its first place or at its second, and the other one at the other
-  abbrev TwoPlaces : ℕ → ℕ → Type 0
-  TwoPlaces i y =
-      ((getD incident (y * 2) 0 ≡ i) × Other (the-graph regions) y i (getD incident (y * 2 + 1) 0))
-      ⊎ ((getD incident (y * 2 + 1) 0 ≡ i) × (getD incident (y * 2) 0 ≢ i) × Other (the-graph regions) y i (getD incident (y * 2) 0))
-
-  pub two-places : (i y : ℕ) → T (holds (constraint (the-graph regions) i) y) → TwoPlaces i y
-  two-places i y h = go (incidence (the-graph regions) y) refl (holds→incidence (the-graph regions) i y h)
-    where
-      first : getD incident (y * 2) 0 ≡ getD (incidence (the-graph regions) y) 0 none
-      first = ap (λ (k : ℕ). getD incident k 0) (let q : y * 2 ≡ y * 2 + 0 = omega arith in q) ∙ tables .incident-is y 0 (tables .few i y h) (omega arith)
-
-      second : getD incident (y * 2 + 1) 0 ≡ getD (incidence (the-graph regions) y) 1 none
-      second = tables .incident-is y 1 (tables .few i y h) (omega arith)
-
-      low : (l : List ℕ) → incidence (the-graph regions) y ≡ l → (k : ℕ) → In k l → k < none
-      low l e k m = tables .numbered k y (incidence→holds (the-graph regions) k y (subst (λ (s : List ℕ). In k s) (sym e) m))
-
-      go : (l : List ℕ) → incidence (the-graph regions) y ≡ l → In i l → TwoPlaces i y
-      go [] e m = absurd m
-      go (a ∷ []) e (inl q) = inl (first ∙ ap (λ (s : List ℕ). getD s 0 none) e ∙ sym q, alone (second ∙ ap (λ (s : List ℕ). getD s 1 none) e) (e ∙ ap {B = List ℕ} (λ (k : ℕ). k ∷ []) (sym q)))
-      go (a ∷ []) e (inr m) = absurd m
-      go (a ∷ b ∷ []) e (inl q) =
-          let one = second ∙ ap (λ (s : List ℕ). getD s 1 none) e in
-          let up = rising 0 (the-graph regions) y a b [] e in
-          inl (
-            first ∙ ap (λ (s : List ℕ). getD s 0 none) e ∙ sym q,
-            subst (λ (k : ℕ). Other (the-graph regions) y i k) (sym one) (after (low (a ∷ b ∷ []) e b (inr (inl refl))) (λ r. omega (arith, up, q, r)) (e ∙ ap {B = List ℕ} (λ (k : ℕ). k ∷ b ∷ []) (sym q))),
-          )
-      go (a ∷ b ∷ []) e (inr (inl q)) =
-          let zeroth = first ∙ ap (λ (s : List ℕ). getD s 0 none) e in
-          let up = rising 0 (the-graph regions) y a b [] e in
-          inr (
-            second ∙ ap (λ (s : List ℕ). getD s 1 none) e ∙ sym q,
-            (λ r. omega (arith, up, q, zeroth, r)),
-            subst (λ (k : ℕ). Other (the-graph regions) y i k) (sym zeroth) (before (low (a ∷ b ∷ []) e a (inl refl)) (λ r. omega (arith, up, q, r)) (e ∙ ap {B = List ℕ} (λ (k : ℕ). a ∷ k ∷ []) (sym q))),
-          )
-      go (a ∷ b ∷ []) e (inr (inr m)) = absurd m
-      go (a ∷ b ∷ c ∷ l) e m = let q = tables .thin y in let r = ap length e in absurd (omega (arith, q, r))
-
-  -- the same the other way round: the constraints of an edge, by the entries at its two places
+  -- the constraints of an edge, by the entries at its two places
   module _ (y : ℕ) (h : y < 256) where
     first-is : getD incident (y * 2) 0 ≡ getD (incidence (the-graph regions) y) 0 none
     first-is = ap (λ (k : ℕ). getD incident k 0) (let q : y * 2 ≡ y * 2 + 0 = omega arith in q) ∙ tables .incident-is y 0 h (omega arith)
@@ -200,7 +160,44 @@ module _ (regions incident own : List ℕ) (tables : Tables regions incident own
             ∙ ap {B = List ℕ} (λ (k : ℕ). getD incident (y * 2) 0 ∷ k ∷ []) (sym (second-is ∙ ap (λ (s : List ℕ). getD s 1 none) e))
         go (a ∷ b ∷ c ∷ l) e = let q = tables .thin y in let r = ap length e in absurd (omega (arith, q, r))
 
+  -- constraint i of edge y stands at its first place or at its second, and the other one at the other
+  abbrev TwoPlaces : ℕ → ℕ → Type 0
+  TwoPlaces i y =
+      ((getD incident (y * 2) 0 ≡ i) × Other (the-graph regions) y i (getD incident (y * 2 + 1) 0))
+      ⊎ ((getD incident (y * 2 + 1) 0 ≡ i) × (getD incident (y * 2) 0 ≢ i) × Other (the-graph regions) y i (getD incident (y * 2) 0))
+
+  pub two-places : (i y : ℕ) → T (holds (constraint (the-graph regions) i) y) → TwoPlaces i y
+  two-places i y h = go (incidence (the-graph regions) y) refl (holds→incidence (the-graph regions) i y h)
+    where
+      low : y < 256
+      low = tables .few i y h
+
+      go : (l : List ℕ) → incidence (the-graph regions) y ≡ l → In i l → TwoPlaces i y
+      go [] e m = absurd m
+      go (a ∷ []) e (inl q) = inl (first-is y low ∙ ap (λ (s : List ℕ). getD s 0 none) e ∙ sym q, alone (second-is y low ∙ ap (λ (s : List ℕ). getD s 1 none) e) (e ∙ ap {B = List ℕ} (λ (k : ℕ). k ∷ []) (sym q)))
+      go (a ∷ []) e (inr m) = absurd m
+      go (a ∷ b ∷ []) e (inl q) =
+          let one = second-is y low ∙ ap (λ (s : List ℕ). getD s 1 none) e in
+          let up = rising 0 (the-graph regions) y a b [] e in
+          inl (
+            first-is y low ∙ ap (λ (s : List ℕ). getD s 0 none) e ∙ sym q,
+            subst (λ (k : ℕ). Other (the-graph regions) y i k) (sym one) (after (low-in y low (a ∷ b ∷ []) e b (inr (inl refl))) (λ r. omega (arith, up, q, r)) (e ∙ ap {B = List ℕ} (λ (k : ℕ). k ∷ b ∷ []) (sym q))),
+          )
+      go (a ∷ b ∷ []) e (inr (inl q)) =
+          let zeroth = first-is y low ∙ ap (λ (s : List ℕ). getD s 0 none) e in
+          let up = rising 0 (the-graph regions) y a b [] e in
+          inr (
+            second-is y low ∙ ap (λ (s : List ℕ). getD s 1 none) e ∙ sym q,
+            (λ r. omega (arith, up, q, zeroth, r)),
+            subst (λ (k : ℕ). Other (the-graph regions) y i k) (sym zeroth) (before (low-in y low (a ∷ b ∷ []) e a (inl refl)) (λ r. omega (arith, up, q, r)) (e ∙ ap {B = List ℕ} (λ (k : ℕ). a ∷ k ∷ []) (sym q))),
+          )
+      go (a ∷ b ∷ []) e (inr (inr m)) = absurd m
+      go (a ∷ b ∷ c ∷ l) e m = let q = tables .thin y in let r = ap length e in absurd (omega (arith, q, r))
+
 -- ---- the other constraint of an edge
+
+pub other-same : {g : List Constraint} {y i o o' : ℕ} → o' ≡ o → Other g y i o → Other g y i o'
+other-same {g} {y} {i} {o} {o'} e w = subst (λ (k : ℕ). Other g y i k) (sym e) w
 
 pub other-in : (g : List Constraint) (y i o j : ℕ) → Other g y i o → In j (incidence g y) → (j ≡ i) ⊎ (j ≡ o)
 other-in g y i o j (alone e q) m = elim (subst (λ (l : List ℕ). In j l) q m) [ inl a ↦ inl a | inr a ↦ absurd a ]
@@ -246,142 +243,3 @@ module _ (regions incident own : List ℕ) (y i : ℕ) (tables : Tables regions 
   place-second n =
       let b = low in
       (omega (arith, b), omega arith, elim (two-places regions incident own tables i y h) [ inl w ↦ absurd (n (w .0)) | inr w ↦ w .0 ])
-
--- ---- the edges of the two sides
-
--- ---- the two sides
-length-edges-of : (regions : List ℕ) (s : ℕ) → s * 17 + 17 ≤ length regions → getD regions (s * 17) 0 ≤ 16 → length (edges-of regions s) ≡ getD regions (s * 17) 0
-length-edges-of regions s h k = length-take-le (getD regions (s * 17) 0) (drop (s * 17 + 1) regions) (let q = length-drop (s * 17 + 1) regions in omega (arith, q, h, k))
-
-pub sides-at : (regions : List ℕ) (i x s s' a b : ℕ) → StandsOn regions i x s → s' ≡ across s → a ≡ getD regions (s' * 17) 0 → b ≡ getD regions (s * 17) 0 → SidesAt regions i x (s' * 17 + 1) a (s * 17 + 1) (a + b)
-sides-at regions i x s s' a b d e p q =
-    record {
-      opposite-is = d .opposite-is ∙ ap (edges-of regions) (sym e) ∙ ap (λ (k : ℕ). take k (drop (s' * 17 + 1) regions)) (sym p);
-      own-is = d .own-is ∙ ap (λ (k : ℕ). take k (drop (s * 17 + 1) regions)) (sym q ∙ (let r : b ≡ a + b - a = omega arith in r));
-      opposite-fits = (let r = fits' in let k = few' in omega (arith, r, k, p));
-      own-fits = (let r = d .own-fits in let k = d .own-few in omega (arith, r, k, q));
-      in-order = omega arith;
-      few = (let k = few' in let l = d .own-few in omega (arith, k, l, p, q));
-      count = p' ∙ ap (λ (n : ℕ). n + b) p ∙ ap (λ (n : ℕ). getD regions (s' * 17) 0 + n) q ∙ sym (ap (λ (n : ℕ). n + length (own-side (constraint (the-graph regions) i) x)) (ap length (d .opposite-is) ∙ ap (λ (k : ℕ). length (edges-of regions k)) (sym e) ∙ length-edges-of regions s' fits' few')
-          ∙ ap (λ (n : ℕ). getD regions (s' * 17) 0 + n) (ap length (d .own-is) ∙ length-edges-of regions s (d .own-fits) (d .own-few)));
-    }
-  where
-    p' : a + b ≡ a + b
-    p' = refl
-
-    fits' : s' * 17 + 17 ≤ length regions
-    fits' = subst (λ (k : ℕ). k * 17 + 17 ≤ length regions) (sym e) (d .opposite-fits)
-
-    few' : getD regions (s' * 17) 0 ≤ 16
-    few' = subst (λ (k : ℕ). getD regions (k * 17) 0 ≤ 16) (sym e) (d .opposite-few)
-
--- ---- a partner
-pub getD-left : {A : Type 0} (a b : List A) (j : ℕ) (d : A) → j < length a → getD (a ++ b) j d ≡ getD a j d
-getD-left [] b j d h = absurd (omega (arith, h))
-getD-left (x ∷ a) b zero d h = refl
-getD-left (x ∷ a) b (suc j) d h = getD-left a b j d (omega (arith, h))
-
-getD-signed : (s : Bool) (l : List ℕ) (j : ℕ) (d : Change) → j < length l → getD (signed s l) j d ≡ (getD l j 0, s)
-getD-signed s [] j d h = absurd (omega (arith, h))
-getD-signed s (y ∷ l) zero d h = refl
-getD-signed s (y ∷ l) (suc j) d h = getD-signed s l j d (omega (arith, h))
-
-pub in-getD : (l : List ℕ) (j : ℕ) → j < length l → In (getD l j 0) l
-in-getD [] j h = absurd (omega (arith, h))
-in-getD (x ∷ l) zero h = inl refl
-in-getD (x ∷ l) (suc j) h = inr (in-getD l j (omega (arith, h)))
-
-own-holds : (c : Constraint) (x y : ℕ) (b : Bool) → T (member y (cond b (c .a) (c .b))) → T (holds c y)
-own-holds c x y true t = or-left (member y (c .a)) (member y (c .b)) t
-own-holds c x y false t = or-right (member y (c .a)) (member y (c .b)) t
-
-opposite-holds : (c : Constraint) (x y : ℕ) (b : Bool) → T (member y (cond b (c .b) (c .a))) → T (holds c y)
-opposite-holds c x y true t = or-right (member y (c .a)) (member y (c .b)) t
-opposite-holds c x y false t = or-left (member y (c .a)) (member y (c .b)) t
-
--- the edge at a place of the two sides
-pub edge-opposite : (regions : List ℕ) (i x a b b' total j y : ℕ) → SidesAt regions i x a b b' total → j < b → y ≡ getD regions (a + j) 0 → y ≡ getD (both-sides (constraint (the-graph regions) i) x) j 0
-edge-opposite regions i x a b b' total j y l h e =
-    e ∙ sym (getD-drop a regions j 0) ∙ sym (getD-take b (drop a regions) j 0 h) ∙ ap (λ (k : List ℕ). getD k j 0) (sym (l .opposite-is)) ∙ sym (getD-left (opposite-side (constraint (the-graph regions) i) x) (own-side (constraint (the-graph regions) i) x) j 0 (omega (arith, long, h)))
-  where
-    long : length (opposite-side (constraint (the-graph regions) i) x) ≡ b
-    long = ap length (l .opposite-is) ∙ length-take-le b (drop a regions) (let q = length-drop a regions in let r = l .opposite-fits in omega (arith, q, r))
-
-pub edge-own : (regions : List ℕ) (i x a b b' total j y : ℕ) → SidesAt regions i x a b b' total → b ≤ j → j < total → y ≡ getD regions (b' + (j - b)) 0 → y ≡ getD (both-sides (constraint (the-graph regions) i) x) j 0
-edge-own regions i x a b b' total j y l h h' e =
-    e ∙ sym (getD-drop b' regions (j - b) 0) ∙ sym (getD-take (total - b) (drop b' regions) (j - b) 0 (omega (arith, h, h'))) ∙ ap (λ (k : List ℕ). getD k (j - b) 0) (sym (l .own-is))
-    ∙ sym (getD-append-add (opposite-side (constraint (the-graph regions) i) x) (own-side (constraint (the-graph regions) i) x) (j - b) 0) ∙ ap (λ (k : ℕ). getD (both-sides (constraint (the-graph regions) i) x) k 0) (omega (arith, long, h))
-  where
-    long : length (opposite-side (constraint (the-graph regions) i) x) ≡ b
-    long = ap length (l .opposite-is) ∙ length-take-le b (drop a regions) (let q = length-drop a regions in let r = l .opposite-fits in omega (arith, q, r))
-
-pub length-both-sides : (regions : List ℕ) (i x a b b' total : ℕ) → SidesAt regions i x a b b' total → length (both-sides (constraint (the-graph regions) i) x) ≡ total
-length-both-sides regions i x a b b' total l = length-append (opposite-side (constraint (the-graph regions) i) x) (own-side (constraint (the-graph regions) i) x) ∙ sym (l .count)
-
-abbrev Partner : List ℕ → ℕ → ℕ → ℕ → ℕ → ℕ → Type 0
-Partner regions i x c j r = (r < 512) × T (holds (constraint (the-graph regions) i) (r / 2)) × (decoded r ≡ getD (both-signed (constraint (the-graph regions) i) x (eqb (c % 2) 1)) j (decoded 0))
-
-pub partner-opposite : (regions incident own : List ℕ) (i x a b b' total c j y : ℕ) → Tables regions incident own → SidesAt regions i x a b b' total → j < b → y ≡ getD regions (a + j) 0 → Partner regions i x c j (y * 2 + c % 2)
-partner-opposite regions incident own i x a b b' total c j y f l h e = (
-  omega (arith, below),
-  subst (λ (k : ℕ). T (holds (constraint (the-graph regions) i) k)) (let q : y ≡ (y * 2 + c % 2) / 2 = omega arith in q) there,
-  decoded-of y (c % 2) (y * 2 + c % 2) (omega arith) refl ∙ ap (λ (k : ℕ). (k, eqb (c % 2) 1)) same ∙ sym (getD-signed (eqb (c % 2) 1) A j (decoded 0) in-A) ∙ sym (getD-left (signed (eqb (c % 2) 1) A) (signed (not (eqb (c % 2) 1)) (own-side (constraint (the-graph regions) i) x)) j (decoded 0) (let q = length-signed (eqb (c % 2) 1) A in omega (arith, q, in-A))),
-)
-  where
-    A : List ℕ
-    A = opposite-side (constraint (the-graph regions) i) x
-
-    long : length A ≡ b
-    long = ap length (l .opposite-is) ∙ length-take-le b (drop a regions) (let q = length-drop a regions in let r = l .opposite-fits in omega (arith, q, r))
-
-    in-A : j < length A
-    in-A = omega (arith, long, h)
-
-    same : y ≡ getD A j 0
-    same = e ∙ sym (getD-drop a regions j 0) ∙ sym (getD-take b (drop a regions) j 0 h) ∙ ap (λ (k : List ℕ). getD k j 0) (sym (l .opposite-is))
-
-    there : T (holds (constraint (the-graph regions) i) y)
-    there = opposite-holds (constraint (the-graph regions) i) x y (member x (constraint (the-graph regions) i .a)) (in→member y A (subst (λ (k : ℕ). In k A) (sym same) (in-getD A j in-A)))
-
-    below : y < 256
-    below = f .few i y there
-
-pub partner-own : (regions incident own : List ℕ) (i x a b b' total c j y : ℕ) → Tables regions incident own → SidesAt regions i x a b b' total → b ≤ j → j < total → y ≡ getD regions (b' + (j - b)) 0 → Partner regions i x c j (y * 2 + (1 - c % 2))
-partner-own regions incident own i x a b b' total c j y f l h h' e = (
-  omega (arith, below),
-  subst (λ (k : ℕ). T (holds (constraint (the-graph regions) i) k)) (let q : y ≡ (y * 2 + (1 - c % 2)) / 2 = omega arith in q) there,
-  decoded-of y (1 - c % 2) (y * 2 + (1 - c % 2)) (omega arith) refl ∙ ap (λ (k : Bool). (y, k)) turned ∙ ap (λ (k : ℕ). (k, not (eqb (c % 2) 1))) same ∙ sym (getD-signed (not (eqb (c % 2) 1)) B (j - b) (decoded 0) in-B)
-      ∙ sym (getD-append-add (signed (eqb (c % 2) 1) A) (signed (not (eqb (c % 2) 1)) B) (j - b) (decoded 0)) ∙ ap (λ (k : ℕ). getD (both-signed (constraint (the-graph regions) i) x (eqb (c % 2) 1)) k (decoded 0)) (let q = length-signed (eqb (c % 2) 1) A in omega (arith, q, long, h)),
-)
-  where
-    A : List ℕ
-    A = opposite-side (constraint (the-graph regions) i) x
-
-    B : List ℕ
-    B = own-side (constraint (the-graph regions) i) x
-
-    long : length A ≡ b
-    long = ap length (l .opposite-is) ∙ length-take-le b (drop a regions) (let q = length-drop a regions in let r = l .opposite-fits in omega (arith, q, r))
-
-    long' : length B ≡ total - b
-    long' = ap length (l .own-is) ∙ length-take-le (total - b) (drop b' regions) (let q = length-drop b' regions in let r = l .own-fits in omega (arith, q, r))
-
-    in-B : j - b < length B
-    in-B = omega (arith, long', h, h')
-
-    same : y ≡ getD B (j - b) 0
-    same = e ∙ sym (getD-drop b' regions (j - b) 0) ∙ sym (getD-take (total - b) (drop b' regions) (j - b) 0 (omega (arith, h, h'))) ∙ ap (λ (k : List ℕ). getD k (j - b) 0) (sym (l .own-is))
-
-    there : T (holds (constraint (the-graph regions) i) y)
-    there = own-holds (constraint (the-graph regions) i) x y (member x (constraint (the-graph regions) i .a)) (in→member y B (subst (λ (k : ℕ). In k B) (sym same) (in-getD B (j - b) in-B)))
-
-    below : y < 256
-    below = f .few i y there
-
-    turned : eqb (1 - c % 2) 1 ≡ not (eqb (c % 2) 1)
-    turned = go (c % 2) (let q : c % 2 < 2 = omega arith in q)
-      where
-        go : (k : ℕ) → k < 2 → eqb (1 - k) 1 ≡ not (eqb k 1)
-        go zero q = refl
-        go (suc zero) q = refl
-        go (suc (suc k)) q = absurd (omega (arith, q))

@@ -1,8 +1,8 @@
--- The scan of a constraint for changed edges. Assumes nothing.
+-- The scan of a constraint for changed edges: a change against the edges of both sides, and the changes one after the other. Assumes nothing.
 use mathlib.Core.Logic.{_≢_}
 use mathlib.Core.Path.{_≡_, refl, sym, ap, subst, _∙_}
 use mathlib.Core.Bool.{Bool, true, false, not, _&&_, _||_, cond}
-use mathlib.Core.List.{List, [], _∷_, _++_}
+use mathlib.Core.List.{List, [], _∷_, _++_, append-nil}
 use Prim.Native.Nat.{ℕ, _+_, _-_, _/_, _≤_, _<_}
 use native.Mathlib.Omega.{arith}
 use native.Mathlib.Numerals.{add-one}
@@ -10,7 +10,7 @@ use lib.ListN.{length, getD, take, drop}
 use lib.Seq.{take-suc, take-all, take-add}
 use lib.Dec.{eqb}
 use Rattle.counts.specs.Lists.{In, member}
-use Rattle.counts.specs.Region.{Constraint, holds, opposite-side, own-side}
+use Rattle.counts.specs.Region.{Constraint, holds}
 use Rattle.counts.specs.Move.{Change}
 use Rattle.counts.specs.Search.{differs, others-changed}
 use Rattle.counts.specs.Tables.{all-decoded, decoded, path-of}
@@ -19,35 +19,18 @@ use Rattle.counts.specs.declared.search.Changed.{Changed}
 use Rattle.counts.specs.declared.search.Changed.the-variants.{Many, Nothing, One}
 use Rattle.counts.proofs.BoolLaws.{T-true, ne→eqb, same→eqb}
 use Rattle.counts.proofs.ListLaws.{in→member, select-append}
-use Rattle.counts.proofs.Places.{decoded-append, in-getD}
+use Rattle.counts.proofs.Places.{decoded-append}
+use Rattle.counts.proofs.TwoSides.{holds-both, in-getD, member-append}
 
-member-append : (e : ℕ) (a b : List ℕ) → member e (a ++ b) ≡ (member e a || member e b)
-member-append e [] b = refl
-member-append e (x ∷ a) b = ap (λ (k : Bool). eqb e x || k) (member-append e a b) ∙ go (eqb e x) (member e a) (member e b)
-  where
-    go : (p q r : Bool) → (p || (q || r)) ≡ ((p || q) || r)
-    go true q r = refl
-    go false q r = refl
+-- ---- one change against the edges of both sides
 
-or-swap : (a b : Bool) → (a || b) ≡ (b || a)
-or-swap true true = refl
-or-swap true false = refl
-or-swap false true = refl
-or-swap false false = refl
-
-pub holds-both : (c : Constraint) (x e : ℕ) → holds c e ≡ member e (both-sides c x)
-holds-both c x e = go (member x (c .a)) ∙ sym (member-append e (opposite-side c x) (own-side c x))
-  where
-    go : (b : Bool) → holds c e ≡ (member e (cond b (c .b) (c .a)) || member e (cond b (c .a) (c .b)))
-    go true = or-swap (member e (c .a)) (member e (c .b))
-    go false = refl
-
--- a further place
+-- one more edge is another one
 pub missed : (l : List ℕ) (e j : ℕ) → j < length l → member e (take j l) ≡ false → getD l j 0 ≢ e → member e (take (j + 1) l) ≡ false
 missed l e j h m n =
     ap (λ (k : ℕ). member e (take k l)) (add-one j) ∙ ap (member e) (take-suc l j 0 h) ∙ member-append e (take j l) (getD l j 0 ∷ []) ∙ ap (λ (b : Bool). b || (eqb e (getD l j 0) || false)) m
     ∙ ap (λ (b : Bool). b || false) (ne→eqb e (getD l j 0) (λ q. n (sym q)))
 
+-- a changed edge e counts if it is not x and c holds it
 abbrev hit : Constraint → ℕ → ℕ → Bool
 hit c x e = differs x e && holds c e
 
@@ -66,11 +49,8 @@ hit-yes c x e j n h q =
     ap (λ (b : Bool). not b && holds c e) (ne→eqb e x n)
     ∙ holds-both c x e ∙ T-true (member e (both-sides c x)) (in→member e (both-sides c x) (subst (λ (k : ℕ). In k (both-sides c x)) q (in-getD (both-sides c x) j h)))
 
-append-nil : (l : List Change) → l ++ [] ≡ l
-append-nil [] = refl
-append-nil (x ∷ l) = ap {B = List Change} (λ k. x ∷ k) (append-nil l)
+-- ---- the changes one after the other
 
--- one more change
 path-more : (c : Constraint) (x : ℕ) (l : List ℕ) (i : ℕ) → i < length l → others-changed c x (path-of (i + 1) l) ≡ others-changed c x (path-of i l) ++ cond (hit c x (getD l i 0 / 2)) (decoded (getD l i 0) ∷ []) []
 path-more c x l i h =
     ap (λ (k : ℕ). others-changed c x (path-of k l)) (add-one i) ∙ ap (λ (k : List ℕ). others-changed c x (all-decoded k)) (take-suc l i 0 h) ∙ ap (others-changed c x) (decoded-append (take i l) (getD l i 0 ∷ []))

@@ -1,7 +1,9 @@
 -- The definition of the search, one law for each way that it can go. Assumes nothing.
+-- First what an edge's constraints say of a step to it, then one level of the search, then the walk along both sides of a constraint, then what the
+-- path leaves in an unused constraint, and at last which paths are complete and what is recorded.
 use mathlib.Core.Logic.{_≢_, inl, inr}
 use mathlib.Core.Path.{_≡_, refl, sym, ap, subst, _∙_}
-use mathlib.Core.Bool.{Bool, true, false, not, _&&_, _||_, cond, true≢false}
+use mathlib.Core.Bool.{Bool, true, false, not, _&&_, _||_, cond, true≢false, or-false}
 use mathlib.Core.List.{List, [], _∷_, _++_}
 use Prim.Native.Nat.{ℕ, suc, _+_, _≤_, _<_}
 use native.Mathlib.Omega.{arith}
@@ -29,8 +31,9 @@ each-append f (x ∷ l) m st = each-append f l m (f x st)
 pub each-suc : {A : Type 0} (f : A → Act) (l : List A) (j : ℕ) (d : A) (st : State) → j < length l → each f (take (suc j) l) st ≡ f (getD l j d) (each f (take j l) st)
 each-suc f l j d st h = ap (λ k. each f k st) (take-suc l j d h) ∙ each-append f (take j l) (getD l j d ∷ []) st
 
--- ---- the constraints of an edge reached through i
-module _ (g : List Constraint) (edge-cost : ℕ → Bool → Float) (allowed : ℕ → Bool → Bool) (limit : ℕ) (x0 : ℕ) (s0 : Bool) where
+-- ---- the constraints of an edge y that is reached through i
+
+module _ (g : List Constraint) where
   abbrev unused-of : List Bool → ℕ → List ℕ
   unused-of used y = filter (λ (j : ℕ). not (is-used used j)) (incidence g y)
 
@@ -48,6 +51,7 @@ module _ (g : List Constraint) (edge-cost : ℕ → Bool → Float) (allowed : �
       ∙ ap (λ (b : Bool). cond {A = List ℕ} (not b) (o ∷ cond (not (is-used used i)) (i ∷ []) []) (cond (not (is-used used i)) (i ∷ []) [])) v
       ∙ ap {B = List ℕ} (λ (b : Bool). o ∷ cond {A = List ℕ} (not b) (i ∷ []) []) u
 
+  -- whether a constraint of y other than i is used
   abbrev barred : List Bool → ℕ → ℕ → Bool
   barred used i y = any (λ (j : ℕ). differs i j && is-used used j) (incidence g y)
 
@@ -60,19 +64,14 @@ module _ (g : List Constraint) (edge-cost : ℕ → Bool → Float) (allowed : �
       ap (any (λ (j : ℕ). differs i j && is-used used j)) q
       ∙ ap (λ (b : Bool). (not b && is-used used i) || ((not (eqb o i) && is-used used o) || false)) (same→eqb i)
       ∙ ap (λ (b : Bool). (not b && is-used used o) || false) (ne→eqb o i n) ∙ or-false (is-used used o)
-    where
-      or-false : (b : Bool) → (b || false) ≡ b
-      or-false true = refl
-      or-false false = refl
   barred-other used y i o h (before l n q) =
       ap (any (λ (j : ℕ). differs i j && is-used used j)) q
       ∙ ap (λ (b : Bool). (not (eqb o i) && is-used used o) || ((not b && is-used used i) || false)) (same→eqb i)
       ∙ ap (λ (b : Bool). (not b && is-used used o) || false) (ne→eqb o i n) ∙ or-false (is-used used o)
-    where
-      or-false : (b : Bool) → (b || false) ≡ b
-      or-false true = refl
-      or-false false = refl
 
+-- ---- one level of the search
+
+module _ (g : List Constraint) (edge-cost : ℕ → Bool → Float) (allowed : ℕ → Bool → Bool) (limit : ℕ) (x0 : ℕ) (s0 : Bool) where
   abbrev may : List Bool → List Change → ℕ → Change → Bool
   may used path i z = may-step g edge-cost allowed limit x0 s0 used path i z
 
@@ -80,17 +79,17 @@ module _ (g : List Constraint) (edge-cost : ℕ → Bool → Float) (allowed : �
   on-path path y = any (λ (w : Change). eqb (w .0) y) path
 
   pub may-not : (used : List Bool) (path : List Change) (i : ℕ) (z : Change) → allowed (z .0) (z .1) ≡ false → may used path i z ≡ false
-  may-not used path i z e = ap (λ (b : Bool). not (on-path path (z .0)) && (not (barred used i (z .0)) && b)) e ∙ go (not (on-path path (z .0))) (not (barred used i (z .0)))
+  may-not used path i z e = ap (λ (b : Bool). not (on-path path (z .0)) && (not (barred g used i (z .0)) && b)) e ∙ go (not (on-path path (z .0))) (not (barred g used i (z .0)))
     where
       go : (a b : Bool) → (a && (b && false)) ≡ false
       go true true = refl
       go true false = refl
       go false b = refl
 
-  pub may-is : (used : List Bool) (path : List Change) (i : ℕ) (z : Change) (b : Bool) → on-path path (z .0) ≡ false → allowed (z .0) (z .1) ≡ true → barred used i (z .0) ≡ b → may used path i z ≡ not b
+  pub may-is : (used : List Bool) (path : List Change) (i : ℕ) (z : Change) (b : Bool) → on-path path (z .0) ≡ false → allowed (z .0) (z .1) ≡ true → barred g used i (z .0) ≡ b → may used path i z ≡ not b
   may-is used path i z b m e f =
-      ap (λ (a : Bool). not a && (not (barred used i (z .0)) && allowed (z .0) (z .1))) m
-      ∙ ap (λ (a : Bool). not (barred used i (z .0)) && a) e ∙ ap (λ (a : Bool). not a && true) f ∙ go b
+      ap (λ (a : Bool). not a && (not (barred g used i (z .0)) && allowed (z .0) (z .1))) m
+      ∙ ap (λ (a : Bool). not (barred g used i (z .0)) && a) e ∙ ap (λ (a : Bool). not a && true) f ∙ go b
     where
       go : (b : Bool) → (not b && true) ≡ not b
       go true = refl
@@ -112,21 +111,21 @@ module _ (g : List Constraint) (edge-cost : ℕ → Bool → Float) (allowed : �
   unfolding dfs
   dfs-enters k used path x s t st h = ap (λ (b : Bool). cond b turned-back (enter g edge-cost allowed limit x0 s0 (dfs g edge-cost allowed limit x0 s0 k) used path x s t) st) (sym (not-T-false (leb limit (st .expansions)) (λ u. clash (leb limit (st .expansions)) u (lt→nleb limit (st .expansions) h))))
 
-  pub enter-one : (go : Go) (used : List Bool) (path : List Change) (x : ℕ) (s : Bool) (t : Float) (o : ℕ) (st : State) → unused-of used x ≡ o ∷ [] → visit g edge-cost allowed limit x0 s0 go used path x s t o (entered st) ≡ enter g edge-cost allowed limit x0 s0 go used path x s t st
+  pub enter-one : (go : Go) (used : List Bool) (path : List Change) (x : ℕ) (s : Bool) (t : Float) (o : ℕ) (st : State) → unused-of g used x ≡ o ∷ [] → visit g edge-cost allowed limit x0 s0 go used path x s t o (entered st) ≡ enter g edge-cost allowed limit x0 s0 go used path x s t st
   unfolding enter
   enter-one go used path x s t o st e = ap (λ (l : List ℕ). enter-by g edge-cost allowed limit x0 s0 go used path x s t l (entered st)) (sym e)
 
-  pub enter-none : (go : Go) (used : List Bool) (path : List Change) (x : ℕ) (s : Bool) (t : Float) (st : State) → unused-of used x ≡ [] → record-path g used path t (entered st) ≡ enter g edge-cost allowed limit x0 s0 go used path x s t st
+  pub enter-none : (go : Go) (used : List Bool) (path : List Change) (x : ℕ) (s : Bool) (t : Float) (st : State) → unused-of g used x ≡ [] → record-path g used path t (entered st) ≡ enter g edge-cost allowed limit x0 s0 go used path x s t st
   unfolding enter
   enter-none go used path x s t st e = ap (λ (l : List ℕ). enter-by g edge-cost allowed limit x0 s0 go used path x s t l (entered st)) (sym e)
 
-  -- ---- a crossing
   pub visit-crosses : (go : Go) (used : List Bool) (path : List Change) (x : ℕ) (s : Bool) (t : Float) (i : ℕ) → others-changed (constraint g i) x path ≡ []
       → each (try-step g edge-cost allowed limit x0 s0 go (set used i true) path t i) (partners (constraint g i) x s) ≡ visit g edge-cost allowed limit x0 s0 go used path x s t i
   unfolding visit
   visit-crosses go used path x s t i e = ap (visit-by g edge-cost allowed limit x0 s0 go used path x s t i) (sym e)
 
 -- ---- a walk along both sides that skips the last edge itself
+
 each-opposite : (f : Change → Act) (x : ℕ) (s : Bool) (l : List ℕ) (st : State) → member x l ≡ false → each f (signed s l) st ≡ each (λ (z : Change). cond (differs x (z .0)) (f z) skip) (signed s l) st
 each-opposite f x s [] st e = refl
 each-opposite f x s (y ∷ l) st e =
@@ -169,7 +168,8 @@ opposite-without c x h = go (member x (c .a)) (λ u. u) (λ u. u)
     go true f f' = not-T-false (member x (c .b)) (h (f tt))
     go false f f' = not-T-false (member x (c .a)) (λ u. absurd (f' u))
 
--- ---- what an open constraint holds of the path
+-- ---- what an unused constraint holds of the path
+
 -- no edge of the path besides x, and not x: none at all
 pub none-held : (c : Constraint) (x : ℕ) (path : List Change) → others-changed c x path ≡ [] → (T (holds c x) → ⊥) → select (holds c) path ≡ []
 none-held c x path e h = select-none (holds c) path (λ z i t. nothing-in z (others-changed c x path) (select-in (λ (y : ℕ). differs x y && holds c y) z path i (both-hold (z .0) t)) e)
@@ -194,14 +194,17 @@ none-but-next c y s path e =
       | inr (inr q) ↦ absurd q
     ])
 
--- ---- complete, or not
+-- ---- which paths are complete
+
 used-or : (b : Bool) → (b ≡ false → ⊥) → T b
 used-or true f = tt
 used-or false f = f refl
 
+-- no constraint of a changed edge is unused
 pub all-used : (g : List Constraint) (used : List Bool) (path : List Change) → ((w : Change) (j : ℕ) → In w path → In j (incidence g (w .0)) → is-used used j ≡ false → ⊥) → path-is-complete g used path ≡ true
 all-used g used path f = T-true (path-is-complete g used path) (every (λ (z : Change). all (is-used used) (incidence g (z .0))) path (λ w m. every (is-used used) (incidence g (w .0)) (λ j k. used-or (is-used used j) (f w j m k))))
 
+-- a chain that ends at an edge with the one constraint i
 pub chain-complete : (g : List Constraint) (used : List Bool) (path : List Change) (z : Change) (i : ℕ)
     → ((j : ℕ) → is-used used j ≡ false → j ≢ 256 → select (holds (constraint g j)) path ≡ []) → ((j y : ℕ) → T (holds (constraint g j) y) → j < 256) → incidence g (z .0) ≡ i ∷ [] → is-used used i ≡ true → path-is-complete g used (path ++ z ∷ []) ≡ true
 chain-complete g used path z i away few one u =
@@ -215,7 +218,8 @@ chain-complete g used path z i away few one u =
     end j v (inl q) = true≢false (sym u ∙ ap (is-used used) (sym q) ∙ v)
     end j v (inr q) = absurd q
 
--- ---- what is noted
+-- ---- what is recorded
+
 pub record-incomplete : (g : List Constraint) (used : List Bool) (path : List Change) (t : Float) (st : State) → path-is-complete g used path ≡ false → st ≡ record-path g used path t st
 unfolding record-path
 record-incomplete g used path t st e = sym (ap (λ (b : Bool). cond (lt t (sub binary64 (st .kept) eps) && b) (keep-reading t path) skip st) e ∙ go (lt t (sub binary64 (st .kept) eps)))

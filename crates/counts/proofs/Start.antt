@@ -21,8 +21,7 @@ use Rattle.counts.specs.declared.search.SearchState.{SearchState}
 use Rattle.counts.proofs.BoolLaws.{false-T}
 use Rattle.counts.proofs.ListLaws.{free-set, holds→incidence, incidence→holds}
 use Rattle.counts.proofs.SearchLaws.{dfs-enters, dfs-turned-back, record-high, record-kept}
-use Rattle.counts.proofs.Places.{entry-holds, entry-most, one-change, one-constraint, other-differs, other-first, other-held, other-in, other-second, same-entry, two-constraints}
-use Rattle.counts.proofs.Steps.{other-same}
+use Rattle.counts.proofs.Places.{entry-holds, entry-most, one-change, one-constraint, other-differs, other-first, other-held, other-in, other-same, other-second, same-entry, two-constraints}
 use Rattle.counts.proofs.Scan.{hit-self}
 use Rattle.counts.proofs.Marks.{dfs-like}
 

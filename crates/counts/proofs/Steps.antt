@@ -1,4 +1,8 @@
 -- One step of the search and one crossing of a constraint, from what is lent to what is left. Assumes nothing.
+-- The idea: a path runs from constraint to constraint, and each constraint that it has passed is used. So an unused constraint, other than the start's
+-- open one (`home`), holds no changed edge but perhaps the last (`away`), and if it holds the last edge it is the one to cross (`mine`). Hence an edge
+-- tried in a crossing is not on the path, and after the crossing's mark no unused constraint besides `home` holds any changed edge. Stepping to an edge
+-- with the constraints i, used, and o brings both facts back: o is unused and is the one to cross, or is used and the step is barred.
 use mathlib.Core.Logic.{_≢_, inl, inr}
 use mathlib.Core.Path.{_≡_, refl, sym, ap, subst, _∙_}
 use mathlib.Core.Bool.{Bool, true, false, not, _&&_, _||_, cond, true≢false}
@@ -7,20 +11,22 @@ use Prim.Native.Nat.{ℕ, zero, suc, _+_, _-_, _/_, _%_, _≤_, _<_}
 use native.Mathlib.Omega.{arith}
 use native.Mathlib.Numerals.{add-one}
 use lib.ListN.{length, getD, take, set, length-set}
-use lib.Seq.{take-suc-set, take-take, take-set-le, take-all, getD-set-other, getD-set-same}
+use lib.Seq.{take-take, take-set-le, take-all, getD-set-other, getD-set-same}
 use lib.Dec.{eqb, T}
 use lib.Ieee.{Float, nan, add, binary64}
 use Rattle.counts.specs.Lists.{In, any, each}
-use Rattle.counts.specs.Region.{Constraint, constraint, holds, incidence, opposite-side, own-side}
+use Rattle.counts.specs.Region.{Constraint, constraint, holds, incidence}
 use Rattle.counts.specs.Move.{Change, select}
 use Rattle.counts.specs.Search.{Act, State, differs, free, is-used, others-changed, partners, skip, visit}
-use Rattle.counts.specs.Tables.{Other, Tables, after, all-decoded, allowed-in, alone, before, cost-in, decoded, path-of, state-of, the-graph}
+use Rattle.counts.specs.Tables.{Other, Tables, all-decoded, allowed-in, cost-in, decoded, path-of, state-of, the-graph}
 use Rattle.counts.specs.SearchContract.{Crossed, MayCross, MayStep, SidesAt, Stepped, both-signed, dfs-of, try-partner-of, try-step-of, visit-of}
 use Rattle.counts.specs.declared.search.SearchState.{SearchState}
 use Rattle.counts.proofs.BoolLaws.{T-true, clash, false-T, ne→eqb, not-T-false, same→eqb}
 use Rattle.counts.proofs.ListLaws.{free-set, holds→incidence, set-used, still-used, used-before}
 use Rattle.counts.proofs.SearchLaws.{barred-other, dfs-enters, dfs-turned-back, each-both, each-suc, enter-one, length-both-signed, may-is, may-not, none-but-next, none-held, not-on-path, opposite-without, try-step-no, try-step-yes, unused-other, visit-crosses}
-use Rattle.counts.proofs.Places.{cost-at, decoded-append, encoded-decoded, same-entry}
+use Rattle.counts.proofs.Places.{cost-at, encoded-decoded, other-in, path-longer, same-entry}
+
+-- ---- the ways of a step
 
 partner-differs : (b : Bool) (f : Act) (st : State) → b ≡ false → f st ≡ cond (not b) f skip st
 partner-differs b f st e = ap (λ (a : Bool). cond (not a) f skip st) (sym e)
@@ -44,6 +50,7 @@ module _ (regions : List ℕ) (costs : List Float) (allowed : List Bool) (limit 
   allowed-is : (b : Bool) → b ≡ getD allowed d false → allowed-in allowed (d / 2) (eqb (d % 2) 1) ≡ b
   allowed-is b h = ap (λ (k : ℕ). getD allowed k false) (encoded-decoded d) ∙ sym h
 
+  -- the change is not allowed
   pub step-barred : d / 2 ≢ e → (b : Bool) → b ≡ getD allowed d false → b ≡ false → Stepped regions costs allowed limit used path best n e i d t st used path best st
   step-barred ne b h f =
       nothing-written _ refl (try-step-no (the-graph regions) (cost-in costs) (allowed-in allowed) limit (c0 / 2) (eqb (c0 % 2) 1) (dfs-of regions costs allowed limit c0 (suc (free used))) used (path-of n path) t i (decoded d) (state-of st best)
@@ -55,7 +62,7 @@ module _ (regions : List ℕ) (costs : List Float) (allowed : List Bool) (limit 
       → Stepped regions costs allowed limit used path best n e i d t st used path best st
   step-shut home o s ne h l w u =
       nothing-written _ refl (try-step-no (the-graph regions) (cost-in costs) (allowed-in allowed) limit (c0 / 2) (eqb (c0 % 2) 1) (dfs-of regions costs allowed limit c0 (suc (free used))) used (path-of n path) t i (decoded d) (state-of st best)
-      (may-is (the-graph regions) (cost-in costs) (allowed-in allowed) limit (c0 / 2) (eqb (c0 % 2) 1) used (path-of n path) i (decoded d) true (s .new ne) (allowed-is true (sym h)) (barred-other (the-graph regions) (cost-in costs) (allowed-in allowed) limit (c0 / 2) (eqb (c0 % 2) 1) used (d / 2) i o l w ∙ u))
+      (may-is (the-graph regions) (cost-in costs) (allowed-in allowed) limit (c0 / 2) (eqb (c0 % 2) 1) used (path-of n path) i (decoded d) true (s .new ne) (allowed-is true (sym h)) (barred-other (the-graph regions) used (d / 2) i o l w ∙ u))
       ∙ partner-differs (eqb (d / 2) e) here (state-of st best) (ne→eqb (d / 2) e ne))
 
   -- the step is taken, whatever comes of it
@@ -68,11 +75,12 @@ module _ (regions : List ℕ) (costs : List Float) (allowed : List Bool) (limit 
       (may-is (the-graph regions) (cost-in costs) (allowed-in allowed) limit (c0 / 2) (eqb (c0 % 2) 1) used (path-of n path) i (decoded d) false (s .new ne) (allowed-is true (sym h)) u)
       ∙ partner-differs (eqb (d / 2) e) here (state-of st best) (ne→eqb (d / 2) e ne)
 
+  -- the entry is past the limit
   pub step-turned-back : (home o : ℕ) → MayStep (the-graph regions) used path n e i d home → d / 2 ≢ e → getD allowed d false ≡ true → o < 256 → Other (the-graph regions) (d / 2) i o → is-used used o ≡ false → limit ≤ st .expansions
       → Stepped regions costs allowed limit used path best n e i d t st used path best (record { kept = st .kept; expansions = st .expansions; len = st .len; cut = true })
   step-turned-back home o s ne h l w u k =
       nothing-written _ refl (dfs-turned-back (the-graph regions) (cost-in costs) (allowed-in allowed) limit (c0 / 2) (eqb (c0 % 2) 1) (free used) used (path-of n path ++ decoded d ∷ []) (d / 2) (eqb (d % 2) 1) (add binary64 t (cost-in costs (d / 2) (eqb (d % 2) 1))) (state-of st best) k
-      ∙ step-taken home s ne h (barred-other (the-graph regions) (cost-in costs) (allowed-in allowed) limit (c0 / 2) (eqb (c0 % 2) 1) used (d / 2) i o l w ∙ u))
+      ∙ step-taken home s ne h (barred-other (the-graph regions) used (d / 2) i o l w ∙ u))
 
   -- the step is taken, and dfs crosses the other constraint
   pub step-crosses : (home o k : ℕ) (incident : List ℕ) (p : Float) (used' : List Bool) (path' best' : List ℕ) (r : SearchState)
@@ -88,9 +96,9 @@ module _ (regions : List ℕ) (costs : List Float) (allowed : List Bool) (limit 
         best-kept = dn .best-kept;
         short = dn .short;
         answer = dn .answer ∙ same ∙ enter-one (the-graph regions) (cost-in costs) (allowed-in allowed) limit (c0 / 2) (eqb (c0 % 2) 1) (dfs-of regions costs allowed limit c0 (free used)) used (path-of n path ++ decoded d ∷ []) (d / 2) (eqb (d % 2) 1) cost' o (state-of st best)
-            (unused-other (the-graph regions) (cost-in costs) (allowed-in allowed) limit (c0 / 2) (eqb (c0 % 2) 1) used (d / 2) i o l w (s .taken) u)
+            (unused-other (the-graph regions) used (d / 2) i o l w (s .taken) u)
             ∙ dfs-enters (the-graph regions) (cost-in costs) (allowed-in allowed) limit (c0 / 2) (eqb (c0 % 2) 1) (free used) used (path-of n path ++ decoded d ∷ []) (d / 2) (eqb (d % 2) 1) cost' (state-of st best) lim
-            ∙ step-taken home s ne h (barred-other (the-graph regions) (cost-in costs) (allowed-in allowed) limit (c0 / 2) (eqb (c0 % 2) 1) used (d / 2) i o l w ∙ u);
+            ∙ step-taken home s ne h (barred-other (the-graph regions) used (d / 2) i o l w ∙ u);
       }
     where
       room : n < length path
@@ -105,18 +113,20 @@ module _ (regions : List ℕ) (costs : List Float) (allowed : List Bool) (limit 
       same : goal (getD (set path n d) 0 0) (path-of (n + 1) (set path n d)) (getD (set path n d) (n + 1 - 1) 0) (add binary64 t p) (getD incident k 0) (st .expansions + 1) ≡ goal c0 (path-of n path ++ decoded d ∷ []) d cost' o (suc (st .expansions))
       same =
           ap (λ (c : ℕ). goal c (path-of (n + 1) (set path n d)) (getD (set path n d) (n + 1 - 1) 0) (add binary64 t p) (getD incident k 0) (st .expansions + 1)) (getD-set-other path n 0 d 0 (let q = s .one in omega (arith, q)))
-          ∙ ap (λ (pp : List Change). goal c0 pp (getD (set path n d) (n + 1 - 1) 0) (add binary64 t p) (getD incident k 0) (st .expansions + 1)) (ap (λ (m : ℕ). path-of m (set path n d)) (add-one n) ∙ ap all-decoded (take-suc-set path n d room) ∙ decoded-append (take n path) (d ∷ []))
+          ∙ ap (λ (pp : List Change). goal c0 pp (getD (set path n d) (n + 1 - 1) 0) (add binary64 t p) (getD incident k 0) (st .expansions + 1)) (path-longer path n d room)
           ∙ ap (λ (z : ℕ). goal c0 (path-of n path ++ decoded d ∷ []) z (add binary64 t p) (getD incident k 0) (st .expansions + 1)) (ap (λ (m : ℕ). getD (set path n d) m 0) (let q : n + 1 - 1 ≡ n = omega arith in q) ∙ getD-set-same path n d 0 room)
           ∙ ap (λ (v : Float). goal c0 (path-of n path ++ decoded d ∷ []) d (add binary64 t v) (getD incident k 0) (st .expansions + 1)) (cost-at costs d p pr)
           ∙ ap (λ (j : ℕ). goal c0 (path-of n path ++ decoded d ∷ []) d cost' j (st .expansions + 1)) (sym on)
           ∙ ap (goal c0 (path-of n path ++ decoded d ∷ []) d cost' o) (add-one (st .expansions))
+
+-- ---- from a step to a crossing
 
 start-differs : (l : List ℕ) (n y : ℕ) → 1 ≤ n → 1 ≤ length l → any (λ (w : Change). eqb (w .0) y) (path-of n l) ≡ false → getD l 0 0 / 2 ≢ y
 start-differs [] n y h h' e q = omega (arith, h')
 start-differs (x ∷ l) zero y h h' e q = omega (arith, h)
 start-differs (x ∷ l) (suc n) y h h' e q = true≢false (sym (ap (λ (b : Bool). b || any (λ (w : Change). eqb (w .0) y) (path-of n l)) (ap (λ (k : ℕ). eqb k y) q ∙ same→eqb y)) ∙ e)
 
--- what dfs is lent by try_step
+-- what `dfs` is lent: of the new edge's two constraints one is used and the other is to be crossed, so both invariants hold again
 pub may-cross-next : (g : List Constraint) (incident : List ℕ) (used : List Bool) (path : List ℕ) (n e i d home o k : ℕ)
     → MayStep g used path n e i d home → d / 2 ≢ e → o < 256 → Other g (d / 2) i o → is-used used o ≡ false → o ≡ getD incident k 0 → k < 512 → k / 2 ≡ d / 2
     → MayCross g incident used (set path n d) (n + 1) k home
@@ -130,8 +140,8 @@ may-cross-next g incident used path n e i d home o k s ne l w u on small at-y =
       here = ap (λ (m : ℕ). getD (set path n d) m 0 / 2) (let q : n + 1 - 1 ≡ n = omega arith in q) ∙ ap (λ (m : ℕ). m / 2) (getD-set-same path n d 0 room) ∙ sym at-y;
       real = subst (λ (m : ℕ). m < 256) on l;
       unused = ap (is-used used) (sym on) ∙ u;
-      away = λ j v nh. ap (λ (y : ℕ). others-changed (constraint g j) y (path-of (n + 1) (set path n d))) at-y ∙ ap (others-changed (constraint g j) (d / 2)) longer ∙ none-but-next (constraint g j) (d / 2) (eqb (d % 2) 1) (path-of n path) (s .away j v nh);
-      mine = λ j v nh h. which j v w (holds→incidence g j (d / 2) (subst (λ (y : ℕ). T (holds (constraint g j) y)) at-y h)) ∙ on;
+      away = λ j v nh. ap (λ (y : ℕ). others-changed (constraint g j) y (path-of (n + 1) (set path n d))) at-y ∙ ap (others-changed (constraint g j) (d / 2)) (path-longer path n d room) ∙ none-but-next (constraint g j) (d / 2) (eqb (d % 2) 1) (path-of n path) (s .away j v nh);
+      mine = λ j v nh h. which j v (holds→incidence g j (d / 2) (subst (λ (y : ℕ). T (holds (constraint g j) y)) at-y h)) ∙ on;
       home-is = record {
         at-start = λ q. subst (λ (c : ℕ). T (holds (constraint g home) (c / 2))) (sym start-kept) (s .home-is .at-start q);
         unmet = s .home-is .unmet;
@@ -146,25 +156,16 @@ may-cross-next g incident used path n e i d home o k s ne l w u on small at-y =
     start-kept : getD (set path n d) 0 0 ≡ getD path 0 0
     start-kept = getD-set-other path n 0 d 0 (let q = s .one in omega (arith, q))
 
-    longer : path-of (n + 1) (set path n d) ≡ path-of n path ++ decoded d ∷ []
-    longer = ap (λ (m : ℕ). path-of m (set path n d)) (add-one n) ∙ ap all-decoded (take-suc-set path n d room) ∙ decoded-append (take n path) (d ∷ [])
+    which : (j : ℕ) → is-used used j ≡ false → In j (incidence g (d / 2)) → j ≡ o
+    which j v m = elim (other-in g (d / 2) i o j w m) [ inl a ↦ absurd (true≢false (sym (s .taken) ∙ ap (is-used used) (sym a) ∙ v)) | inr a ↦ a ]
 
-    which : (j : ℕ) → is-used used j ≡ false → Other g (d / 2) i o → In j (incidence g (d / 2)) → j ≡ o
-    which j v (alone q q') m = absurd (omega (arith, q, l))
-    which j v (after q q' r) m = pick (subst (λ (is : List ℕ). In j is) r m)
-      where
-        pick : In j (i ∷ o ∷ []) → j ≡ o
-        pick (inl a) = absurd (true≢false (sym (s .taken) ∙ ap (is-used used) (sym a) ∙ v))
-        pick (inr (inl a)) = a
-        pick (inr (inr a)) = absurd a
-    which j v (before q q' r) m = pick (subst (λ (is : List ℕ). In j is) r m)
-      where
-        pick : In j (o ∷ i ∷ []) → j ≡ o
-        pick (inl a) = a
-        pick (inr (inl a)) = absurd (true≢false (sym (s .taken) ∙ ap (is-used used) (sym a) ∙ v))
-        pick (inr (inr a)) = absurd a
+-- ---- the walk along both sides
 
--- ---- dfs's loop
+walk-length : (regions : List ℕ) (ci x c i a b b' total : ℕ) → ci ≡ i → SidesAt regions i x a b b' total → length (both-signed (constraint (the-graph regions) ci) x (eqb (c % 2) 1)) ≡ total
+walk-length regions ci x c i a b b' total e sides =
+    ap (λ (k : ℕ). length (both-signed (constraint (the-graph regions) k) x (eqb (c % 2) 1))) e ∙ length-both-signed (constraint (the-graph regions) i) x (eqb (c % 2) 1) ∙ sym (sides .count)
+
+-- the invariant after j partners
 pub record Walking (regions : List ℕ) (costs : List Float) (allowed : List Bool) (limit : ℕ) (used₀ : List Bool) (path₀ best₀ : List ℕ) (n p : ℕ) (t : Float) (s₀ : SearchState) (ci c total : ℕ)
     (used : List Bool) (path best : List ℕ) (s : SearchState) (j : ℕ) : Type 0 where
   pub same-used : used ≡ used₀
@@ -175,7 +176,7 @@ pub record Walking (regions : List ℕ) (costs : List Float) (allowed : List Boo
   pub below : j ≤ total
   pub so-far : state-of s best ≡ each (try-partner-of regions costs allowed limit (getD path₀ 0 0) (suc (free used₀)) used₀ (path-of n path₀) (p / 2) t ci) (take j (both-signed (constraint (the-graph regions) ci) (p / 2) (eqb (c % 2) 1))) (state-of s₀ best₀)
 
--- what try_step is lent in the loop
+-- what `try_step` is lent: the constraint crossed is used now, so `mine` makes every unused one but `home` free of the path's edges
 pub may-step-now : (g : List Constraint) (incident : List ℕ) (used₀ : List Bool) (path₀ : List ℕ) (n p home ci d : ℕ) (used : List Bool) (path : List ℕ)
     → MayCross g incident used₀ path₀ n p home → ci ≡ getD incident p 0 → ci ≢ home → used ≡ set used₀ ci true → take n path ≡ take n path₀ → length path ≡ length path₀ → d < 512 → T (holds (constraint g (getD incident p 0)) (d / 2))
     → MayStep g used path n (p / 2) ci d home × (suc (free used) ≡ free used₀)
@@ -211,13 +212,13 @@ may-step-now g incident used₀ path₀ n p home ci d used path rd cn nh us ps l
     not-ci : (j : ℕ) → is-used used j ≡ false → j ≡ ci → ⊥
     not-ci j v q = clash (is-used used j) (subst (λ (k : ℕ). T (is-used used k)) (sym q) (subst (λ (u : List Bool). T (is-used u ci)) (sym us) (set-used used₀ ci))) (false-T (is-used used j) v)
 
-pub walks-on : (regions : List ℕ) (costs : List Float) (allowed : List Bool) (limit : ℕ) (used₀ : List Bool) (path₀ best₀ : List ℕ) (n p : ℕ) (t : Float) (s₀ : SearchState) (ci c total : ℕ) (used : List Bool) (path best : List ℕ) (s : SearchState) (j d : ℕ) (used' : List Bool) (path' best' : List ℕ) (s' : SearchState)
-    → Walking regions costs allowed limit used₀ path₀ best₀ n p t s₀ ci c total used path best s j → 1 ≤ n → j < total
-    → total ≡ length (opposite-side (constraint (the-graph regions) ci) (p / 2)) + length (own-side (constraint (the-graph regions) ci) (p / 2))
-    → decoded d ≡ getD (both-signed (constraint (the-graph regions) ci) (p / 2) (eqb (c % 2) 1)) j (decoded 0)
+-- one more partner
+pub walks-on : (regions incident : List ℕ) (costs : List Float) (allowed : List Bool) (limit : ℕ) (used₀ : List Bool) (path₀ best₀ : List ℕ) (n p : ℕ) (t : Float) (s₀ : SearchState) (ci c a b b' total : ℕ) (used : List Bool) (path best : List ℕ) (s : SearchState) (j d : ℕ) (used' : List Bool) (path' best' : List ℕ) (s' : SearchState)
+    → ci ≡ getD incident p 0 → SidesAt regions (getD incident p 0) (p / 2) a b b' total → Walking regions costs allowed limit used₀ path₀ best₀ n p t s₀ ci c total used path best s j → 1 ≤ n → j < total
+    → decoded d ≡ getD (both-signed (constraint (the-graph regions) (getD incident p 0)) (p / 2) (eqb (c % 2) 1)) j (decoded 0)
     → Stepped regions costs allowed limit used path best n (p / 2) ci d t s used' path' best' s'
     → Walking regions costs allowed limit used₀ path₀ best₀ n p t s₀ ci c total used' path' best' s' (j + 1)
-walks-on regions costs allowed limit used₀ path₀ best₀ n p t s₀ ci c total used path best s j d used' path' best' s' r one h q e st =
+walks-on regions incident costs allowed limit used₀ path₀ best₀ n p t s₀ ci c a b b' total used path best s j d used' path' best' s' cn sides r one h e st =
     record {
       same-used = st .used-kept ∙ r .same-used;
       same-path = st .path-kept ∙ r .same-path;
@@ -225,8 +226,8 @@ walks-on regions costs allowed limit used₀ path₀ best₀ n p t s₀ ci c tot
       same-best = st .best-kept ∙ r .same-best;
       short = λ h. st .short (r .short h);
       below = omega arith;
-      so-far = st .answer ∙ moved ∙ ap (λ (w : Change). act w (state-of s best)) e ∙ ap (act (getD l j (decoded 0))) (r .so-far)
-          ∙ sym (each-suc act l j (decoded 0) (state-of s₀ best₀) (let a = length-both-signed (constraint (the-graph regions) ci) (p / 2) (eqb (c % 2) 1) in omega (arith, a, q, h)))
+      so-far = st .answer ∙ moved ∙ ap (λ (w : Change). act w (state-of s best)) (e ∙ ap (λ (i : ℕ). getD (both-signed (constraint (the-graph regions) i) (p / 2) (eqb (c % 2) 1)) j (decoded 0)) (sym cn)) ∙ ap (act (getD l j (decoded 0))) (r .so-far)
+          ∙ sym (each-suc act l j (decoded 0) (state-of s₀ best₀) (let q = walk-length regions ci (p / 2) c (getD incident p 0) a b b' total cn sides in omega (arith, q, h)))
           ∙ ap (λ (k : ℕ). each act (take k l) (state-of s₀ best₀)) (sym (add-one j));
     }
   where
@@ -245,28 +246,29 @@ walks-on regions costs allowed limit used₀ path₀ best₀ n p t s₀ ci c tot
         ∙ ap (λ (u : List Bool). at (getD path₀ 0 0) u (take n path)) (r .same-used)
         ∙ ap (at (getD path₀ 0 0) used₀) (r .same-path)
 
+-- the mark is taken back
 mark-back : (used : List Bool) (i : ℕ) → is-used used i ≡ false → set (set used i true) i false ≡ used
 mark-back [] i e = refl
 mark-back (b ∷ used) zero e = ap {B = List Bool} (λ (a : Bool). a ∷ used) (sym e)
 mark-back (b ∷ used) (suc i) e = ap {B = List Bool} (λ u. b ∷ u) (mark-back used i e)
 
-pub walk-ends : (regions incident own : List ℕ) (costs : List Float) (allowed : List Bool) (limit : ℕ) (used₀ : List Bool) (path₀ best₀ : List ℕ) (n p home : ℕ) (t : Float) (s₀ : SearchState) (ci c total : ℕ) (used : List Bool) (path best : List ℕ) (s : SearchState) (j : ℕ)
-    → Tables regions incident own → MayCross (the-graph regions) incident used₀ path₀ n p home → ci ≡ getD incident p 0 → ci ≢ home → c ≡ getD path₀ (n - 1) 0 → total ≤ j
-    → total ≡ length (opposite-side (constraint (the-graph regions) ci) (p / 2)) + length (own-side (constraint (the-graph regions) ci) (p / 2))
+-- all partners were tried
+pub walk-ends : (regions incident own : List ℕ) (costs : List Float) (allowed : List Bool) (limit : ℕ) (used₀ : List Bool) (path₀ best₀ : List ℕ) (n p home : ℕ) (t : Float) (s₀ : SearchState) (ci c a b b' total : ℕ) (used : List Bool) (path best : List ℕ) (s : SearchState) (j : ℕ)
+    → Tables regions incident own → MayCross (the-graph regions) incident used₀ path₀ n p home → ci ≡ getD incident p 0 → ci ≢ home → c ≡ getD path₀ (n - 1) 0 → total ≤ j → SidesAt regions (getD incident p 0) (p / 2) a b b' total
     → Walking regions costs allowed limit (set used₀ ci true) path₀ best₀ n p t s₀ ci c total used path best s j
     → Crossed regions incident costs allowed limit used₀ path₀ best₀ n p t s₀ (set used ci false) path best s
-walk-ends regions incident own costs allowed limit used₀ path₀ best₀ n p home t s₀ ci c total used path best s j fd rd cn nh cc done q r =
+walk-ends regions incident own costs allowed limit used₀ path₀ best₀ n p home t s₀ ci c a b b' total used path best s j fd rd cn nh cc done sides r =
     record {
       used-kept = ap (λ (u : List Bool). set u ci false) (r .same-used) ∙ mark-back used₀ ci open₀;
       path-kept = r .same-path;
       long-kept = r .same-long;
       best-kept = r .same-best;
       short = r .short;
-      answer = r .so-far ∙ ap (λ (k : List Change). each act k (state-of s₀ best₀)) (take-all j l (let a = length-both-signed (constraint (the-graph regions) ci) (p / 2) (eqb (c % 2) 1) in omega (arith, a, q, done)))
+      answer = r .so-far ∙ ap (λ (k : List Change). each act k (state-of s₀ best₀)) (take-all j l (let q = walk-length regions ci (p / 2) c (getD incident p 0) a b b' total cn sides in omega (arith, q, done)))
           ∙ each-both (try-step-of regions costs allowed limit c0 (suc (free (set used₀ ci true))) (set used₀ ci true) (path-of n path₀) t ci) (constraint (the-graph regions) ci) (p / 2) (eqb (c % 2) 1) (state-of s₀ best₀) (opposite-without (constraint (the-graph regions) ci) (p / 2) (fd .parted ci (p / 2)))
           ∙ ap (λ (k : ℕ). each (try-step-of regions costs allowed limit c0 k (set used₀ ci true) (path-of n path₀) t ci) (partners (constraint (the-graph regions) ci) (p / 2) (eqb (c % 2) 1)) (state-of s₀ best₀)) (free-set used₀ ci (false-T (is-used used₀ ci) open₀))
           ∙ ap (λ (f : Act). f (state-of s₀ best₀)) (visit-crosses (the-graph regions) (cost-in costs) (allowed-in allowed) limit (c0 / 2) (eqb (c0 % 2) 1) (dfs-of regions costs allowed limit c0 (free used₀)) used₀ (path-of n path₀) (p / 2) (eqb (c % 2) 1) t ci (rd .away ci open₀ nh))
-          ∙ ap (λ (y : ℕ). at y c ci) (sym (rd .here) ∙ ap (λ (z : ℕ). z / 2) refl) ∙ ap (λ (z : ℕ). at (getD path₀ (n - 1) 0 / 2) z ci) cc ∙ ap (at (getD path₀ (n - 1) 0 / 2) (getD path₀ (n - 1) 0)) cn;
+          ∙ ap (λ (y : ℕ). at y c ci) (sym (rd .here)) ∙ ap (λ (z : ℕ). at (getD path₀ (n - 1) 0 / 2) z ci) cc ∙ ap (at (getD path₀ (n - 1) 0 / 2) (getD path₀ (n - 1) 0)) cn;
     }
   where
     c0 : ℕ
@@ -283,26 +285,3 @@ walk-ends regions incident own costs allowed limit used₀ path₀ best₀ n p h
 
     at : ℕ → ℕ → ℕ → State
     at y z i = visit (the-graph regions) (cost-in costs) (allowed-in allowed) limit (c0 / 2) (eqb (c0 % 2) 1) (dfs-of regions costs allowed limit c0 (free used₀)) used₀ (path-of n path₀) y (eqb (z % 2) 1) t i (state-of s₀ best₀)
-
--- the same two, with the constraint as the table has it
-pub walks-on-at : (regions incident : List ℕ) (costs : List Float) (allowed : List Bool) (limit : ℕ) (used₀ : List Bool) (path₀ best₀ : List ℕ) (n p : ℕ) (t : Float) (s₀ : SearchState) (ci c : ℕ) (a b b' total : ℕ) (used : List Bool) (path best : List ℕ) (s : SearchState) (j d : ℕ) (used' : List Bool) (path' best' : List ℕ) (s' : SearchState)
-    → ci ≡ getD incident p 0 → SidesAt regions (getD incident p 0) (p / 2) a b b' total
-    → Walking regions costs allowed limit used₀ path₀ best₀ n p t s₀ ci c total used path best s j → 1 ≤ n → j < total
-    → decoded d ≡ getD (both-signed (constraint (the-graph regions) (getD incident p 0)) (p / 2) (eqb (c % 2) 1)) j (decoded 0)
-    → Stepped regions costs allowed limit used path best n (p / 2) ci d t s used' path' best' s'
-    → Walking regions costs allowed limit used₀ path₀ best₀ n p t s₀ ci c total used' path' best' s' (j + 1)
-walks-on-at regions incident costs allowed limit used₀ path₀ best₀ n p t s₀ ci c a b b' total used path best s j d used' path' best' s' cn l r one h e st =
-    walks-on regions costs allowed limit used₀ path₀ best₀ n p t s₀ ci c total used path best s j d used' path' best' s' r one h
-    (subst (λ (i : ℕ). total ≡ length (opposite-side (constraint (the-graph regions) i) (p / 2)) + length (own-side (constraint (the-graph regions) i) (p / 2))) (sym cn) (l .count))
-    (subst (λ (i : ℕ). decoded d ≡ getD (both-signed (constraint (the-graph regions) i) (p / 2) (eqb (c % 2) 1)) j (decoded 0)) (sym cn) e) st
-
-pub walk-done : (regions incident own : List ℕ) (costs : List Float) (allowed : List Bool) (limit : ℕ) (used₀ : List Bool) (path₀ best₀ : List ℕ) (n p home : ℕ) (t : Float) (s₀ : SearchState) (ci c : ℕ) (a b b' total : ℕ) (used : List Bool) (path best : List ℕ) (s : SearchState) (j : ℕ)
-    → Tables regions incident own → MayCross (the-graph regions) incident used₀ path₀ n p home → ci ≡ getD incident p 0 → ci ≢ home → c ≡ getD path₀ (n - 1) 0 → total ≤ j → SidesAt regions (getD incident p 0) (p / 2) a b b' total
-    → Walking regions costs allowed limit (set used₀ ci true) path₀ best₀ n p t s₀ ci c total used path best s j
-    → Crossed regions incident costs allowed limit used₀ path₀ best₀ n p t s₀ (set used ci false) path best s
-walk-done regions incident own costs allowed limit used₀ path₀ best₀ n p home t s₀ ci c a b b' total used path best s j fd rd cn nh cc done l r =
-    walk-ends regions incident own costs allowed limit used₀ path₀ best₀ n p home t s₀ ci c total used path best s j fd rd cn nh cc done
-    (subst (λ (i : ℕ). total ≡ length (opposite-side (constraint (the-graph regions) i) (p / 2)) + length (own-side (constraint (the-graph regions) i) (p / 2))) (sym cn) (l .count)) r
-
-pub other-same : {g : List Constraint} {y i o o' : ℕ} → o' ≡ o → Other g y i o → Other g y i o'
-other-same {g} {y} {i} {o} {o'} e w = subst (λ (k : ℕ). Other g y i k) (sym e) w

@@ -5,7 +5,8 @@ use Prim.Native.Nat.{ℕ, _+_, _-_, _*_, _/_, _<_}
 use native.Mathlib.Omega.{arith}
 use Rattle.counts.specs.Move.{allowed, cost}
 use Rattle.counts.specs.Search.{free}
-use Rattle.counts.proofs.Steps.{Walking, may-cross-next, may-step-now, other-same, step-back, step-barred, step-crosses, step-shut, step-turned-back, walk-done, walks-on-at}
+use Rattle.counts.proofs.Places.{other-same}
+use Rattle.counts.proofs.Steps.{Walking, may-cross-next, may-step-now, step-back, step-barred, step-crosses, step-shut, step-turned-back, walk-ends, walks-on}
 use borrow.Author.Needs.{needs}
 use borrow.Fn.Kinds.{In}
 use borrow.Fn.PlainCycle.{Measures, is, falls, and}
@@ -107,7 +108,7 @@ dfs-loop-less t c = search needs
 
 dfs-loop-again : (t : ℕ) → dfs-lts.Need-loop-again (dfs-calls t) (dfs-at t) dfs.Post dfs-Inv-loop dfs-μ-loop
 dfs-loop-again t c = let s = c .before .before .before .before .before .before .before .before .before .before .before .before .before in
-    walks-on-at _ (s .args .incident .now) _ _ _ _ _ _ _ _ _ _ _ _ _ _ _ _ _ _ _ _ _ _ _ _ _ _
+    walks-on _ (s .args .incident .now) _ _ _ _ _ _ _ _ _ _ _ _ _ _ _ _ _ _ _ _ _ _ _ _ _ _
     (c .before .before .before .before .before .before .before .before .before .before .before .entry .ensures) (c .before .before .before .before .before .before .before .sides-of .ensures) (c .before .before .before .before .before .before .loop .inv) (s .pre .1 .1 .0 .one) (c .before .before .before .before .before .loop-test .taken) (c .before .before .before .before .partner .ensures .2) (c .try-step .ensures)
 
 dfs-element-write-used-2 : (t : ℕ) → dfs-lts.Need-element-write-used-2 (dfs-calls t) (dfs-at t) dfs.Post dfs-Inv-loop dfs-μ-loop
@@ -116,7 +117,7 @@ dfs-element-write-used-2 t c = let e = c .before .before .before .before .before
 dfs-returns-2 : (t : ℕ) → dfs-lts.Need-returns-2 (dfs-calls t) (dfs-at t) dfs.Post dfs-Inv-loop dfs-μ-loop
 dfs-returns-2 t c = let s = c .before .before .before .before .before .before .before .before in
     let n = c .loop-test .left in
-    walk-done _ _ _ _ _ _ _ _ _ _ _ _ _ _ _ _ _ _ _ _ _ _ _ _ _
+    walk-ends _ _ _ _ _ _ _ _ _ _ _ _ _ _ _ _ _ _ _ _ _ _ _ _ _
     (s .pre .1 .0) (s .pre .1 .1 .0) (c .before .before .before .before .before .before .entry .ensures) (c .before .before .before .before .before .if1 .left) (c .before .before .before .wide .ensures .0) (omega (arith, n)) (c .before .before .sides-of .ensures) (c .before .loop .inv)
 
 try-step-returns : (t : ℕ) → try-step-lts.Need-returns (try-step-calls t) (try-step-at t) try-step.Post

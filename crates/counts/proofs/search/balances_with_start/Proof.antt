@@ -24,28 +24,28 @@ returns c = let s = c .before .before .before .before .before .before in
     balances-by (the-graph (s .args .regions .now)) (s .args .incident .now) _ _ _ (s .args .change) (s .args .start) true true _
     (c .before .before .before .before .place-in .ensures .1) (s .pre .1 .1) (c .before .before .before .before .place-in .ensures .2) (s .pre .1 .2)
     (sym (c .before .if1 .taken) ∙ c .before .before .before .on-first-side .ensures) (sym (c .if2 .taken) ∙ c .before .before .on-first-side2 .ensures)
-    (unlike-signs true true (s .args .change) (s .args .start) _ refl refl)
+    (unlike-signs (s .args .start) (s .args .change))
 
 returns-2 : tie.Need-returns-2
 returns-2 c = let s = c .before .before .before .before .before .before in
     balances-by (the-graph (s .args .regions .now)) (s .args .incident .now) _ _ _ (s .args .change) (s .args .start) true false _
     (c .before .before .before .before .place-in .ensures .1) (s .pre .1 .1) (c .before .before .before .before .place-in .ensures .2) (s .pre .1 .2)
     (sym (c .before .if1 .taken) ∙ c .before .before .before .on-first-side .ensures) (sym (c .if2 .left) ∙ c .before .before .on-first-side2 .ensures)
-    (like-signs true false (s .args .change) (s .args .start) _ refl refl)
+    (like-signs (s .args .start) (s .args .change))
 
 returns-3 : tie.Need-returns-3
 returns-3 c = let s = c .before .before .before .before .before .before in
     balances-by (the-graph (s .args .regions .now)) (s .args .incident .now) _ _ _ (s .args .change) (s .args .start) false true _
     (c .before .before .before .before .place-in .ensures .1) (s .pre .1 .1) (c .before .before .before .before .place-in .ensures .2) (s .pre .1 .2)
     (sym (c .before .if1 .left) ∙ c .before .before .before .on-first-side .ensures) (sym (c .if3 .taken) ∙ c .before .before .on-first-side2 .ensures)
-    (like-signs false true (s .args .change) (s .args .start) _ refl refl)
+    (like-signs (s .args .start) (s .args .change))
 
 returns-4 : tie.Need-returns-4
 returns-4 c = let s = c .before .before .before .before .before .before in
     balances-by (the-graph (s .args .regions .now)) (s .args .incident .now) _ _ _ (s .args .change) (s .args .start) false false _
     (c .before .before .before .before .place-in .ensures .1) (s .pre .1 .1) (c .before .before .before .before .place-in .ensures .2) (s .pre .1 .2)
     (sym (c .before .if1 .left) ∙ c .before .before .before .on-first-side .ensures) (sym (c .if3 .left) ∙ c .before .before .on-first-side2 .ensures)
-    (unlike-signs false false (s .args .change) (s .args .start) _ refl refl)
+    (unlike-signs (s .args .start) (s .args .change))
 
 pub balances-with-start-spec : {M : Type 1} → statement M
 balances-with-start-spec =

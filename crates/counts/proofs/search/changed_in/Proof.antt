@@ -13,7 +13,7 @@ use Rattle.counts.specs.Search.{others-changed}
 use Rattle.counts.specs.Tables.{path-of, the-graph}
 use Rattle.counts.specs.SearchContract.{both-sides, changed-by}
 use Rattle.counts.specs.declared.search.Changed.{Changed}
-use Rattle.counts.proofs.Places.{length-both-sides}
+use Rattle.counts.proofs.TwoSides.{length-both-sides}
 use Rattle.counts.proofs.Scan.{hit-none, hit-self, hit-yes, missed, scan-first, scan-miss, scan-second}
 use denote.Enum.Declared.{tagOf}
 use types.Run.{OneOf}

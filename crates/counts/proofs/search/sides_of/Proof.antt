@@ -1,5 +1,6 @@
 use native.Mathlib.Omega.{arith}
-use Rattle.counts.proofs.Places.{across-below, sides-at, stands-same}
+use Rattle.counts.proofs.Places.{across-below, stands-same}
+use Rattle.counts.proofs.TwoSides.{sides-at}
 use borrow.Author.Needs.{needs}
 use Rattle.counts.proofs.search.sides_of.Statement.{statement}
 use Rattle.counts.proofs.search.sides_of.Tie as tie
