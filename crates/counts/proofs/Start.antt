@@ -7,7 +7,7 @@ use mathlib.Core.Bool.{Bool, true, false, not, _&&_, cond}
 use mathlib.Core.List.{List, [], _∷_}
 use Prim.Native.Nat.{ℕ, zero, suc, _+_, _*_, _/_, _%_, _≤_, _<_}
 use native.Mathlib.Omega.{arith}
-use lib.ListN.{length, getD, take, replicate, length-set, length-replicate, getD-replicate}
+use lib.ListN.{length, getD, take, set, replicate, length-set, length-replicate, getD-replicate}
 use lib.Seq.{getD-set-other}
 use lib.Dec.{eqb, T}
 use lib.Ieee.{Float, inf, lt, sub, binary64}
@@ -26,6 +26,11 @@ use Rattle.counts.proofs.Scan.{hit-self}
 use Rattle.counts.proofs.Marks.{dfs-like}
 
 -- ---- the marks at the start
+
+-- as a caller makes them
+pub marks-made : set (replicate 257 false) 256 true ≡ no-marks
+unfolding no-marks
+marks-made = refl
 
 marks-long : length no-marks ≡ 257
 unfolding no-marks

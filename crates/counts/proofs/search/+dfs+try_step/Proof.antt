@@ -1,7 +1,7 @@
 -- Measure of the cycle: twice the number of unused constraints, one more for `try_step`: a crossing marks one before it tries a step.
 -- Invariant of the walk along both sides: marks and path as they were, the state as the definition has it after the first j partners.
 use mathlib.Core.Path.{refl, sym, _∙_}
-use Prim.Native.Nat.{ℕ, _+_, _-_, _*_, _/_, _<_}
+use Prim.Native.Nat.{ℕ, _+_, _-_, _*_, _<_}
 use native.Mathlib.Omega.{arith}
 use Rattle.counts.specs.Move.{allowed, cost}
 use Rattle.counts.specs.Search.{free}

@@ -1,4 +1,4 @@
-use mathlib.Core.Path.{refl, sym, _∙_}
+use mathlib.Core.Path.{sym, _∙_}
 use mathlib.Core.Bool.{true, false}
 use Rattle.counts.specs.Tables.{the-graph}
 use Rattle.counts.proofs.Endings.{balances-by, like-signs, unlike-signs}
