@@ -22,13 +22,8 @@ use Rattle.counts.specs.declared.round.Choice.{Choice}
 use Rattle.counts.specs.declared.round.FoundMove.{FoundMove}
 use Rattle.counts.specs.declared.search.SearchState.{SearchState}
 use Rattle.counts.proofs.BoolLaws.{by-cases, clash, eq→eqb, ne→eqb, same→eqb}
-
-pub encoded-decoded : (d : ℕ) → encoded (d / 2) (eqb (d % 2) 1) ≡ d
-encoded-decoded d = go (eqb (d % 2) 1) (λ u. eqb→eq (d % 2) 1 u) (λ e. subst (λ (k : ℕ). T (eqb k 1)) (sym e) tt)
-  where
-    go : (b : Bool) → (T b → d % 2 ≡ 1) → (d % 2 ≡ 1 → T b) → d / 2 * 2 + cond b 1 0 ≡ d
-    go true f f' = let e = f tt in omega (arith, e)
-    go false f f' = let n : (d % 2 ≡ 1 → ⊥) = λ e. f' e in omega (arith, n)
+use Rattle.counts.proofs.Places.{encoded-decoded}
+use Rattle.counts.proofs.SearchLaws.{each-append}
 
 -- ---- one start
 
@@ -54,10 +49,6 @@ starts-more i zero = ap (λ (k : ℕ). (k, true) ∷ (k, false) ∷ []) (sym (ad
 starts-more i (suc n) =
     ap {B = List Change} (λ l. (i, true) ∷ (i, false) ∷ l)
     (starts-more (suc i) n ∙ ap (λ (k : ℕ). starts (suc i) n ++ (k, true) ∷ (k, false) ∷ []) (suc-add i n ∙ sym (add-suc i n)))
-
-each-append : {S A : Type 0} (f : A → S → S) (l m : List A) (st : S) → each f (l ++ m) st ≡ each f m (each f l st)
-each-append f [] m st = refl
-each-append f (x ∷ l) m st = each-append f l m (f x st)
 
 or-false : (b : Bool) → b || false ≡ b
 or-false true = refl

@@ -10,5 +10,6 @@ pub mod Region
 pub mod Round
 pub mod RoundContract
 pub mod Search
+pub mod SearchContract
 pub mod Solver
 pub mod Tables

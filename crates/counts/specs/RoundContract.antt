@@ -1,9 +1,9 @@
 -- What the functions of a round say of their tables and buffers: the records that their contracts cite. Assumes nothing.
 use mathlib.Core.Path.{_≡_}
 use mathlib.Core.Bool.{Bool, true, false, _||_, cond}
-use mathlib.Core.List.{List, [], _∷_, _++_}
+use mathlib.Core.List.{List, []}
 use Prim.Native.Nat.{ℕ, zero, suc, _+_, _-_, _*_, _/_, _%_, _≤_, _<_}
-use lib.ListN.{length, getD, replicate}
+use lib.ListN.{length, getD}
 use lib.Dec.{T, eqb}
 use lib.Ieee.{Float, nan, inf}
 use Rattle.counts.specs.Lists.{In, Distinct}
@@ -15,16 +15,13 @@ use Rattle.counts.specs.Refusal.{is-passed}
 use Rattle.counts.specs.Region.{places}
 use Rattle.counts.specs.Accept.{regions-test}
 use Rattle.counts.specs.Tables.{the-graph, cost-in, allowed-in, path-of, state-of}
+use Rattle.counts.specs.SearchContract.{no-marks}
 use Rattle.counts.specs.declared.search.SearchState.{SearchState}
 use Rattle.counts.specs.declared.round.Choice.{Choice}
 use Rattle.counts.specs.declared.round.FoundMove.{FoundMove}
 use Rattle.counts.specs.declared.solve.MovesMade.{MovesMade}
 
 -- ---- one search for each start
-
--- no constraint is used; number 256, which stands for none, always counts as used
-unfoldable pub no-marks : List Bool
-no-marks = replicate 256 false ++ true ∷ []
 
 -- the buffers that every search is lent, as it leaves them too
 pub record Buffers (used : List Bool) (path best : List ℕ) : Type 0 where
@@ -43,7 +40,7 @@ search-of regions costs allowed limit c =
     cond (allowed-in allowed (c / 2) (eqb (c % 2) 1))
     (run (the-graph regions) (cost-in costs) (allowed-in allowed) limit (c / 2) (eqb (c % 2) 1)) nothing-searched
 
-pub record Searched (regions : List ℕ) (costs : List Float) (allowed : List Bool) (limit c : ℕ) (used : List Bool) (path best : List ℕ) (r : SearchState) : Type 0 where
+pub record SearchedFrom (regions : List ℕ) (costs : List Float) (allowed : List Bool) (limit c : ℕ) (used : List Bool) (path best : List ℕ) (r : SearchState) : Type 0 where
   pub answer : state-of r best ≡ search-of regions costs allowed limit c
   pub buffers : Buffers used path best
   pub len-fits : r .len ≤ 257

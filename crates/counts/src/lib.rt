@@ -1,7 +1,7 @@
 mod answer;
 mod cost;
 mod graph;
-mod refusal;
+pub mod refusal;
 mod round;
 mod search;
 mod solve;

@@ -1,8 +1,6 @@
 // A round: the searches from every start, the choice among them, and the move made.
 use crate::cost::fill_costs;
-use crate::search::SearchState;
-use crate::search::run;
-use crate::search::wide;
+use crate::search::{SearchState, infinity, run, wide};
 ghost use mathlib.Core.Path.{_≡_};
 ghost use mathlib.Core.Bool.{true, false, _||_};
 ghost use Prim.Native.Nat.{ℕ, _+_, _*_, _/_, _%_, _≤_, _<_};
@@ -12,7 +10,7 @@ ghost use lib.ListN.{length, getD, replicate};
 ghost use Rattle.counts.specs.Move.{changed, apply-changes as changed-counts};
 ghost use Rattle.counts.specs.Round.{improves as improves-on, find-augmentation as found-by};
 ghost use Rattle.counts.specs.Tables.{Tables, the-graph, cost-in, allowed-in, path-of};
-ghost use Rattle.counts.specs.RoundContract.{Buffers, Searched, Remembered, Recalled, AllKnown, FoundIn, Tested, Sized, MoveFound, CanApply, start-at, weighed as weighed-of, chosen, found-of};
+ghost use Rattle.counts.specs.RoundContract.{Buffers, SearchedFrom, Remembered, Recalled, AllKnown, FoundIn, Tested, Sized, MoveFound, CanApply, start-at, weighed as weighed-of, chosen, found-of};
 
 const NO_START: usize = 512;
 
@@ -28,12 +26,6 @@ pub struct FoundMove {
     pub kept: f64,
     pub len: u32,
     pub cut: bool,
-}
-
-fn infinity() -> f64
-    ensures { λ r. ⌜ r ≡ inf false ⌝ }
-{
-    f64::from_bits(0x7ff0_0000_0000_0000)
 }
 
 fn either(a: bool, b: bool) -> bool
@@ -68,7 +60,7 @@ fn search_from(
 ) -> SearchState
     requires { ⌜ Tables (now regions) (now incident) (now own) × (c < 512) ⌝ }
     requires { ⌜ Buffers (now used) (now path) (now best) ⌝ }
-    ensures { λ r. ⌜ Searched (now (regions .entry)) (now (costs .entry)) (now (allowed .entry)) limit c (now (used .exit)) (now (path .exit)) (now (best .exit)) r ⌝ }
+    ensures { λ r. ⌜ SearchedFrom (now (regions .entry)) (now (costs .entry)) (now (allowed .entry)) limit c (now (used .exit)) (now (path .exit)) (now (best .exit)) r ⌝ }
 {
     if allowed[c] {
         return run(

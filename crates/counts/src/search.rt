@@ -1,15 +1,45 @@
+// The search for the cheapest unit move from one start: `AugmentSearch` of 000, over tables that are made once.
+// A change is packed in one number, 2 * edge + 1 for +1 and 2 * edge for -1. A place is 2 * edge + k: constraint k (0 or 1) of the edge;
+// `incident` has the constraint's number there, or 256 if there is none, and `own` the number of the side on which the edge stands.
+// `used` marks the constraints already crossed (256 always), `path` has the changes so far, `best` the kept reading.
+// `home` is the constraint of the start's edge that is still open, 256 if there is none: only there can a loop close.
+// The state is handed over in fresh structs and not lent: a struct that a call is given as it stands lives in memory from then on, which makes the
+// search two to three times as slow.
+ghost use mathlib.Core.Logic.{_≢_};
 ghost use mathlib.Core.Path.{_≡_};
-ghost use Prim.Native.Nat.{_<_, _≤_, _/_, _%_};
-ghost use lib.Dec.{eqb};
-ghost use Rattle.counts.specs.Search.{run as run-of};
-ghost use Rattle.counts.specs.Tables.{Tables, the-graph, cost-in, allowed-in, state-of};
-ghost use Rattle.counts.specs.RoundContract.{Buffers};
+ghost use mathlib.Core.Bool.{true, false};
+ghost use Prim.Native.Nat.{_+_, _-_, _*_, _/_, _%_, _≤_, _<_};
+ghost use lib.ListN.{length, take, getD};
+ghost use lib.Dec.{T, eqb};
+ghost use lib.Ieee.{nan, inf};
+ghost use Rattle.counts.specs.Lists.{member};
+ghost use Rattle.counts.specs.Region.{constraint, holds};
+ghost use Rattle.counts.specs.Move.{balances};
+ghost use Rattle.counts.specs.Search.{is-used, others-changed};
+ghost use Rattle.counts.specs.Tables.{decoded, path-of, the-graph, across, Other, Tables};
+ghost use Rattle.counts.specs.SearchContract.{both-sides, both-signed, changed-by, SidesAt, MayCross, MayStep, Crossed, Stepped, no-marks, Searched};
 
+// The kept cost and the length of the kept reading, how many entries there were, and whether one was turned back.
 pub struct SearchState {
     pub kept: f64,
     pub expansions: u32,
     pub len: u32,
     pub cut: bool,
+}
+
+// Where the edges of a constraint stand in the records: `split` opposite ones from `opposite` on, then those of the own side from `own` on.
+pub struct Sides {
+    pub opposite: usize,
+    pub split: usize,
+    pub own: usize,
+    pub total: usize,
+}
+
+// The changed edges that a constraint holds besides the last one.
+pub enum Changed {
+    Nothing,
+    One(usize),
+    Many,
 }
 
 pub(crate) fn wide(x: u16) -> usize
@@ -18,6 +48,566 @@ pub(crate) fn wide(x: u16) -> usize
     x as usize
 }
 
+// ---- reading the tables
+
+fn entry(table: &[u16; 512], place: usize) -> usize
+    requires { ⌜ place < 512 ⌝ }
+    ensures { λ r. ⌜ r ≡ getD (now (table .entry)) place 0 ⌝ }
+{
+    wide(table[place])
+}
+
+fn is_allowed(allowed: &[bool; 512], change: usize) -> bool
+    requires { ⌜ change < 512 ⌝ }
+    ensures { λ r. ⌜ r ≡ getD (now (allowed .entry)) change false ⌝ }
+{
+    allowed[change]
+}
+
+fn edge_cost(costs: &[f64; 512], change: usize) -> f64
+    requires { ⌜ change < 512 ⌝ }
+    ensures { λ r. ⌜ r ≡ getD (now (costs .entry)) change nan ⌝ }
+{
+    costs[change]
+}
+
+fn is_used(used: &[bool; 257], ci: usize) -> bool
+    requires { ⌜ (ci < 257) × (length (now used) ≡ 257) ⌝ }
+    ensures { λ r. ⌜ r ≡ is-used (now (used .entry)) ci ⌝ }
+{
+    used[ci]
+}
+
+fn number_at(regions: &[u16], i: usize) -> usize
+    requires { ⌜ i < length (now regions) ⌝ }
+    ensures { λ r. ⌜ (r ≡ getD (now (regions .entry)) i 0) × (r < 65536) ⌝ }
+{
+    wide(regions[i])
+}
+
+// The place of the edge's constraint besides ci.
+fn other_place(
+    regions: &[u16],
+    incident: &[u16; 512],
+    own: &[u16; 512],
+    edge: usize,
+    ci: usize,
+) -> usize
+    requires { ⌜ Tables (now regions) (now incident) (now own) ⌝ }
+    requires { ⌜ T (holds (constraint (the-graph (now regions)) ci) edge) ⌝ }
+    ensures { λ r. ⌜ (r < 512) × (r / 2 ≡ edge) × (getD (now (incident .entry)) r 0 ≤ 256) × Other (the-graph (now (regions .entry))) edge ci (getD (now (incident .entry)) r 0) ⌝ }
+{
+    let k = edge * 2;
+    if entry(incident, k) == ci { k + 1 } else { k }
+}
+
+// The place of the edge's constraint ci.
+fn place_in(
+    regions: &[u16],
+    incident: &[u16; 512],
+    own: &[u16; 512],
+    edge: usize,
+    ci: usize,
+) -> usize
+    requires { ⌜ Tables (now regions) (now incident) (now own) ⌝ }
+    requires { ⌜ T (holds (constraint (the-graph (now regions)) ci) edge) ⌝ }
+    ensures { λ r. ⌜ (r < 512) × (r / 2 ≡ edge) × (getD (now (incident .entry)) r 0 ≡ ci) ⌝ }
+{
+    let k = edge * 2;
+    if entry(incident, k) == ci { k } else { k + 1 }
+}
+
+// Whether the edge stands on the first side of the constraint at its place.
+fn on_first_side(regions: &[u16], incident: &[u16; 512], own: &[u16; 512], place: usize) -> bool
+    requires { ⌜ Tables (now regions) (now incident) (now own) ⌝ }
+    requires { ⌜ (place < 512) × (getD (now incident) place 0 < 256) ⌝ }
+    ensures { λ r. ⌜ r ≡ member (place / 2) (constraint (the-graph (now (regions .entry))) (getD (now (incident .entry)) place 0) .a) ⌝ }
+{
+    entry(own, place) % 4 < 2
+}
+
+// ---- the two sides of a constraint
+
+// The side opposite to one, sides counted over all records.
+fn opposite(side: usize) -> usize
+    requires { ⌜ side < 512 ⌝ }
+    ensures { λ r. ⌜ r ≡ across side ⌝ }
+{
+    if side % 4 < 2 { side + 2 } else { side - 2 }
+}
+
+fn sides_of(regions: &[u16], incident: &[u16; 512], own: &[u16; 512], place: usize) -> Sides
+    requires { ⌜ Tables (now regions) (now incident) (now own) ⌝ }
+    requires { ⌜ (place < 512) × (getD (now incident) place 0 < 256) ⌝ }
+    ensures { λ r. ⌜ SidesAt (now (regions .entry)) (getD (now (incident .entry)) place 0) (place / 2) (r .opposite) (r .split) (r .own) (r .total) ⌝ }
+{
+    let here = entry(own, place);
+    let there = opposite(here);
+    let split = number_at(regions, there * 17);
+    let count = number_at(regions, here * 17);
+    Sides {
+        opposite: there * 17 + 1,
+        split,
+        own: here * 17 + 1,
+        total: split + count,
+    }
+}
+
+// The edge at j of the two sides.
+fn edge_at(
+    regions: &[u16],
+    incident: &[u16; 512],
+    own: &[u16; 512],
+    sides: Sides,
+    place: usize,
+    j: usize,
+) -> usize
+    requires { ⌜ Tables (now regions) (now incident) (now own) ⌝ }
+    requires { ⌜ SidesAt (now regions) (getD (now incident) place 0) (place / 2) (sides .opposite) (sides .split) (sides .own) (sides .total) ⌝ }
+    requires { ⌜ j < sides .total ⌝ }
+    ensures { λ r. ⌜ r ≡ getD (both-sides (constraint (the-graph (now (regions .entry))) (getD (now (incident .entry)) place 0)) (place / 2)) j 0 ⌝ }
+{
+    let split = sides.split;
+    if j < split {
+        number_at(regions, sides.opposite + j)
+    } else {
+        number_at(regions, sides.own + (j - split))
+    }
+}
+
+// The same as a change that could follow: the same sign on the opposite side, the other sign on the own side.
+fn partner(
+    regions: &[u16],
+    incident: &[u16; 512],
+    own: &[u16; 512],
+    sides: Sides,
+    place: usize,
+    change: usize,
+    j: usize,
+) -> usize
+    requires { ⌜ Tables (now regions) (now incident) (now own) ⌝ }
+    requires { ⌜ SidesAt (now regions) (getD (now incident) place 0) (place / 2) (sides .opposite) (sides .split) (sides .own) (sides .total) ⌝ }
+    requires { ⌜ j < sides .total ⌝ }
+    ensures { λ r. ⌜ (r < 512) × T (holds (constraint (the-graph (now (regions .entry))) (getD (now (incident .entry)) place 0)) (r / 2)) × (decoded r ≡ getD (both-signed (constraint (the-graph (now (regions .entry))) (getD (now (incident .entry)) place 0)) (place / 2) (eqb (change % 2) 1)) j (decoded 0)) ⌝ }
+{
+    let split = sides.split;
+    if j < split {
+        number_at(regions, sides.opposite + j) * 2 + change % 2
+    } else {
+        number_at(regions, sides.own + (j - split)) * 2 + (1 - change % 2)
+    }
+}
+
+// Whether the start's change and another one, at a place of `home`, balance there.
+fn balances_with_start(
+    regions: &[u16],
+    incident: &[u16; 512],
+    own: &[u16; 512],
+    place: usize,
+    change: usize,
+    start: usize,
+    home: usize,
+) -> bool
+    requires { ⌜ Tables (now regions) (now incident) (now own) ⌝ }
+    requires { ⌜ (place < 512) × (place / 2 ≡ change / 2) × (getD (now incident) place 0 ≡ home) × (home < 256) × T (holds (constraint (the-graph (now regions)) home) (start / 2)) ⌝ }
+    ensures { λ r. ⌜ r ≡ balances (constraint (the-graph (now (regions .entry))) home) (decoded start) (decoded change) ⌝ }
+{
+    let start_place = place_in(regions, incident, own, start / 2, home);
+    let start_first = on_first_side(regions, incident, own, start_place);
+    let first = on_first_side(regions, incident, own, place);
+    if start_first {
+        if first {
+            return start % 2 != change % 2;
+        }
+        return start % 2 == change % 2;
+    }
+    if first {
+        return start % 2 == change % 2;
+    }
+    start % 2 != change % 2
+}
+
+// The changed edges that the constraint at a place holds besides the place's own edge; left at the second one found.
+fn changed_in(
+    regions: &[u16],
+    incident: &[u16; 512],
+    own: &[u16; 512],
+    place: usize,
+    path: &[u16; 257],
+    depth: usize,
+) -> Changed
+    requires { ⌜ Tables (now regions) (now incident) (now own) ⌝ }
+    requires { ⌜ (place < 512) × (getD (now incident) place 0 < 256) ⌝ }
+    requires { ⌜ (depth ≤ 257) × (length (now path) ≡ 257) ⌝ }
+    ensures { λ r. ⌜ r ≡ changed-by (others-changed (constraint (the-graph (now (regions .entry))) (getD (now (incident .entry)) place 0)) (place / 2) (path-of depth (now (path .entry)))) ⌝ }
+{
+    let sides = sides_of(regions, incident, own, place);
+    let total = sides.total;
+    let mut found = Changed::Nothing;
+    let mut i = 0;
+    'changes: while i < depth {
+        let edge = wide(path[i]) / 2;
+        if edge != place / 2 {
+            let mut j = 0;
+            while j < total {
+                if edge_at(regions, incident, own, sides, place, j) == edge {
+                    match found {
+                        Changed::Nothing => {
+                            found = Changed::One(edge);
+                            break;
+                        }
+                        _ => {
+                            found = Changed::Many;
+                            break 'changes;
+                        }
+                    }
+                }
+                j += 1;
+            }
+        }
+        i += 1;
+    }
+    found
+}
+
+// ---- keeping a reading
+
+fn keep_path(path: &[u16; 257], depth: usize, best: &mut [u16; 257])
+    requires { ⌜ (depth ≤ 257) × (length (now path) ≡ 257) × (length (now best) ≡ 257) ⌝ }
+    ensures { λ _. ⌜ (take depth (now (best .exit)) ≡ take depth (now (path .entry))) × (length (now (best .exit)) ≡ 257) ⌝ }
+{
+    let mut i = 0;
+    while i < depth {
+        best[i] = path[i];
+        i += 1;
+    }
+}
+
+// The entry to an edge whose constraints are all used: a chain ends there, complete if the start has no open constraint.
+fn end_chain(
+    regions: &[u16],
+    incident: &[u16; 512],
+    own: &[u16; 512],
+    costs: &[f64; 512],
+    allowed: &[bool; 512],
+    limit: u32,
+    used: &mut [bool; 257],
+    path: &mut [u16; 257],
+    best: &mut [u16; 257],
+    depth: usize,
+    current: usize,
+    change: usize,
+    cost: f64,
+    ci: usize,
+    home: usize,
+    state: SearchState,
+) -> SearchState
+    requires { ⌜ Tables (now regions) (now incident) (now own) ⌝ }
+    requires { ⌜ MayStep (the-graph (now regions)) (now used) (now path) depth current ci change home ⌝ }
+    requires { ⌜ (change / 2 ≢ current) × (getD (now allowed) change false ≡ true) × Other (the-graph (now regions)) (change / 2) ci 256 ⌝ }
+    requires { ⌜ length (now best) ≡ 257 ⌝ }
+    ensures { λ r. ⌜ Stepped (now (regions .entry)) (now (costs .entry)) (now (allowed .entry)) limit (now (used .entry)) (now (path .entry)) (now (best .entry)) depth current ci change cost state (now (used .exit)) (now (path .exit)) (now (best .exit)) r ⌝ }
+{
+    if state.expansions >= limit {
+        return SearchState {
+            kept: state.kept,
+            expansions: state.expansions,
+            len: state.len,
+            cut: true,
+        };
+    }
+    if home != 256 {
+        return SearchState {
+            kept: state.kept,
+            expansions: state.expansions + 1,
+            len: state.len,
+            cut: state.cut,
+        };
+    }
+    let c = cost + edge_cost(costs, change);
+    if c < state.kept - 1e-12 {
+        path[depth] = change as u16;
+        keep_path(path, depth + 1, best);
+        return SearchState {
+            kept: c,
+            expansions: state.expansions + 1,
+            len: (depth + 1) as u32,
+            cut: state.cut,
+        };
+    }
+    SearchState {
+        kept: state.kept,
+        expansions: state.expansions + 1,
+        len: state.len,
+        cut: state.cut,
+    }
+}
+
+// The last edge stands in the start's open constraint: the loop closes there if the two balance and no other edge was changed in it.
+fn close_loop(
+    regions: &[u16],
+    incident: &[u16; 512],
+    own: &[u16; 512],
+    costs: &[f64; 512],
+    allowed: &[bool; 512],
+    limit: u32,
+    used: &mut [bool; 257],
+    path: &mut [u16; 257],
+    best: &mut [u16; 257],
+    depth: usize,
+    place: usize,
+    cost: f64,
+    home: usize,
+    state: SearchState,
+) -> SearchState
+    requires { ⌜ Tables (now regions) (now incident) (now own) ⌝ }
+    requires { ⌜ MayCross (the-graph (now regions)) (now incident) (now used) (now path) depth place home ⌝ }
+    requires { ⌜ getD (now incident) place 0 ≡ home ⌝ }
+    requires { ⌜ length (now best) ≡ 257 ⌝ }
+    ensures { λ r. ⌜ Crossed (now (regions .entry)) (now (incident .entry)) (now (costs .entry)) (now (allowed .entry)) limit (now (used .entry)) (now (path .entry)) (now (best .entry)) depth place cost state (now (used .exit)) (now (path .exit)) (now (best .exit)) r ⌝ }
+{
+    let start = wide(path[0]);
+    let change = wide(path[depth - 1]);
+    if balances_with_start(regions, incident, own, place, change, start, home) {
+        if cost < state.kept - 1e-12 {
+            match changed_in(regions, incident, own, place, path, depth) {
+                Changed::One(edge) => {
+                    if edge == start / 2 {
+                        keep_path(path, depth, best);
+                        return SearchState {
+                            kept: cost,
+                            expansions: state.expansions,
+                            len: depth as u32,
+                            cut: state.cut,
+                        };
+                    }
+                    return SearchState {
+                        kept: state.kept,
+                        expansions: state.expansions,
+                        len: state.len,
+                        cut: state.cut,
+                    };
+                }
+                _ => {
+                    return SearchState {
+                        kept: state.kept,
+                        expansions: state.expansions,
+                        len: state.len,
+                        cut: state.cut,
+                    };
+                }
+            }
+        }
+        return SearchState {
+            kept: state.kept,
+            expansions: state.expansions,
+            len: state.len,
+            cut: state.cut,
+        };
+    }
+    SearchState {
+        kept: state.kept,
+        expansions: state.expansions,
+        len: state.len,
+        cut: state.cut,
+    }
+}
+
+// ---- the search
+
+// May a change follow through constraint ci, which is used already? Then its edge is entered, and its other constraint crossed.
+fn try_step(
+    regions: &[u16],
+    incident: &[u16; 512],
+    own: &[u16; 512],
+    costs: &[f64; 512],
+    allowed: &[bool; 512],
+    limit: u32,
+    used: &mut [bool; 257],
+    path: &mut [u16; 257],
+    best: &mut [u16; 257],
+    depth: usize,
+    current: usize,
+    change: usize,
+    cost: f64,
+    ci: usize,
+    home: usize,
+    state: SearchState,
+) -> SearchState
+    requires { ⌜ Tables (now regions) (now incident) (now own) ⌝ }
+    requires { ⌜ MayStep (the-graph (now regions)) (now used) (now path) depth current ci change home ⌝ }
+    requires { ⌜ length (now best) ≡ 257 ⌝ }
+    ensures { λ r. ⌜ Stepped (now (regions .entry)) (now (costs .entry)) (now (allowed .entry)) limit (now (used .entry)) (now (path .entry)) (now (best .entry)) depth current ci change cost state (now (used .exit)) (now (path .exit)) (now (best .exit)) r ⌝ }
+{
+    if change / 2 == current {
+        return state;
+    }
+    if is_allowed(allowed, change) {
+        let place = other_place(regions, incident, own, change / 2, ci);
+        let other = entry(incident, place);
+        if other == 256 {
+            let t = SearchState {
+                kept: state.kept,
+                expansions: state.expansions,
+                len: state.len,
+                cut: state.cut,
+            };
+            return end_chain(
+                regions,
+                incident,
+                own,
+                costs,
+                allowed,
+                limit,
+                used,
+                path,
+                best,
+                depth,
+                current,
+                change,
+                cost,
+                ci,
+                home,
+                t,
+            );
+        }
+        if is_used(used, other) {
+            return state;
+        }
+        if state.expansions >= limit {
+            return SearchState {
+                kept: state.kept,
+                expansions: state.expansions,
+                len: state.len,
+                cut: true,
+            };
+        }
+        path[depth] = change as u16;
+        let c = cost + edge_cost(costs, change);
+        let t = SearchState {
+            kept: state.kept,
+            expansions: state.expansions + 1,
+            len: state.len,
+            cut: state.cut,
+        };
+        let r = dfs(
+            regions,
+            incident,
+            own,
+            costs,
+            allowed,
+            limit,
+            used,
+            path,
+            best,
+            depth + 1,
+            place,
+            c,
+            home,
+            t,
+        );
+        return SearchState {
+            kept: r.kept,
+            expansions: r.expansions,
+            len: r.len,
+            cut: r.cut,
+        };
+    }
+    state
+}
+
+// Crosses the unused constraint at a place of the last changed edge: tries its opposite edges, then the others of the own side.
+fn dfs(
+    regions: &[u16],
+    incident: &[u16; 512],
+    own: &[u16; 512],
+    costs: &[f64; 512],
+    allowed: &[bool; 512],
+    limit: u32,
+    used: &mut [bool; 257],
+    path: &mut [u16; 257],
+    best: &mut [u16; 257],
+    depth: usize,
+    place: usize,
+    cost: f64,
+    home: usize,
+    state: SearchState,
+) -> SearchState
+    requires { ⌜ Tables (now regions) (now incident) (now own) ⌝ }
+    requires { ⌜ MayCross (the-graph (now regions)) (now incident) (now used) (now path) depth place home ⌝ }
+    requires { ⌜ length (now best) ≡ 257 ⌝ }
+    ensures { λ r. ⌜ Crossed (now (regions .entry)) (now (incident .entry)) (now (costs .entry)) (now (allowed .entry)) limit (now (used .entry)) (now (path .entry)) (now (best .entry)) depth place cost state (now (used .exit)) (now (path .exit)) (now (best .exit)) r ⌝ }
+{
+    let ci = entry(incident, place);
+    if ci == home {
+        let t = SearchState {
+            kept: state.kept,
+            expansions: state.expansions,
+            len: state.len,
+            cut: state.cut,
+        };
+        return close_loop(
+            regions,
+            incident,
+            own,
+            costs,
+            allowed,
+            limit,
+            used,
+            path,
+            best,
+            depth,
+            place,
+            cost,
+            home,
+            t,
+        );
+    }
+    let last = wide(path[depth - 1]);
+    let sides = sides_of(regions, incident, own, place);
+    let total = sides.total;
+    let mut out = SearchState {
+        kept: state.kept,
+        expansions: state.expansions,
+        len: state.len,
+        cut: state.cut,
+    };
+    used[ci] = true;
+    let mut j = 0;
+    while j < total {
+        let change = partner(regions, incident, own, sides, place, last, j);
+        out = try_step(
+            regions,
+            incident,
+            own,
+            costs,
+            allowed,
+            limit,
+            used,
+            path,
+            best,
+            depth,
+            place / 2,
+            change,
+            cost,
+            ci,
+            home,
+            out,
+        );
+        j += 1;
+    }
+    used[ci] = false;
+    out
+}
+
+pub(crate) fn infinity() -> f64
+    ensures { λ r. ⌜ r ≡ inf false ⌝ }
+{
+    f64::from_bits(0x7ff0_0000_0000_0000)
+}
+
+// The whole search from one change. An edge without a constraint is a move by itself; else each of its constraints is crossed, while the
+// other one is `home`.
 pub fn run(
     regions: &[u16],
     incident: &[u16; 512],
@@ -28,16 +618,93 @@ pub fn run(
     used: &mut [bool; 257],
     path: &mut [u16; 257],
     best: &mut [u16; 257],
-    c: usize,
+    start: usize,
 ) -> SearchState
-    requires { ⌜ Tables (now regions) (now incident) (now own) × (c < 512) ⌝ }
-    requires { ⌜ Buffers (now used) (now path) (now best) ⌝ }
-    ensures { λ r. ⌜ (state-of r (now (best .exit)) ≡ run-of (the-graph (now (regions .entry))) (cost-in (now (costs .entry))) (allowed-in (now (allowed .entry))) limit (c / 2) (eqb (c % 2) 1)) × Buffers (now (used .exit)) (now (path .exit)) (now (best .exit)) × (r .len ≤ 257) ⌝ }
+    requires { ⌜ Tables (now regions) (now incident) (now own) ⌝ }
+    requires { ⌜ (start < 512) × (now used ≡ no-marks) × (length (now path) ≡ 257) × (length (now best) ≡ 257) ⌝ }
+    ensures { λ r. ⌜ Searched (now (regions .entry)) (now (costs .entry)) (now (allowed .entry)) limit start (now (used .exit)) (now (path .exit)) (now (best .exit)) r ⌝ }
 {
-    SearchState {
-        kept: 0.0,
-        expansions: 0,
+    let kept = infinity();
+    if limit == 0 {
+        return SearchState {
+            kept,
+            expansions: 0,
+            len: 0,
+            cut: true,
+        };
+    }
+    path[0] = start as u16;
+    let cost = edge_cost(costs, start);
+    let place = start / 2 * 2;
+    let first = entry(incident, place);
+    if first == 256 {
+        if cost < kept - 1e-12 {
+            keep_path(path, 1, best);
+            return SearchState {
+                kept: cost,
+                expansions: 1,
+                len: 1,
+                cut: false,
+            };
+        }
+        return SearchState {
+            kept,
+            expansions: 1,
+            len: 0,
+            cut: false,
+        };
+    }
+    let second = entry(incident, place + 1);
+    let state = SearchState {
+        kept,
+        expansions: 1,
         len: 0,
         cut: false,
+    };
+    let r = dfs(
+        regions,
+        incident,
+        own,
+        costs,
+        allowed,
+        limit,
+        used,
+        path,
+        best,
+        1,
+        place,
+        cost,
+        second,
+        state,
+    );
+    if second == 256 {
+        return SearchState {
+            kept: r.kept,
+            expansions: r.expansions,
+            len: r.len,
+            cut: r.cut,
+        };
     }
+    let t = SearchState {
+        kept: r.kept,
+        expansions: r.expansions,
+        len: r.len,
+        cut: r.cut,
+    };
+    dfs(
+        regions,
+        incident,
+        own,
+        costs,
+        allowed,
+        limit,
+        used,
+        path,
+        best,
+        1,
+        place + 1,
+        cost,
+        first,
+        t,
+    )
 }

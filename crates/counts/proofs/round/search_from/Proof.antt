@@ -2,7 +2,7 @@
 use mathlib.Core.Path.{_≡_, refl, sym, ap, _∙_}
 use native.Mathlib.Omega.{arith}
 use borrow.Author.Needs.{needs}
-use Rattle.counts.specs.RoundContract.{Searched, Buffers}
+use Rattle.counts.specs.RoundContract.{Buffers}
 use Rattle.counts.specs.Search.{State}
 use Rattle.counts.proofs.RoundLaws.{searched, not-searched}
 use Rattle.counts.proofs.round.search_from.Statement.{statement}
@@ -12,14 +12,15 @@ element-copy-out-if1 : tie.Need-element-copy-out-if1
 element-copy-out-if1 c = search needs
 
 run-requires : tie.Need-run-requires
-run-requires c κs = search needs
+run-requires c κs =
+    (c .before .before .before .before .before .before .pre .0 .0, (c .before .before .before .before .before .before .pre .0 .1, c .before .before .before .before .before .before .pre .1 .unmarked, c .before .before .before .before .before .before .pre .1 .path-long, c .before .before .before .before .before .before .pre .1 .best-long))
 
 returns : tie.Need-returns
 returns c =
     record {
-      answer = c .run .ensures .0 ∙ sym (searched _ _ _ _ _ (c .before .before .before .before .if1 .taken));
-      buffers = c .run .ensures .1;
-      len-fits = c .run .ensures .2;
+      answer = c .run .ensures .answer ∙ sym (searched _ _ _ _ _ (c .before .before .before .before .if1 .taken));
+      buffers = record { unmarked = c .run .ensures .used-kept; path-long = c .run .ensures .long-kept; best-long = c .run .ensures .best-kept };
+      len-fits = c .run .ensures .short;
     }
 
 infinity-requires : tie.Need-infinity-requires
