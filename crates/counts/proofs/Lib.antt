@@ -1,4 +1,5 @@
 -- Laws of the definitions. Assumes nothing.
+pub mod AcceptLaws
 pub mod Acts
 pub mod Balance
 pub mod BoolLaws
@@ -7,3 +8,4 @@ pub mod Find
 pub mod FloatLaws
 pub mod ListLaws
 pub mod Sound
+pub mod Turns

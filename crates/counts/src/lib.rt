@@ -1,2 +1,4 @@
 mod answer;
+mod check;
 mod refusal;
+mod region;
