@@ -7,7 +7,7 @@ use Prim.Native.Nat.{ℕ, zero, suc, _+_, _-_, _*_, _/_, _%_, _<_, _≤_}
 use native.Mathlib.Numerals.{add-one}
 use native.Mathlib.Nat.{add-zero, zero-mul, mul-one, mul-pos}
 use native.Mathlib.Omega.{arith}
-use borrow.Author.Tests.{lt-ltb, le-ltb}
+use borrow.Author.Tests.{lt-ltb}
 use lib.ListN.{length, getD, take, drop, length-drop, drop-of-length-le}
 use lib.Dec.{T, leb, ltb, eqb, leb→le}
 use lib.Seq.{take-suc, take-all, getD-drop, drop-drop}
@@ -58,20 +58,27 @@ refusal-number because.NoCells = refl
 refusal-number (because.BreaksMismatch s) = refl
 refusal-number because.RootUndefined = refl
 
--- a test that refuses is the whole chain
-pub chain-stops : (c : Check) (r : Refusal) (v w : Verdict) → c ≡ Refused r → outcome c ≡ v → outcome (Refused r) ≡ then-test v w
+-- what a test that refuses says
+pub was-refused : {c : Check} {r : Refusal} {v : Verdict} → c ≡ Refused r → outcome c ≡ v → (verdict-of r ≡ v) × (is-passed v ≡ false)
 unfolding outcome
-chain-stops c r v w e o =
+was-refused {c} {r} {v} e o =
     let q : verdict-of r ≡ v = sym (ap outcome e) ∙ o in
-    let b : is-passed v ≡ false = sym (ap is-passed q) ∙ refusal-number r in
-    q ∙ ap (λ (t : Bool). cond t w v) (sym b)
+    (q, sym (ap is-passed q) ∙ refusal-number r)
+
+-- a test that refuses is the whole chain
+pub chain-stops : {c : Check} {r : Refusal} {v : Verdict} (w : Verdict) → c ≡ Refused r → outcome c ≡ v → outcome (Refused r) ≡ then-test v w
+unfolding outcome
+chain-stops {c} {r} {v} w e o = let q = was-refused e o in q .0 ∙ ap (λ (t : Bool). cond t w v) (sym (q .1))
 
 -- a test that is passed leaves the rest of the chain
-pub chain-goes-on : (c : Check) (v w : Verdict) → c ≡ Passed → outcome c ≡ v → w ≡ then-test v w
+pub chain-goes-on : {c : Check} {v w : Verdict} → c ≡ Passed → outcome c ≡ v → w ≡ then-test v w
 unfolding outcome
-chain-goes-on c v w e o =
-    let q : passed ≡ v = sym (ap outcome e) ∙ o in
-    ap (λ (u : Verdict). then-test u w) q
+chain-goes-on {c} {v} {w} e o = let q : passed ≡ v = sym (ap outcome e) ∙ o in ap (λ (u : Verdict). then-test u w) q
+
+-- what a test that is passed says
+pub was-passed : {c : Check} {v : Verdict} → c ≡ Passed → outcome c ≡ v → v ≡ passed
+unfolding outcome
+was-passed e o = sym o ∙ ap outcome e
 
 pub then-test-assoc : (u v w : Verdict) → then-test (then-test u v) w ≡ then-test u (then-test v w)
 then-test-assoc u v w = go (is-passed u) (λ e. e)
@@ -79,6 +86,14 @@ then-test-assoc u v w = go (is-passed u) (λ e. e)
     go : (b : Bool) → (b ≡ false → is-passed u ≡ false) → cond (is-passed (cond b v u)) w (cond b v u) ≡ cond b (then-test v w) u
     go true h = refl
     go false h = ap (λ (t : Bool). cond t w u) (h refl)
+
+-- a chain that is passed: so is each test
+pub then-passed : (u v : Verdict) → is-passed (then-test u v) ≡ true → (is-passed u ≡ true) × (is-passed v ≡ true)
+then-passed u v h = go (is-passed u) (λ e. e) h
+  where
+    go : (b : Bool) → (b ≡ false → is-passed u ≡ false) → is-passed (cond b v u) ≡ true → (b ≡ true) × (is-passed v ≡ true)
+    go true f t = (refl, t)
+    go false f t = absurd (true≢false (sym t ∙ f refl))
 
 -- ---- the first bad entry
 module _ {A : Type 0} (ok : A → Bool) (number : ℕ) (xs : List A) (d : A) (i : ℕ) where

@@ -64,6 +64,11 @@ ideals-test ideals = first-bad ideal-ok 2 0 ideals
 abbrev pub counts-test : List ℕ → Verdict
 counts-test counts = first-bad count-ok 9 0 counts
 
+-- "8 (rounds), .. 2, 9 (rounds)": as many counts as ideals, and each value as it should be
+abbrev pub values-test : List ℕ → List Float → Verdict
+values-test counts ideals =
+    then-test (refuse-if (not (eqb (length counts) (length ideals))) (refused 8 0 0)) (then-test (ideals-test ideals) (counts-test counts))
+
 -- ---- 3 to 6: "then by region and pair: each side's edges (3, 4), 5; then 6"
 
 -- 3 and 4 along side k of region r, `seen` being the edges before

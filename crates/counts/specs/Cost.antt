@@ -1,11 +1,12 @@
 -- 01, "Edge cost", and the energy of 000: each operation rounded once, to nearest, ties to even, in binary64. Assumes nothing.
+use mathlib.Core.Path.{_≡_}
 use mathlib.Core.Bool.{Bool, true, false}
 use mathlib.Core.List.{List, [], _∷_}
-use Prim.Native.Nat.{ℕ}
+use Prim.Native.Nat.{ℕ, _+_, _*_}
 use lib.ListN.{getD}
 use lib.IntN.{pos}
-use lib.Ieee.{Float, add, sub, mul, div, neg, ofBits, ofInt, binary64}
-use Rattle.counts.specs.Move.{EdgeCost}
+use lib.Ieee.{Float, nan, add, sub, mul, div, neg, ofBits, ofInt, binary64}
+use Rattle.counts.specs.Move.{EdgeCost, allowed}
 
 -- 1.0
 abbrev pub one : Float
@@ -50,3 +51,10 @@ unfolding add square deviation
 energy-from t [] ideals = t
 energy-from t (s ∷ counts) [] = t
 energy-from t (s ∷ counts) (ideal ∷ ideals) = energy-from (add binary64 t (square (deviation (real s) ideal))) counts ideals
+
+-- the entries of edge x in a round's tables: what +1 and -1 cost, and whether each is allowed, at 2 * x + 1 and at 2 * x
+pub record Entries (counts : List ℕ) (ideals : List Float) (costs : List Float) (may : List Bool) (x : ℕ) : Type 0 where
+  pub plus-cost : getD costs (x * 2 + 1) nan ≡ by-ideals ideals counts x true
+  pub minus-cost : getD costs (x * 2) nan ≡ by-ideals ideals counts x false
+  pub plus-may : getD may (x * 2 + 1) false ≡ allowed counts x true
+  pub minus-may : getD may (x * 2) false ≡ allowed counts x false

@@ -1,16 +1,20 @@
 // The tests that turn input away before any work is done, one function each, in the order of specs/Accept.antt.
 use crate::refusal::Check;
 use crate::refusal::Refusal;
+use crate::region::PLACES;
+use crate::region::RECORD_SIZE;
+use crate::region::SIDE_SIZE;
 use crate::region::side;
 ghost use mathlib.Core.Path.{_≡_};
 ghost use mathlib.Core.List.{[]};
-ghost use Prim.Native.Nat.{ℕ, _+_, _*_, _/_, _%_, _≤_, _<_};
-ghost use lib.ListN.{length, getD};
+ghost use Prim.Native.Nat.{_+_, _%_, _≤_, _<_};
+ghost use lib.ListN.{length};
 ghost use lib.Dec.{T};
 ghost use Rattle.counts.specs.Lists.{member};
-ghost use Rattle.counts.specs.Region.{places, record-size, region-count};
+ghost use Rattle.counts.specs.Region.{places, region-count};
 ghost use Rattle.counts.specs.Refusal.{outcome};
-ghost use Rattle.counts.specs.Accept.{ideal-ok, ideals-test, counts-test, sides-fit, records-whole, limits-test, shared-edge, side-test, pair-test, region-test, pairs-test};
+ghost use Rattle.counts.specs.Accept.{ideal-ok, ideals-test, counts-test, values-test, sides-fit, records-whole, limits-test, shared-edge, side-test, pair-test, region-test, pairs-test};
+ghost use Rattle.counts.specs.Solver.{round-test-head, solve-test-head, energy-test};
 
 const MAX_REGIONS: usize = 128;
 
@@ -18,11 +22,7 @@ const MAX_EDGES: usize = 256;
 
 const MAX_COUNT: u32 = 1_000_000;
 
-const PLACES: u16 = 16;
-
-const SIDE_SIZE: usize = 17;
-
-const RECORD_SIZE: usize = 68;
+const MAX_LIMIT: u32 = 100_000;
 
 // No side has more edges than places.
 fn sides_fit(regions: &[u16]) -> bool
@@ -200,4 +200,80 @@ pub fn check_pairs(regions: &[u16], n: usize) -> Check
         r += 1;
     }
     Check::Passed
+}
+
+// 8, then 2, then 9: as many counts as ideals, and each value as it should be.
+fn check_values(counts: &[u32], ideals: &[f64]) -> Check
+    requires { ⌜ length (now counts) ≤ 256 ⌝ }
+    requires { ⌜ length (now ideals) ≤ 256 ⌝ }
+    ensures { λ r. ⌜ outcome r ≡ values-test (now (counts .entry)) (now (ideals .entry)) ⌝ }
+{
+    if counts.len() != ideals.len() {
+        return Check::Refused(Refusal::LengthsDiffer);
+    }
+    if let Check::Refused(r) = check_ideals(ideals) {
+        return Check::Refused(r);
+    }
+    check_counts(counts)
+}
+
+// What a round tests before it builds its tables.
+pub fn check_round(regions: &[u16], ideals: &[f64], counts: &[u32], limit: u32) -> Check
+    ensures { λ r. ⌜ outcome r ≡ round-test-head places (now (regions .entry)) (now (ideals .entry)) (now (counts .entry)) limit ⌝ }
+{
+    let n = ideals.len();
+    if let Check::Refused(r) = check_limits(regions, n) {
+        return Check::Refused(r);
+    }
+    let m = counts.len();
+    if let Check::Refused(r) = check_limits(regions, m) {
+        return Check::Refused(r);
+    }
+    if limit > MAX_LIMIT {
+        return Check::Refused(Refusal::LimitTooLarge);
+    }
+    if let Check::Refused(r) = check_values(counts, ideals) {
+        return Check::Refused(r);
+    }
+    check_pairs(regions, n)
+}
+
+// What solve tests before it builds its tables; room is the length of the lent counts.
+pub fn check_solve(regions: &[u16], ideals: &[f64], room: usize) -> Check
+    ensures { λ r. ⌜ outcome r ≡ solve-test-head places (now (regions .entry)) (now (ideals .entry)) room ⌝ }
+{
+    let n = ideals.len();
+    if let Check::Refused(r) = check_limits(regions, n) {
+        return Check::Refused(r);
+    }
+    if room < n {
+        return Check::Refused(Refusal::OutputTooShort);
+    }
+    if let Check::Refused(r) = check_ideals(ideals) {
+        return Check::Refused(r);
+    }
+    check_pairs(regions, n)
+}
+
+// 1 where there are no regions: n is the length of a list with an entry for each edge.
+fn check_edges(n: usize) -> Check
+    ensures { λ r. ⌜ outcome r ≡ limits-test places n [] ⌝ }
+{
+    if n > MAX_EDGES {
+        return Check::Refused(Refusal::Malformed);
+    }
+    Check::Passed
+}
+
+// What energy tests.
+pub fn check_energy(counts: &[u32], ideals: &[f64]) -> Check
+    ensures { λ r. ⌜ outcome r ≡ energy-test (now (counts .entry)) (now (ideals .entry)) ⌝ }
+{
+    if let Check::Refused(r) = check_edges(ideals.len()) {
+        return Check::Refused(r);
+    }
+    if let Check::Refused(r) = check_edges(counts.len()) {
+        return Check::Refused(r);
+    }
+    check_values(counts, ideals)
 }

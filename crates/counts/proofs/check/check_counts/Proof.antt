@@ -1,18 +1,15 @@
-use mathlib.Core.Path.{_≡_, refl, sym, ap, _∙_}
-use Prim.Native.Nat.{ℕ, _+_, _-_, _≤_, _<_}
+-- `counts::check::check_counts` meets its contract. The loop's invariant: what is left of the test, from entry e on, is the whole test. Assumes nothing.
+use mathlib.Core.Path.{_≡_, refl, sym, _∙_}
+use Prim.Native.Nat.{_-_}
 use native.Mathlib.Omega.{arith}
-use borrow.Author.Needs.{needs}
 use denote.Ref.{now}
-use borrow.Author.Tests.{le-leb, lt-leb, not-true, not-false}
+use borrow.Author.Tests.{le-leb, lt-leb}
 use lib.ListN.{length, getD, drop}
-use lib.Ieee.{nan}
 use Rattle.counts.specs.Refusal.{outcome, verdict-of}
 use Rattle.counts.specs.Accept.{first-bad, count-ok}
 use Rattle.counts.proofs.AcceptLaws.{bad-next, bad-here, bad-none}
 use Rattle.counts.proofs.check.check_counts.Statement.{statement}
 use Rattle.counts.proofs.check.check_counts.Tie as tie
-use Rattle.counts.proofs.check.check_counts.Reads as reads
-use Rattle.counts.proofs.check.check_counts.Lts as lts
 
 abbrev Inv-loop : tie.InvT-loop
 Inv-loop counts e₀ e = first-bad count-ok 9 0 counts ≡ first-bad count-ok 9 e (drop e counts)
@@ -34,7 +31,10 @@ cast-edge c = omega arith
 
 returns : tie.Need-returns Inv-loop μ-loop
 unfolding outcome verdict-of
-returns c = let xs = now (c .before .before .before .before .args .counts) in let i = c .before .before .before .loop .e in sym (c .before .before .before .loop .inv ∙ bad-here count-ok 9 xs 0 i (c .before .before .loop-test .taken) (lt-leb (getD xs i 0) 1000000 (c .if1 .taken)))
+returns c =
+    let xs = now (c .before .before .before .before .args .counts) in
+    let i = c .before .before .before .loop .e in
+    sym (c .before .before .before .loop .inv ∙ bad-here count-ok 9 xs 0 i (c .before .before .loop-test .taken) (lt-leb (getD xs i 0) 1000000 (c .if1 .taken)))
 
 add-e : tie.Need-add-e Inv-loop μ-loop
 add-e c = omega arith
@@ -43,11 +43,18 @@ loop-less : tie.Need-loop-less Inv-loop μ-loop
 loop-less c = omega arith
 
 loop-again : tie.Need-loop-again Inv-loop μ-loop
-loop-again c = let xs = now (c .before .before .before .before .args .counts) in let i = c .before .before .before .loop .e in c .before .before .before .loop .inv ∙ bad-next count-ok 9 xs 0 i (c .before .before .loop-test .taken) (le-leb (getD xs i 0) 1000000 (c .if1 .left))
+loop-again c =
+    let xs = now (c .before .before .before .before .args .counts) in
+    let i = c .before .before .before .loop .e in
+    c .before .before .before .loop .inv
+    ∙ bad-next count-ok 9 xs 0 i (c .before .before .loop-test .taken) (le-leb (getD xs i 0) 1000000 (c .if1 .left))
 
 returns-2 : tie.Need-returns-2 Inv-loop μ-loop
 unfolding outcome
-returns-2 c = let xs = now (c .before .before .args .counts) in let i = c .before .loop .e in sym (c .before .loop .inv ∙ bad-none count-ok 9 xs 0 i (c .loop-test .left))
+returns-2 c =
+    let xs = now (c .before .before .args .counts) in
+    let i = c .before .loop .e in
+    sym (c .before .loop .inv ∙ bad-none count-ok 9 xs 0 i (c .loop-test .left))
 
 pub check-counts-spec : {M : Type 1} → statement M
 check-counts-spec =

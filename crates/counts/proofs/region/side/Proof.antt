@@ -1,14 +1,13 @@
-use mathlib.Core.Path.{_≡_, refl, sym, ap, _∙_}
-use Prim.Native.Nat.{ℕ, _+_, _-_, _*_, suc, _≤_, _<_}
+-- `counts::region::side` meets its contract. The part lent is the definition's, as `start + n - start` is n. Assumes nothing.
+use mathlib.Core.Path.{_≡_, ap, _∙_}
+use Prim.Native.Nat.{ℕ, _+_, _-_, _*_}
 use native.Mathlib.Omega.{arith}
 use denote.Ref.{now}
 use native.Mathlib.Numerals.{add-one}
-use lib.ListN.{length, getD, take, drop}
+use lib.ListN.{getD, take, drop}
 use borrow.Author.Needs.{needs}
 use Rattle.counts.proofs.region.side.Statement.{statement}
 use Rattle.counts.proofs.region.side.Tie as tie
-use Rattle.counts.proofs.region.side.Reads as reads
-use Rattle.counts.proofs.region.side.Lts as lts
 
 mul-at : tie.Need-mul-at
 mul-at c = search needs
@@ -41,7 +40,11 @@ part-result-end : tie.Need-part-result-end
 part-result-end c = search needs
 
 returns : tie.Need-returns
-returns c = let l = now (c .before .before .args .records) in let at : ℕ = c .before .before .args .k * 17 in let e : at + 1 + getD l at 0 - (at + 1) ≡ getD l at 0 = omega arith in ap (λ (n : ℕ). take n (drop (at + 1) l)) e ∙ ap (λ (n : ℕ). take (getD l at 0) (drop n l)) (add-one at)
+returns c =
+    let l = now (c .before .before .args .records) in
+    let at : ℕ = c .before .before .args .k * 17 in
+    let e : at + 1 + getD l at 0 - (at + 1) ≡ getD l at 0 = omega arith in
+    ap (λ (n : ℕ). take n (drop (at + 1) l)) e ∙ ap (λ (n : ℕ). take (getD l at 0) (drop n l)) (add-one at)
 
 pub side-spec : {M : Type 1} → statement M
 side-spec =
