@@ -76,9 +76,9 @@ unfolding outcome
 chain-goes-on {c} {v} {w} e o = let q : passed ≡ v = sym (ap outcome e) ∙ o in ap (λ (u : Verdict). then-test u w) q
 
 -- what a test that is passed says
-pub was-passed : {c : Check} {v : Verdict} → c ≡ Passed → outcome c ≡ v → v ≡ passed
+pub was-passed : {c : Check} {v : Verdict} → c ≡ Passed → outcome c ≡ v → is-passed v ≡ true
 unfolding outcome
-was-passed e o = sym o ∙ ap outcome e
+was-passed e o = ap is-passed (sym o ∙ ap outcome e)
 
 pub then-test-assoc : (u v w : Verdict) → then-test (then-test u v) w ≡ then-test u (then-test v w)
 then-test-assoc u v w = go (is-passed u) (λ e. e)
@@ -228,17 +228,14 @@ module _ (l : List ℕ) (t : T (records-whole places l)) where
   whole-sides = and-r (leb (length l / 68) 128) _ (and-r (eqb (length l % 68) 0) _ t)
 
 -- what test 1 lets by
-pub limits-passed : (n : ℕ) (l : List ℕ) → limits-test places n l ≡ passed → (n ≤ 256) × T (records-whole places l)
+pub limits-passed : (n : ℕ) (l : List ℕ) → is-passed (limits-test places n l) ≡ true → (n ≤ 256) × T (records-whole places l)
 unfolding limits-test
-limits-passed n l e = go (leb n 256) (records-whole places l) (λ t. t) (ap number e)
+limits-passed n l e = go (leb n 256) (records-whole places l) (λ t. t) e
   where
-    number : Verdict → ℕ
-    number v = v .number
-
-    go : (a b : Bool) → (T a → T (leb n 256)) → number (cond (not (a && b)) (refused 1 0 0) passed) ≡ 0 → (n ≤ 256) × T b
+    go : (a b : Bool) → (T a → T (leb n 256)) → is-passed (refuse-if (not (a && b)) (refused 1 0 0)) ≡ true → (n ≤ 256) × T b
     go true true h q = (leb→le n 256 (h tt), tt)
-    go true false h q = absurd (omega arith)
-    go false b h q = absurd (omega arith)
+    go true false h q = absurd (true≢false (sym q))
+    go false b h q = absurd (true≢false (sym q))
 
 -- what is left of a list from an index on
 pub rest : {A : Type 0} (at : ℕ) (l : List A) → take (length l - at) (drop at l) ≡ drop at l

@@ -4,16 +4,16 @@ use mathlib.Core.Bool.{Bool, true, false, true≢false, not, _&&_, cond}
 use mathlib.Core.List.{List, []}
 use Prim.Native.Nat.{ℕ, suc, _+_, _-_, _*_, _≤_, _<_}
 use native.Mathlib.Omega.{arith}
-use borrow.Author.Tests.{eqb-true}
+use borrow.Author.Tests.{eqb-true, ltb-false}
 use lib.ListN.{length, getD, drop, length-take}
-use lib.Dec.{ltb, eqb}
+use lib.Dec.{T, ltb, eqb}
 use lib.Ieee.{Float, binary64, ofBits}
 use Rattle.counts.specs.Lists.{all}
 use Rattle.counts.specs.Region.{Constraint, places, region-count, side, constraints, graph, side-sum}
 use Rattle.counts.specs.Refusal.{Verdict, passed, refused, outcome, is-passed, then-test, refuse-if}
 use Rattle.counts.specs.Cost.{energy-from}
-use Rattle.counts.specs.Accept.{limits-test, ideals-test, counts-test, values-test, pairs-test, overused-test, regions-test}
-use Rattle.counts.specs.Solver.{max-limit, round-test, round-test-head, solve-test, solve-test-head, Energy, energy-of, energy-test, energy, hold-of, side-in-range, sum-of-side, constraint-holds, constraints-hold}
+use Rattle.counts.specs.Accept.{records-whole, limits-test, ideals-test, counts-test, values-test, pairs-test, overused-test, regions-test}
+use Rattle.counts.specs.Solver.{max-limit, round-test, round-test-head, solve-test, solve-test-head, Energy, energy-of, energy-test, energy, Hold, hold-of, side-in-range, sum-of-side, constraint-holds, constraints-hold}
 use Rattle.counts.specs.declared.answer.EnergyAnswer.the-variants as energy-answer
 use Rattle.counts.specs.declared.answer.HoldAnswer.the-variants as hold-answer
 use Rattle.counts.specs.declared.measure.SideSum.{SideSum}
@@ -21,7 +21,7 @@ use Rattle.counts.specs.declared.measure.SideSum.the-variants as side-to
 use Rattle.counts.specs.declared.refusal.Check.{Check}
 use Rattle.counts.specs.declared.refusal.Check.the-variants.{Passed, Refused}
 use Rattle.counts.specs.declared.refusal.Refusal.{Refusal}
-use Rattle.counts.proofs.AcceptLaws.{was-refused, was-passed, then-passed, then-test-assoc, count-down, next-record}
+use Rattle.counts.proofs.AcceptLaws.{limits-passed, was-refused, was-passed, then-passed, then-test-assoc, count-down, next-record}
 
 -- ---- round and solve: the code makes 6 on its tables, after the rest
 pub round-test-chain : (p : ℕ) (regions : List ℕ) (ideals : List Float) (counts : List ℕ) (limit : ℕ) → round-test p regions ideals counts limit ≡ then-test (round-test-head p regions ideals counts limit) (overused-test (graph p regions) 0 (length ideals))
@@ -50,6 +50,52 @@ solve-test-chain p regions ideals room =
     let h = overused-test (graph p regions) 0 (length ideals) in
     ap (then-test a) (ap (then-test b) (sym (then-test-assoc e g h)) ∙ sym (then-test-assoc b (then-test e g) h)) ∙ sym (then-test-assoc a (then-test b (then-test e g)) h)
 
+-- 8 lets by only as many counts as ideals
+pub values-lengths : (counts : List ℕ) (ideals : List Float) → is-passed (values-test counts ideals) ≡ true → length counts ≡ length ideals
+values-lengths counts ideals h =
+    let n = refuse-if (not (eqb (length counts) (length ideals))) (refused 8 0 0) in
+    eqb-true (length counts) (length ideals) (go (eqb (length counts) (length ideals)) (then-passed n (then-test (ideals-test ideals) (counts-test counts)) h .0))
+  where
+    go : (b : Bool) → is-passed (refuse-if (not b) (refused 8 0 0)) ≡ true → b ≡ true
+    go true t = refl
+    go false t = t
+
+-- what the tests of a round and of solve let by, up to 6
+pub record HeadPassed (regions : List ℕ) (n : ℕ) : Type 0 where
+  pub few : n ≤ 256
+  pub whole : T (records-whole places regions)
+  pub pairs : is-passed (pairs-test places n 0 (region-count places regions) regions) ≡ true
+
+pub round-head-passed : (regions : List ℕ) (ideals : List Float) (counts : List ℕ) (limit : ℕ) → is-passed (round-test-head places regions ideals counts limit) ≡ true
+    → HeadPassed regions (length ideals) × (length counts ≡ length ideals)
+unfolding round-test-head
+round-head-passed regions ideals counts limit h =
+    let e = pairs-test places (length ideals) 0 (region-count places regions) regions in
+    let d = then-test (values-test counts ideals) e in
+    let c = then-test (refuse-if (ltb max-limit limit) (refused 10 0 0)) d in
+    let h1 = then-passed (limits-test places (length ideals) regions) (then-test (limits-test places (length counts) regions) c) h in
+    let h2 = then-passed (limits-test places (length counts) regions) c (h1 .1) in
+    let h3 = then-passed (refuse-if (ltb max-limit limit) (refused 10 0 0)) d (h2 .1) in
+    let h4 = then-passed (values-test counts ideals) e (h3 .1) in
+    let l = limits-passed (length ideals) regions (h1 .0) in
+    (record { few = l .0; whole = l .1; pairs = h4 .1 }, values-lengths counts ideals (h4 .0))
+
+pub solve-head-passed : (regions : List ℕ) (ideals : List Float) (room : ℕ) → is-passed (solve-test-head places regions ideals room) ≡ true
+    → HeadPassed regions (length ideals) × (length ideals ≤ room)
+unfolding solve-test-head
+solve-head-passed regions ideals room h =
+    let e = pairs-test places (length ideals) 0 (region-count places regions) regions in
+    let d = then-test (ideals-test ideals) e in
+    let h1 = then-passed (limits-test places (length ideals) regions) (then-test (refuse-if (ltb room (length ideals)) (refused 11 0 0)) d) h in
+    let h2 = then-passed (refuse-if (ltb room (length ideals)) (refused 11 0 0)) d (h1 .1) in
+    let h3 = then-passed (ideals-test ideals) e (h2 .1) in
+    let l = limits-passed (length ideals) regions (h1 .0) in
+    (record { few = l .0; whole = l .1; pairs = h3 .1 }, ltb-false room (length ideals) (go (ltb room (length ideals)) (h2 .0)))
+  where
+    go : (b : Bool) → is-passed (refuse-if b (refused 11 0 0)) ≡ true → b ≡ false
+    go true t = sym t
+    go false t = refl
+
 -- ---- energy
 module _ (counts : List ℕ) (ideals : List Float) where
   answered : Bool → Verdict → Energy
@@ -68,36 +114,30 @@ module _ (counts : List ℕ) (ideals : List Float) where
   unfolding energy energy-of answered
   energy-total t e o h =
       ap (λ (x : Float). record { verdict = passed; total = x }) h
-      ∙ ap (λ (b : Bool). answered b (energy-test counts ideals)) (sym (ap is-passed (was-passed e o)))
-
-  -- 8 lets by only as many counts as ideals
-  pub values-lengths : is-passed (values-test counts ideals) ≡ true → length counts ≡ length ideals
-  values-lengths h = eqb-true (length counts) (length ideals) (go (eqb (length counts) (length ideals)) (then-passed (refuse-if (not (eqb (length counts) (length ideals))) (refused 8 0 0)) (then-test (ideals-test ideals) (counts-test counts)) h .0))
-    where
-      go : (b : Bool) → is-passed (refuse-if (not b) (refused 8 0 0)) ≡ true → b ≡ true
-      go true t = refl
-      go false t = t
+      ∙ ap (λ (b : Bool). answered b (energy-test counts ideals)) (sym (was-passed e o))
 
   pub energy-lengths : {c : Check} → c ≡ Passed → outcome c ≡ energy-test counts ideals → length counts ≡ length ideals
   unfolding energy-test
   energy-lengths e o =
-      let h = then-passed (limits-test places (length ideals) []) (then-test (limits-test places (length counts) []) (values-test counts ideals)) (ap is-passed (was-passed e o)) .1 in
-      values-lengths (then-passed (limits-test places (length counts) []) (values-test counts ideals) h .1)
+      let h = then-passed (limits-test places (length ideals) []) (then-test (limits-test places (length counts) []) (values-test counts ideals)) (was-passed e o) .1 in
+      values-lengths counts ideals (then-passed (limits-test places (length counts) []) (values-test counts ideals) h .1)
 
 -- ---- constraints_hold
 module _ (regions counts : List ℕ) where
+  held : Bool → Verdict → Hold
+  held b v = cond b (record { verdict = passed; holds = all (constraint-holds counts) (graph places regions) }) (record { verdict = v; holds = false })
+
   pub hold-refused : {c : Check} {r : Refusal} → c ≡ Refused r → outcome c ≡ limits-test places (length counts) regions → hold-of (hold-answer.Refused r) ≡ constraints-hold regions counts
-  unfolding hold-of constraints-hold
+  unfolding hold-of constraints-hold held
   hold-refused e o =
       let q = was-refused e o in
-      ap (λ (v : Verdict). record { verdict = v; holds = false }) (q .0)
-      ∙ ap (λ (b : Bool). cond b (record { verdict = passed; holds = all (constraint-holds counts) (graph places regions) }) (record { verdict = limits-test places (length counts) regions; holds = false })) (sym (q .1))
+      ap (held false) (q .0) ∙ ap (λ (b : Bool). held b (limits-test places (length counts) regions)) (sym (q .1))
 
   pub hold-answered : {c : Check} (b : Bool) → c ≡ Passed → outcome c ≡ limits-test places (length counts) regions → b ≡ all (constraint-holds counts) (graph places regions) → hold-of (hold-answer.Holds b) ≡ constraints-hold regions counts
-  unfolding hold-of constraints-hold
+  unfolding hold-of constraints-hold held
   hold-answered b e o h =
       ap (λ (x : Bool). record { verdict = passed; holds = x }) h
-      ∙ ap (λ (v : Verdict). cond (is-passed v) (record { verdict = passed; holds = all (constraint-holds counts) (graph places regions) }) (record { verdict = v; holds = false })) (sym (was-passed e o))
+      ∙ ap (λ (x : Bool). held x (limits-test places (length counts) regions)) (sym (was-passed e o))
 
 -- one constraint, by what its sides add up to
 out-of-range : SideSum → Bool
