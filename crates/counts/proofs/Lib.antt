@@ -1,4 +1,5 @@
 -- Laws of the definitions. Assumes nothing.
+pub mod AcceptLaws
 pub mod Accepted
 pub mod Acts
 pub mod Applying
@@ -6,25 +7,28 @@ pub mod Balance
 pub mod BoolLaws
 pub mod BuiltTables
 pub mod Complete
+pub mod CostLaws
 pub mod Endings
 pub mod Find
 pub mod Finding
 pub mod FloatLaws
 pub mod ListLaws
 pub mod Makes
-pub mod Placing
 pub mod Marks
 pub mod Places
+pub mod Placing
 pub mod RefusalLaws
 pub mod RoundLaws
 pub mod Rounds
 pub mod Same
-pub mod Sides
 pub mod Scan
 pub mod SearchLaws
+pub mod Sides
 pub mod SolverCases
+pub mod SolverLaws
 pub mod Solving
 pub mod Sound
 pub mod Start
 pub mod Steps
+pub mod Turns
 pub mod TwoSides

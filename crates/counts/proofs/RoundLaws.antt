@@ -18,8 +18,8 @@ use Rattle.counts.specs.Search.{State, run, eps}
 use Rattle.counts.specs.Round.{Found, nothing-found, improves, weigh, starts, try-start, find-augmentation}
 use Rattle.counts.specs.Tables.{the-graph, cost-in, allowed-in, encoded, state-of}
 use Rattle.counts.specs.RoundContract.{Buffers, search-of, nothing-searched, Result, Remembered, Recalled, AllKnown, start-at, no-start, nothing-chosen, weighed, chosen, found-of}
-use Rattle.counts.specs.declared.round.Choice.{Choice}
-use Rattle.counts.specs.declared.round.FoundMove.{FoundMove}
+use Rattle.counts.specs.declared.augment.Choice.{Choice}
+use Rattle.counts.specs.declared.augment.FoundMove.{FoundMove}
 use Rattle.counts.specs.declared.search.SearchState.{SearchState}
 use Rattle.counts.proofs.BoolLaws.{by-cases, clash, eq→eqb, ne→eqb, same→eqb}
 use Rattle.counts.proofs.Places.{encoded-decoded}

@@ -64,6 +64,11 @@ ideals-test ideals = first-bad ideal-ok 2 0 ideals
 abbrev pub counts-test : List ℕ → Verdict
 counts-test counts = first-bad count-ok 9 0 counts
 
+-- "8 (rounds), .. 2, 9 (rounds)": as many counts as ideals, and each value as it should be
+abbrev pub values-test : List ℕ → List Float → Verdict
+values-test counts ideals =
+    then-test (refuse-if (not (eqb (length counts) (length ideals))) (refused 8 0 0)) (then-test (ideals-test ideals) (counts-test counts))
+
 -- ---- 3 to 6: "then by region and pair: each side's edges (3, 4), 5; then 6"
 
 -- 3 and 4 along side k of region r, `seen` being the edges before
@@ -80,16 +85,16 @@ unfolding side-test
 pair-test n r j k a b =
     then-test (then-test (side-test n r j [] a) (side-test n r k [] b)) (refuse-if (shared-edge a b) (refused 5 r j))
 
+-- region r, whose record stands first: both pairs of sides
+abbrev pub region-test : ℕ → ℕ → ℕ → List ℕ → Verdict
+region-test p n r regions =
+    then-test (pair-test n r 0 2 (side p regions 0) (side p regions 2)) (pair-test n r 1 3 (side p regions 1) (side p regions 3))
+
 -- m records, of which the first is region r
 unfoldable pub pairs-test : ℕ → ℕ → ℕ → ℕ → List ℕ → Verdict
 unfolding pair-test
 pairs-test p n r zero regions = passed
-pairs-test p n r (suc m) regions =
-    then-test
-    (then-test
-    (pair-test n r 0 2 (side p regions 0) (side p regions 2))
-    (pair-test n r 1 3 (side p regions 1) (side p regions 3)))
-    (pairs-test p n (suc r) m (drop (record-size p) regions))
+pairs-test p n r (suc m) regions = then-test (region-test p n r regions) (pairs-test p n (suc r) m (drop (record-size p) regions))
 
 -- 6: "edge in over two constraints (lowest)", of m edges from e on
 unfoldable pub overused-test : List Constraint → ℕ → ℕ → Verdict

@@ -17,8 +17,8 @@ use Rattle.counts.specs.Accept.{regions-test}
 use Rattle.counts.specs.Tables.{the-graph, cost-in, allowed-in, path-of, state-of}
 use Rattle.counts.specs.SearchContract.{no-marks}
 use Rattle.counts.specs.declared.search.SearchState.{SearchState}
-use Rattle.counts.specs.declared.round.Choice.{Choice}
-use Rattle.counts.specs.declared.round.FoundMove.{FoundMove}
+use Rattle.counts.specs.declared.augment.Choice.{Choice}
+use Rattle.counts.specs.declared.augment.FoundMove.{FoundMove}
 use Rattle.counts.specs.declared.solve.MovesMade.{MovesMade}
 
 -- ---- one search for each start

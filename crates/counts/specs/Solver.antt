@@ -7,11 +7,11 @@ use lib.Dec.{leb, ltb, eqb}
 use lib.Ieee.{Float, ofBits, binary64}
 use Rattle.counts.specs.Lists.{all}
 use Rattle.counts.specs.Refusal.{Verdict, passed, refused, then-test, refuse-if, is-passed, verdict-of}
-use Rattle.counts.specs.Region.{Constraint, places, graph, side-sum}
+use Rattle.counts.specs.Region.{Constraint, places, region-count, graph, side-sum}
 use Rattle.counts.specs.Move.{Change, apply-changes}
 use Rattle.counts.specs.Cost.{CostModel, by-ideals, energy-from}
 use Rattle.counts.specs.Round.{Found, find-move, Solved, solve-zeros}
-use Rattle.counts.specs.Accept.{limits-test, ideals-test, counts-test, regions-test}
+use Rattle.counts.specs.Accept.{limits-test, ideals-test, counts-test, values-test, pairs-test, regions-test}
 use Rattle.counts.specs.declared.answer.RoundAnswer.{RoundAnswer}
 use Rattle.counts.specs.declared.answer.RoundAnswer.the-variants as round-answer
 use Rattle.counts.specs.declared.answer.SolveAnswer.{SolveAnswer}
@@ -20,6 +20,8 @@ use Rattle.counts.specs.declared.answer.EnergyAnswer.{EnergyAnswer}
 use Rattle.counts.specs.declared.answer.EnergyAnswer.the-variants as energy-answer
 use Rattle.counts.specs.declared.answer.HoldAnswer.{HoldAnswer}
 use Rattle.counts.specs.declared.answer.HoldAnswer.the-variants as hold-answer
+use Rattle.counts.specs.declared.measure.SideSum.{SideSum}
+use Rattle.counts.specs.declared.measure.SideSum.the-variants as side-total
 
 -- ---- a round
 
@@ -55,6 +57,15 @@ round-test p regions ideals counts limit =
     (then-test (refuse-if (not (eqb (length counts) (length ideals))) (refused 8 0 0))
     (then-test (ideals-test ideals)
     (then-test (counts-test counts) (regions-test p (length ideals) regions))))))
+
+-- the same up to 6, which the code makes on its tables
+unfoldable pub round-test-head : ℕ → List ℕ → List Float → List ℕ → ℕ → Verdict
+unfolding limits-test pairs-test
+round-test-head p regions ideals counts limit =
+    then-test (limits-test p (length ideals) regions)
+    (then-test (limits-test p (length counts) regions)
+    (then-test (refuse-if (ltb max-limit limit) (refused 10 0 0))
+    (then-test (values-test counts ideals) (pairs-test p (length ideals) 0 (region-count p regions) regions))))
 
 -- "A public round (added) applies the result to the lent counts"
 abbrev pub round-made : Bool → List Change → Float → List ℕ → Round
@@ -99,6 +110,14 @@ solve-test p regions ideals room =
     then-test (limits-test p (length ideals) regions)
     (then-test (refuse-if (ltb room (length ideals)) (refused 11 0 0))
     (then-test (ideals-test ideals) (regions-test p (length ideals) regions)))
+
+-- the same up to 6
+unfoldable pub solve-test-head : ℕ → List ℕ → List Float → ℕ → Verdict
+unfolding limits-test pairs-test
+solve-test-head p regions ideals room =
+    then-test (limits-test p (length ideals) regions)
+    (then-test (refuse-if (ltb room (length ideals)) (refused 11 0 0))
+    (then-test (ideals-test ideals) (pairs-test p (length ideals) 0 (region-count p regions) regions)))
 
 abbrev pub solve-refused : Verdict → List ℕ → Solve
 solve-refused v lent = record { verdict = v; moves = 0; counts = lent }
@@ -167,6 +186,10 @@ hold-of (hold-answer.Refused r) = record { verdict = verdict-of r; holds = false
 -- "(edge out of range: no)"
 abbrev pub side-in-range : List ℕ → List ℕ → Bool
 side-in-range counts side = all (λ (e : ℕ). ltb e (length counts)) side
+
+-- `side_sum`: "Sum the integer counts on one side", unless an edge is out of range
+abbrev pub sum-of-side : List ℕ → List ℕ → SideSum
+sum-of-side counts side = cond (side-in-range counts side) (side-total.Total (side-sum counts side)) side-total.OutOfRange
 
 abbrev pub constraint-holds : List ℕ → Constraint → Bool
 constraint-holds counts c =

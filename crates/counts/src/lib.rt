@@ -1,7 +1,83 @@
-mod answer;
+// The public functions. Each takes any input; specs/Solver.antt defines what it answers and leaves.
+pub mod answer;
+mod augment;
+mod check;
 mod cost;
 mod graph;
+mod measure;
 pub mod refusal;
-mod round;
+mod region;
 mod search;
 mod solve;
+
+use crate::answer::EnergyAnswer;
+use crate::answer::HoldAnswer;
+use crate::answer::RoundAnswer;
+use crate::answer::SolveAnswer;
+use crate::check::check_energy;
+use crate::check::check_limits;
+use crate::check::check_round;
+use crate::check::check_solve;
+use crate::cost::total_energy;
+use crate::graph::build_graph;
+use crate::measure::regions_hold;
+use crate::refusal::Check;
+use crate::refusal::Refusal;
+use crate::solve::make_round;
+use crate::solve::make_moves;
+ghost use mathlib.Core.Path.{_≡_};
+ghost use Rattle.counts.specs.Solver.{energy-of, energy, hold-of, constraints-hold, round-of, round, solve-of, solve};
+
+const MAX_LIMIT: u32 = 100_000;
+
+// One round: the move that costs least, if any costs less than -E, is made on the counts.
+pub fn round(regions: &[u16], ideals: &[f64], counts: &mut [u32], limit: u32) -> RoundAnswer
+    ensures { λ r. ⌜ round-of r (now (counts .exit)) ≡ round (now (regions .entry)) (now (ideals .entry)) (now (counts .entry)) limit ⌝ }
+{
+    if let Check::Refused(r) = check_round(regions, ideals, counts, limit) {
+        return RoundAnswer::Refused(r);
+    }
+    let mut incident = [256; 512];
+    let mut own = [0; 512];
+    if let Check::Refused(r) = build_graph(regions, ideals.len(), &mut incident, &mut own) {
+        return RoundAnswer::Refused(r);
+    }
+    make_round(regions, &incident, &own, ideals, counts, limit)
+}
+
+// The counts of every edge, from zeros, by round after round until none finds a move. The lent counts are output.
+pub fn solve_counts(regions: &[u16], ideals: &[f64], counts: &mut [u32]) -> SolveAnswer
+    ensures { λ r. ⌜ solve-of r (now (counts .exit)) ≡ solve (now (regions .entry)) (now (ideals .entry)) (now (counts .entry)) ⌝ }
+{
+    if let Check::Refused(r) = check_solve(regions, ideals, counts.len()) {
+        return SolveAnswer::Refused(r);
+    }
+    let mut incident = [256; 512];
+    let mut own = [0; 512];
+    let n = ideals.len();
+    if let Check::Refused(r) = build_graph(regions, n, &mut incident, &mut own) {
+        return SolveAnswer::Refused(r);
+    }
+    solve_from_zeros(regions, &incident, &own, ideals, &mut counts[..n])
+}
+// The energy of the counts: the sum of (s/ideal - 1)² over the edges.
+pub fn energy(counts: &[u32], ideals: &[f64]) -> EnergyAnswer
+    ensures { λ r. ⌜ energy-of r ≡ energy (now (counts .entry)) (now (ideals .entry)) ⌝ }
+{
+    if let Check::Refused(r) = check_energy(counts, ideals) {
+        return EnergyAnswer::Refused(r);
+    }
+    let total = total_energy(counts, ideals);
+    EnergyAnswer::Total(total)
+}
+
+// Whether opposite sides of every region add up to the same; where an edge number is not below the number of counts, they do not.
+pub fn constraints_hold(regions: &[u16], counts: &[u32]) -> HoldAnswer
+    ensures { λ r. ⌜ hold-of r ≡ constraints-hold (now (regions .entry)) (now (counts .entry)) ⌝ }
+{
+    if let Check::Refused(r) = check_limits(regions, counts.len()) {
+        return HoldAnswer::Refused(r);
+    }
+    let holds = regions_hold(regions, counts);
+    HoldAnswer::Holds(holds)
+}

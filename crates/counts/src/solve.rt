@@ -1,7 +1,7 @@
 // Rounds and solves on tested input.
 use crate::answer::RoundAnswer;
-use crate::round::apply_changes;
-use crate::round::find_move;
+use crate::augment::apply_changes;
+use crate::augment::find_move;
 ghost use mathlib.Core.Path.{_≡_};
 ghost use lib.ListN.{length, replicate};
 ghost use Rattle.counts.specs.Cost.{by-ideals};

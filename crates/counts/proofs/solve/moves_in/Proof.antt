@@ -2,8 +2,8 @@ use Rattle.counts.proofs.solve.moves_in.Statement.{statement}
 use Rattle.counts.proofs.solve.moves_in.Tie as tie
 use Rattle.counts.proofs.solve.moves_in.Reads as reads
 use Rattle.counts.proofs.solve.moves_in.Lts as lts
-use Rattle.counts.proofs.round.apply_changes.Reads as apply-changes-reads
-use Rattle.counts.proofs.round.find_move.Reads as find-move-reads
+use Rattle.counts.proofs.augment.apply_changes.Reads as apply-changes-reads
+use Rattle.counts.proofs.augment.find_move.Reads as find-move-reads
 use Rattle.counts.proofs.solve.wide_len.Reads as wide-len-reads
 
 abbrev Inv-loop : tie.InvT-loop

@@ -3,8 +3,8 @@ use Rattle.counts.proofs.solve.round_in.Statement.{statement}
 use Rattle.counts.proofs.solve.round_in.Tie as tie
 use Rattle.counts.proofs.solve.round_in.Reads as reads
 use Rattle.counts.proofs.solve.round_in.Lts as lts
-use Rattle.counts.proofs.round.apply_changes.Reads as apply-changes-reads
-use Rattle.counts.proofs.round.find_move.Reads as find-move-reads
+use Rattle.counts.proofs.augment.apply_changes.Reads as apply-changes-reads
+use Rattle.counts.proofs.augment.find_move.Reads as find-move-reads
 use Rattle.counts.proofs.solve.wide_len.Reads as wide-len-reads
 
 -- src/solve.rt:33:9

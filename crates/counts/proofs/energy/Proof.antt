@@ -1,0 +1,38 @@
+-- `counts::energy` meets its contract. By the outcome of the tests. Assumes nothing.
+use borrow.Author.Needs.{needs}
+use denote.Ref.{now}
+use Rattle.counts.proofs.SolverLaws.{energy-refused, energy-total, energy-lengths}
+use Rattle.counts.proofs.energy.Statement.{statement}
+use Rattle.counts.proofs.energy.Tie as tie
+
+check-energy-requires : tie.Need-check-energy-requires
+check-energy-requires c κs = search needs
+
+enum-known-r : tie.Need-enum-known-r
+enum-known-r c = search needs
+
+returns : tie.Need-returns
+returns c =
+    let xs = now (c .before .before .before .before .before .before .args .counts) in
+    let ys = now (c .before .before .before .before .before .before .args .ideals) in
+    energy-refused xs ys (c .before .r .given .1) (c .before .before .before .check-energy .ensures)
+
+enum-told : tie.Need-enum-told
+enum-told c = search needs
+
+total-energy-requires : tie.Need-total-energy-requires
+total-energy-requires c κs =
+    let xs = now (c .before .before .before .before .before .args .counts) in
+    let ys = now (c .before .before .before .before .before .args .ideals) in
+    energy-lengths xs ys (c .enum-told .given .1) (c .before .before .check-energy .ensures)
+
+returns-2 : tie.Need-returns-2
+returns-2 c =
+    let xs = now (c .before .before .before .before .before .before .args .counts) in
+    let ys = now (c .before .before .before .before .before .before .args .ideals) in
+    energy-total xs ys (c .total-energy .result) (c .before .enum-told .given .1) (c .before .before .before .check-energy .ensures) (c .total-energy .ensures)
+
+pub energy-spec : {M : Type 1} → statement M
+energy-spec =
+    tie.close
+    (tie.spec check-energy-requires enum-known-r returns enum-told total-energy-requires returns-2)

@@ -1,0 +1,279 @@
+// The tests that turn input away before any work is done, one function each, in the order of specs/Accept.antt.
+use crate::refusal::Check;
+use crate::refusal::Refusal;
+use crate::region::PLACES;
+use crate::region::RECORD_SIZE;
+use crate::region::SIDE_SIZE;
+use crate::region::side;
+ghost use mathlib.Core.Path.{_≡_};
+ghost use mathlib.Core.List.{[]};
+ghost use Prim.Native.Nat.{_+_, _%_, _≤_, _<_};
+ghost use lib.ListN.{length};
+ghost use lib.Dec.{T};
+ghost use Rattle.counts.specs.Lists.{member};
+ghost use Rattle.counts.specs.Region.{places, region-count};
+ghost use Rattle.counts.specs.Refusal.{outcome};
+ghost use Rattle.counts.specs.Accept.{ideal-ok, ideals-test, counts-test, values-test, sides-fit, records-whole, limits-test, shared-edge, side-test, pair-test, region-test, pairs-test};
+ghost use Rattle.counts.specs.Solver.{round-test-head, solve-test-head, energy-test};
+
+const MAX_REGIONS: usize = 128;
+
+const MAX_EDGES: usize = 256;
+
+const MAX_COUNT: u32 = 1_000_000;
+
+const MAX_LIMIT: u32 = 100_000;
+
+// No side has more edges than places.
+fn sides_fit(regions: &[u16]) -> bool
+    requires { ⌜ length (now regions) % 68 ≡ 0 ⌝ }
+    ensures { λ r. ⌜ r ≡ sides-fit places (region-count places (now (regions .entry))) (now (regions .entry)) ⌝ }
+{
+    let mut at = 0usize;
+    while at < regions.len() {
+        if regions[at] > PLACES {
+            return false;
+        }
+        at += SIDE_SIZE;
+    }
+    true
+}
+
+// 1: a limit exceeded, or a broken record or list; n is the length of a list with an entry for each edge.
+pub fn check_limits(regions: &[u16], n: usize) -> Check
+    ensures { λ r. ⌜ outcome r ≡ limits-test places n (now (regions .entry)) ⌝ }
+{
+    let broken = Check::Refused(Refusal::Malformed);
+    if n > MAX_EDGES {
+        return broken;
+    }
+    if regions.len() % RECORD_SIZE != 0 {
+        return broken;
+    }
+    if regions.len() / RECORD_SIZE > MAX_REGIONS {
+        return broken;
+    }
+    if sides_fit(regions) {
+        return Check::Passed;
+    }
+    broken
+}
+
+// Finite and above 0.
+fn is_ideal_ok(ideal: f64) -> bool
+    ensures { λ r. ⌜ r ≡ ideal-ok ideal ⌝ }
+{
+    let infinity = f64::from_bits(0x7ff0_0000_0000_0000);
+    if ideal < infinity {
+        return 0.0 < ideal;
+    }
+    false
+}
+
+// 2: an ideal that is not finite or not above 0.
+pub fn check_ideals(ideals: &[f64]) -> Check
+    requires { ⌜ length (now ideals) ≤ 256 ⌝ }
+    ensures { λ r. ⌜ outcome r ≡ ideals-test (now (ideals .entry)) ⌝ }
+{
+    let mut e = 0usize;
+    while e < ideals.len() {
+        let ideal = ideals[e];
+        let ok = is_ideal_ok(ideal);
+        if !ok {
+            let edge = e as u32;
+            return Check::Refused(Refusal::BadIdeal(edge));
+        }
+        e += 1;
+    }
+    Check::Passed
+}
+
+// 9: a count over 1,000,000.
+pub fn check_counts(counts: &[u32]) -> Check
+    requires { ⌜ length (now counts) ≤ 256 ⌝ }
+    ensures { λ r. ⌜ outcome r ≡ counts-test (now (counts .entry)) ⌝ }
+{
+    let mut e = 0usize;
+    while e < counts.len() {
+        if counts[e] > MAX_COUNT {
+            let edge = e as u32;
+            return Check::Refused(Refusal::CountTooLarge(edge));
+        }
+        e += 1;
+    }
+    Check::Passed
+}
+
+fn contains(edges: &[u16], e: u16) -> bool
+    ensures { λ r. ⌜ r ≡ member e (now (edges .entry)) ⌝ }
+{
+    let mut i = 0usize;
+    while i < edges.len() {
+        if e == edges[i] {
+            return true;
+        }
+        i += 1;
+    }
+    false
+}
+
+// 3 and 4 along one side: an edge number not below n, or an edge that the side has already.
+fn check_side(edges: &[u16], n: usize, region: u32, side: u32) -> Check
+    ensures { λ r. ⌜ outcome r ≡ side-test n region side [] (now (edges .entry)) ⌝ }
+{
+    let mut i = 0usize;
+    while i < edges.len() {
+        let e = edges[i];
+        if e as usize >= n {
+            return Check::Refused(Refusal::EdgeOutOfRange(region, side));
+        }
+        if contains(&edges[..i], e) {
+            return Check::Refused(Refusal::EdgeRepeated(region, side));
+        }
+        i += 1;
+    }
+    Check::Passed
+}
+
+// Some edge of a stands in b.
+fn has_shared_edge(a: &[u16], b: &[u16]) -> bool
+    ensures { λ r. ⌜ r ≡ shared-edge (now (a .entry)) (now (b .entry)) ⌝ }
+{
+    let mut i = 0usize;
+    while i < a.len() {
+        let e = a[i];
+        if contains(b, e) {
+            return true;
+        }
+        i += 1;
+    }
+    false
+}
+
+// 3, 4 and 5 on two opposite sides, of which a is side `first`.
+fn check_pair(a: &[u16], b: &[u16], n: usize, region: u32, first: u32) -> Check
+    requires { ⌜ first < 2 ⌝ }
+    ensures { λ r. ⌜ outcome r ≡ pair-test n region first (first + 2) (now (a .entry)) (now (b .entry)) ⌝ }
+{
+    let second = first + 2;
+    if let Check::Refused(r) = check_side(a, n, region, first) {
+        return Check::Refused(r);
+    }
+    if let Check::Refused(r) = check_side(b, n, region, second) {
+        return Check::Refused(r);
+    }
+    if has_shared_edge(a, b) {
+        return Check::Refused(Refusal::EdgeOnBothSides(region, first));
+    }
+    Check::Passed
+}
+
+// The record that stands first: sides 0 and 2, then 1 and 3.
+fn check_region(records: &[u16], n: usize, region: u32) -> Check
+    requires { ⌜ 68 ≤ length (now records) ⌝ }
+    requires { ⌜ T (sides-fit places 1 (now records)) ⌝ }
+    ensures { λ r. ⌜ outcome r ≡ region-test places n region (now (records .entry)) ⌝ }
+{
+    let bottom = side(records, 0);
+    let right = side(records, 1);
+    let top = side(records, 2);
+    let left = side(records, 3);
+    if let Check::Refused(r) = check_pair(bottom, top, n, region, 0) {
+        return Check::Refused(r);
+    }
+    check_pair(right, left, n, region, 1)
+}
+
+// 3, 4 and 5, region by region.
+pub fn check_pairs(regions: &[u16], n: usize) -> Check
+    requires { ⌜ T (records-whole places (now regions)) ⌝ }
+    ensures { λ r. ⌜ outcome r ≡ pairs-test places n 0 (region-count places (now (regions .entry))) (now (regions .entry)) ⌝ }
+{
+    let m = regions.len() / RECORD_SIZE;
+    let mut r = 0usize;
+    while r < m {
+        let at = r * RECORD_SIZE;
+        let region = r as u32;
+        if let Check::Refused(c) = check_region(&regions[at..], n, region) {
+            return Check::Refused(c);
+        }
+        r += 1;
+    }
+    Check::Passed
+}
+
+// 8, then 2, then 9: as many counts as ideals, and each value as it should be.
+fn check_values(counts: &[u32], ideals: &[f64]) -> Check
+    requires { ⌜ length (now counts) ≤ 256 ⌝ }
+    requires { ⌜ length (now ideals) ≤ 256 ⌝ }
+    ensures { λ r. ⌜ outcome r ≡ values-test (now (counts .entry)) (now (ideals .entry)) ⌝ }
+{
+    if counts.len() != ideals.len() {
+        return Check::Refused(Refusal::LengthsDiffer);
+    }
+    if let Check::Refused(r) = check_ideals(ideals) {
+        return Check::Refused(r);
+    }
+    check_counts(counts)
+}
+
+// What a round tests before it builds its tables.
+pub fn check_round(regions: &[u16], ideals: &[f64], counts: &[u32], limit: u32) -> Check
+    ensures { λ r. ⌜ outcome r ≡ round-test-head places (now (regions .entry)) (now (ideals .entry)) (now (counts .entry)) limit ⌝ }
+{
+    let n = ideals.len();
+    if let Check::Refused(r) = check_limits(regions, n) {
+        return Check::Refused(r);
+    }
+    let m = counts.len();
+    if let Check::Refused(r) = check_limits(regions, m) {
+        return Check::Refused(r);
+    }
+    if limit > MAX_LIMIT {
+        return Check::Refused(Refusal::LimitTooLarge);
+    }
+    if let Check::Refused(r) = check_values(counts, ideals) {
+        return Check::Refused(r);
+    }
+    check_pairs(regions, n)
+}
+
+// What solve tests before it builds its tables; room is the length of the lent counts.
+pub fn check_solve(regions: &[u16], ideals: &[f64], room: usize) -> Check
+    ensures { λ r. ⌜ outcome r ≡ solve-test-head places (now (regions .entry)) (now (ideals .entry)) room ⌝ }
+{
+    let n = ideals.len();
+    if let Check::Refused(r) = check_limits(regions, n) {
+        return Check::Refused(r);
+    }
+    if room < n {
+        return Check::Refused(Refusal::OutputTooShort);
+    }
+    if let Check::Refused(r) = check_ideals(ideals) {
+        return Check::Refused(r);
+    }
+    check_pairs(regions, n)
+}
+
+// 1 where there are no regions: n is the length of a list with an entry for each edge.
+fn check_edges(n: usize) -> Check
+    ensures { λ r. ⌜ outcome r ≡ limits-test places n [] ⌝ }
+{
+    if n > MAX_EDGES {
+        return Check::Refused(Refusal::Malformed);
+    }
+    Check::Passed
+}
+
+// What energy tests.
+pub fn check_energy(counts: &[u32], ideals: &[f64]) -> Check
+    ensures { λ r. ⌜ outcome r ≡ energy-test (now (counts .entry)) (now (ideals .entry)) ⌝ }
+{
+    if let Check::Refused(r) = check_edges(ideals.len()) {
+        return Check::Refused(r);
+    }
+    if let Check::Refused(r) = check_edges(counts.len()) {
+        return Check::Refused(r);
+    }
+    check_values(counts, ideals)
+}
