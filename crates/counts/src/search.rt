@@ -291,7 +291,7 @@ fn end_chain(
     costs: &[f64; 512],
     allowed: &[bool; 512],
     limit: u32,
-    used: &mut [bool; 257],
+    used: &[bool; 257],
     path: &mut [u16; 257],
     best: &mut [u16; 257],
     depth: usize,
@@ -306,7 +306,7 @@ fn end_chain(
     requires { ⌜ MayStep (the-graph (now regions)) (now used) (now path) depth current ci change home ⌝ }
     requires { ⌜ (change / 2 ≢ current) × (getD (now allowed) change false ≡ true) × Other (the-graph (now regions)) (change / 2) ci 256 ⌝ }
     requires { ⌜ length (now best) ≡ 257 ⌝ }
-    ensures { λ r. ⌜ Stepped (now (regions .entry)) (now (costs .entry)) (now (allowed .entry)) limit (now (used .entry)) (now (path .entry)) (now (best .entry)) depth current ci change cost state (now (used .exit)) (now (path .exit)) (now (best .exit)) r ⌝ }
+    ensures { λ r. ⌜ Stepped (now (regions .entry)) (now (costs .entry)) (now (allowed .entry)) limit (now (used .entry)) (now (path .entry)) (now (best .entry)) depth current ci change cost state (now (used .entry)) (now (path .exit)) (now (best .exit)) r ⌝ }
 {
     if state.expansions >= limit {
         return SearchState {
@@ -351,8 +351,8 @@ fn close_loop(
     costs: &[f64; 512],
     allowed: &[bool; 512],
     limit: u32,
-    used: &mut [bool; 257],
-    path: &mut [u16; 257],
+    used: &[bool; 257],
+    path: &[u16; 257],
     best: &mut [u16; 257],
     depth: usize,
     place: usize,
@@ -364,7 +364,7 @@ fn close_loop(
     requires { ⌜ MayCross (the-graph (now regions)) (now incident) (now used) (now path) depth place home ⌝ }
     requires { ⌜ getD (now incident) place 0 ≡ home ⌝ }
     requires { ⌜ length (now best) ≡ 257 ⌝ }
-    ensures { λ r. ⌜ Crossed (now (regions .entry)) (now (incident .entry)) (now (costs .entry)) (now (allowed .entry)) limit (now (used .entry)) (now (path .entry)) (now (best .entry)) depth place cost state (now (used .exit)) (now (path .exit)) (now (best .exit)) r ⌝ }
+    ensures { λ r. ⌜ Crossed (now (regions .entry)) (now (incident .entry)) (now (costs .entry)) (now (allowed .entry)) limit (now (used .entry)) (now (path .entry)) (now (best .entry)) depth place cost state (now (used .entry)) (now (path .entry)) (now (best .exit)) r ⌝ }
 {
     let start = wide(path[0]);
     let change = wide(path[depth - 1]);
@@ -374,10 +374,11 @@ fn close_loop(
                 Changed::One(edge) => {
                     if edge == start / 2 {
                         keep_path(path, depth, best);
+                        let len = depth as u32;
                         return SearchState {
                             kept: cost,
                             expansions: state.expansions,
-                            len: depth as u32,
+                            len,
                             cut: state.cut,
                         };
                     }

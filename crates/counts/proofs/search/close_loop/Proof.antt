@@ -59,7 +59,7 @@ balances-with-start-requires c κs = let s = c .before .before .before .before .
     )
 
 changed-in-requires : tie.Need-changed-in-requires
-changed-in-requires c κs = let s = c .before .before .before .before .before .before .before .before .before .before in
+changed-in-requires c κs = let s = c .before .before .before .before .before .before .before .before .before in
     let a = s .pre .1 .0 .room in
     (s .pre .0, ((s .pre .1 .0 .small, s .pre .1 .0 .real), (omega (arith, a), s .pre .1 .0 .path-long)))
 
@@ -69,23 +69,23 @@ enum-known-edge c = search needs
 keep-path-requires : tie.Need-keep-path-requires
 keep-path-requires c κs = search needs
 
-cast-t35 : tie.Need-cast-t35
-cast-t35 c = let a = c .before .before .before .before .before .before .before .before .before .before .before .before .before .before .before .before .before .before .pre .1 .0 .room in record { fits = omega (arith, a) }
+cast-len : tie.Need-cast-len
+cast-len c = let a = c .before .before .before .before .before .before .before .before .before .before .before .before .before .before .before .before .pre .1 .0 .room in record { fits = omega (arith, a) }
 
 returns : tie.Need-returns
 unfolding lib.Ieee.ofBits
-returns c = let s = c .before .before .before .before .before .before .before .before .before .before .before .before .before .before .before .before .before .before in
-    close-kept _ _ _ _ _ _ _ _ _ _ _ _ _ _ _ (s .pre .0) (s .pre .1 .0) (s .pre .1 .1 .0) (balances-same (constraint (the-graph (s .args .regions .now)) (s .args .home)) _ _ _ _ _ _ (c .before .before .before .before .before .before .before .before .before .before .before .before .before .before .before .wide .ensures .0) (c .before .before .before .before .before .before .before .before .before .before .before .before .before .wide2 .ensures .0) (c .before .before .before .before .before .before .before .before .before .before .before .before .balances-with-start .ensures) (c .before .before .before .before .before .before .before .before .before .before .before .if1 .taken)) (c .before .before .before .before .before .before .before .before .before .if2 .taken)
-    (changed-same (the-graph (s .args .regions .now)) (path-of (s .args .depth) (s .args .path .now)) (s .args .place / 2) _ _ (c .before .before .before .before .before .before .before .changed-in .ensures) (s .pre .1 .1 .0) ∙ c .before .before .before .before .before .edge .given .1 ∙ ap One (c .before .before .before .if3 .taken ∙ ap (λ (k : ℕ). k / 2) (c .before .before .before .before .before .before .before .before .before .before .before .before .before .before .before .wide .ensures .0)))
+returns c = let s = c .before .before .before .before .before .before .before .before .before .before .before .before .before .before .before .before in
+    close-kept _ _ _ _ _ _ _ _ _ _ _ _ _ _ _ (s .pre .0) (s .pre .1 .0) (s .pre .1 .1 .0) (balances-same (constraint (the-graph (s .args .regions .now)) (s .args .home)) _ _ _ _ _ _ (c .before .before .before .before .before .before .before .before .before .before .before .before .before .wide .ensures .0) (c .before .before .before .before .before .before .before .before .before .before .before .wide2 .ensures .0) (c .before .before .before .before .before .before .before .before .before .before .balances-with-start .ensures) (c .before .before .before .before .before .before .before .before .before .if1 .taken)) (c .before .before .before .before .before .before .before .if2 .taken)
+    (changed-same (the-graph (s .args .regions .now)) (path-of (s .args .depth) (s .args .path .now)) (s .args .place / 2) _ _ (c .before .before .before .before .before .before .changed-in .ensures) (s .pre .1 .1 .0) ∙ c .before .before .before .before .edge .given .1 ∙ ap One (c .before .before .if3 .taken ∙ ap (λ (k : ℕ). k / 2) (c .before .before .before .before .before .before .before .before .before .before .before .before .before .wide .ensures .0)))
     (c .keep-path .ensures .0) (c .keep-path .ensures .1 ∙ sym (s .pre .1 .1 .1))
 
 returns-2 : tie.Need-returns-2
-returns-2 c = let s = c .before .before .before .before .before .before .before .before .before .before .before .before .before .before .before in
+returns-2 c = let s = c .before .before .before .before .before .before .before .before .before .before .before .before .before .before in
     close-others _ _ _ _ _ _ _ _ _ _ _ _ _ _ (s .pre .0) (s .pre .1 .0) (s .pre .1 .1 .0)
-    (λ q. c .if3 .left (ap the-edge (sym (c .before .before .edge .given .1) ∙ sym (changed-same (the-graph (s .args .regions .now)) (path-of (s .args .depth) (s .args .path .now)) (s .args .place / 2) _ _ (c .before .before .before .before .changed-in .ensures) (s .pre .1 .1 .0)) ∙ q) ∙ sym (ap (λ (k : ℕ). k / 2) (c .before .before .before .before .before .before .before .before .before .before .before .before .wide .ensures .0))))
+    (λ q. c .if3 .left (ap the-edge (sym (c .before .before .edge .given .1) ∙ sym (changed-same (the-graph (s .args .regions .now)) (path-of (s .args .depth) (s .args .path .now)) (s .args .place / 2) _ _ (c .before .before .before .before .changed-in .ensures) (s .pre .1 .1 .0)) ∙ q) ∙ sym (ap (λ (k : ℕ). k / 2) (c .before .before .before .before .before .before .before .before .before .before .before .wide .ensures .0))))
 
 returns-3 : tie.Need-returns-3
-returns-3 c = let s = c .before .before .before .before .before .before .before .before .before .before .before .before in
+returns-3 c = let s = c .before .before .before .before .before .before .before .before .before .before .before in
     close-others _ _ _ _ _ _ _ _ _ _ _ _ _ _ (s .pre .0) (s .pre .1 .0) (s .pre .1 .1 .0)
     (λ q. not-one (subst (λ (k : Changed). OneOf (0 ∷ 2 ∷ []) (tagOf the-type k)) (sym (changed-same (the-graph (s .args .regions .now)) (path-of (s .args .depth) (s .args .path .now)) (s .args .place / 2) _ _ (c .before .changed-in .ensures) (s .pre .1 .1 .0)) ∙ q) (c .match .keys2)))
 
@@ -110,7 +110,7 @@ close-loop-spec =
     changed-in-requires
     enum-known-edge
     keep-path-requires
-    cast-t35
+    cast-len
     returns
     returns-2
     returns-3
