@@ -24,6 +24,7 @@ pub mod Same
 pub mod Scan
 pub mod SearchLaws
 pub mod Sides
+pub mod SolveLoop
 pub mod SolverCases
 pub mod SolverLaws
 pub mod Solving

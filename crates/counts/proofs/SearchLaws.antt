@@ -23,7 +23,7 @@ use Rattle.counts.proofs.ListLaws.{every, in-split, incidence→holds, 
 
 -- ---- acts done one after the other
 
-pub each-append : {A : Type 0} (f : A → Act) (l m : List A) (st : State) → each f (l ++ m) st ≡ each f m (each f l st)
+pub each-append : {S A : Type 0} (f : A → S → S) (l m : List A) (st : S) → each f (l ++ m) st ≡ each f m (each f l st)
 each-append f [] m st = refl
 each-append f (x ∷ l) m st = each-append f l m (f x st)
 

@@ -9,13 +9,13 @@ use lib.ListN.{length, getD, drop, replicate, length-replicate, List·getD-appen
 use lib.Dec.{T, ltb, eqb, ltb→lt}
 use lib.Ieee.{Float}
 use Rattle.counts.specs.Lists.{In, member}
-use Rattle.counts.specs.Refusal.{Verdict, is-passed, refused, refuse-if, then-test}
+use Rattle.counts.specs.Refusal.{Verdict, passed, is-passed, refused, refuse-if, then-test}
 use Rattle.counts.specs.Region.{Constraint, constraint, graph, holds, places, region-count, side, side-sum}
 use Rattle.counts.specs.Move.{Change, apply-changes}
 use Rattle.counts.specs.Cost.{CostModel, by-ideals}
 use Rattle.counts.specs.Round.{find-move, Solved, solve-by, solve-from, solve-zeros, max-moves}
 use Rattle.counts.specs.Accept.{accepted, limits-test, ideals-test, regions-test}
-use Rattle.counts.specs.Solver.{Solve, solve, solve-test, solve-with, solve-by-moves, solve-refused, solve-stopped, solve-done, max-limit}
+use Rattle.counts.specs.Solver.{Solve, solve, solve-test, solve-with, solve-part, with-rest, solve-refused, max-limit}
 use Rattle.counts.specs.Demand.{Balanced, sum-of}
 use Rattle.counts.proofs.Accepted.{Accepted, accepted-ok}
 use Rattle.counts.proofs.BoolLaws.{by-cases, or-left, or-right}
@@ -96,22 +96,20 @@ level-append g n counts rest ok l i =
 
 -- a solve by its verdict and by what is solved, neither of them looked into
 abbrev by-verdict : Verdict → ℕ → Solved → List ℕ → Solve
-by-verdict v n s lent = elim (is-passed v) [ true ↦ solve-by-moves n s lent | false ↦ solve-refused v lent ]
+by-verdict v n s lent = elim (is-passed v) [ true ↦ with-rest n (solve-part n s) lent | false ↦ solve-refused v lent ]
 
 done : (v : Verdict) (n : ℕ) (s : Solved) (lent : List ℕ) → T (is-passed (by-verdict v n s lent .verdict))
     → T (is-passed v) × (by-verdict v n s lent .counts ≡ s .counts ++ drop n lent)
 done v n s lent t = go (is-passed v) refl t
   where
     out : Bool → Solve
-    out b = elim b [ true ↦ solve-by-moves n s lent | false ↦ solve-refused v lent ]
+    out b = elim b [ true ↦ with-rest n (solve-part n s) lent | false ↦ solve-refused v lent ]
 
     choice : Bool → Solve
-    choice b = cond b (solve-stopped n lent) (solve-done n s lent)
-
-    counts-of : (b : Bool) → T (is-passed (choice b .verdict)) → choice b .counts ≡ s .counts ++ drop n lent
+    choice b = cond b (record { verdict = refused 7 0 0; moves = 0; counts = replicate n 0 }) (record { verdict = passed; moves = s .moves; counts = s .counts })
+    counts-of : (b : Bool) → T (is-passed (choice b .verdict)) → choice b .counts ++ drop n lent ≡ s .counts ++ drop n lent
     counts-of true t = absurd t
     counts-of false t = refl
-
     go : (b : Bool) → is-passed v ≡ b → T (is-passed (out b .verdict)) → T b × (out b .counts ≡ s .counts ++ drop n lent)
     go true e t = (tt, counts-of (s .more) t)
     go false e t = (subst T e t, absurd (subst T e t))

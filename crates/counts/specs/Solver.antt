@@ -122,22 +122,20 @@ solve-test-head p regions ideals room =
 abbrev pub solve-refused : Verdict → List ℕ → Solve
 solve-refused v lent = record { verdict = v; moves = 0; counts = lent }
 
--- "Output past the needed part is untouched": the needed part of n counts, then what was lent
-abbrev pub solve-done : ℕ → Solved → List ℕ → Solve
-solve-done n s lent = record { verdict = passed; moves = s .moves; counts = s .counts ++ drop n lent }
+-- the needed part of n counts; 7, "a further move found after 200,000", leaves counts 0
+abbrev pub solve-part : ℕ → Solved → Solve
+solve-part n s =
+    cond (s .more) (record { verdict = refused 7 0 0; moves = 0; counts = replicate n 0 }) (record { verdict = passed; moves = s .moves; counts = s .counts })
 
--- 7: "a further move found after 200,000", and counts 0
-abbrev pub solve-stopped : ℕ → List ℕ → Solve
-solve-stopped n lent = record { verdict = refused 7 0 0; moves = 0; counts = replicate n 0 ++ drop n lent }
-
-abbrev pub solve-by-moves : ℕ → Solved → List ℕ → Solve
-solve-by-moves n s lent = cond (s .more) (solve-stopped n lent) (solve-done n s lent)
+-- "Output past the needed part is untouched."
+abbrev pub with-rest : ℕ → Solve → List ℕ → Solve
+with-rest n s lent = record { verdict = s .verdict; moves = s .moves; counts = s .counts ++ drop n lent }
 
 unfoldable pub solve-with : ℕ → Verdict → CostModel → List ℕ → ℕ → ℕ → List ℕ → Solve
 unfolding solve-zeros
 solve-with p verdict costs regions n limit lent =
     elim (is-passed verdict) [
-      | true ↦ solve-by-moves n (solve-zeros (graph p regions) costs limit n) lent
+      | true ↦ with-rest n (solve-part n (solve-zeros (graph p regions) costs limit n)) lent
       | false ↦ solve-refused verdict lent
     ]
 

@@ -22,9 +22,8 @@ use crate::cost::total_energy;
 use crate::graph::build_graph;
 use crate::measure::regions_hold;
 use crate::refusal::Check;
-use crate::refusal::Refusal;
 use crate::solve::make_round;
-use crate::solve::make_moves;
+use crate::solve::solve_from_zeros;
 ghost use mathlib.Core.Path.{_≡_};
 ghost use Rattle.counts.specs.Solver.{energy-of, energy, hold-of, constraints-hold, round-of, round, solve-of, solve};
 
@@ -58,7 +57,7 @@ pub fn solve_counts(regions: &[u16], ideals: &[f64], counts: &mut [u32]) -> Solv
     if let Check::Refused(r) = build_graph(regions, n, &mut incident, &mut own) {
         return SolveAnswer::Refused(r);
     }
-    solve_from_zeros(regions, &incident, &own, ideals, &mut counts[..n])
+    solve_from_zeros(regions, &incident, &own, ideals, &mut counts[..n], MAX_LIMIT)
 }
 // The energy of the counts: the sum of (s/ideal - 1)² over the edges.
 pub fn energy(counts: &[u32], ideals: &[f64]) -> EnergyAnswer

@@ -1,12 +1,19 @@
 // Rounds and solves on tested input.
 use crate::answer::RoundAnswer;
+use crate::answer::SolveAnswer;
 use crate::augment::apply_changes;
 use crate::augment::find_move;
+use crate::refusal::Refusal;
 ghost use mathlib.Core.Path.{_≡_};
+ghost use Prim.Native.Nat.{_≤_};
+ghost use lib.Dec.{T};
 ghost use lib.ListN.{length, replicate};
+ghost use Rattle.counts.specs.Refusal.{is-passed};
+ghost use Rattle.counts.specs.Region.{places};
+ghost use Rattle.counts.specs.Accept.{regions-test};
 ghost use Rattle.counts.specs.Cost.{by-ideals};
-ghost use Rattle.counts.specs.Round.{find-move, solve-from, max-moves};
-ghost use Rattle.counts.specs.Solver.{round-of, round-by};
+ghost use Rattle.counts.specs.Round.{find-move, solve-from, solve-zeros, max-moves};
+ghost use Rattle.counts.specs.Solver.{round-of, round-by, solve-of, solve-part};
 ghost use Rattle.counts.specs.Tables.{Tables, the-graph};
 ghost use Rattle.counts.specs.RoundContract.{Buffers, Sized, Tested, solved-of};
 
@@ -90,4 +97,28 @@ pub fn make_moves(regions: &[u16], incident: &[u16; 512], own: &[u16; 512], idea
     let mut cut = [false; 512];
     let mut known = [false; 512];
     moves_in(regions, incident, own, ideals, counts, limit, &mut costs, &mut allowed, &mut used, &mut path, &mut best, &mut kept, &mut cut, &mut known)
+}
+
+fn clear(counts: &mut [u32])
+    ensures { λ _. ⌜ now (counts .exit) ≡ replicate (length (now (counts .entry))) 0 ⌝ }
+{
+    let mut i = 0;
+    while i < counts.len() {
+        counts[i] = 0;
+        i += 1;
+    }
+}
+
+// The counts solved from zeros, or zeros where there is a move too many.
+pub fn solve_from_zeros(regions: &[u16], incident: &[u16; 512], own: &[u16; 512], ideals: &[f64], counts: &mut [u32], limit: u32) -> SolveAnswer
+    requires { ⌜ Tables (now regions) (now incident) (now own) × (length (now ideals) ≡ length (now counts)) × (length (now counts) ≤ 256) × T (is-passed (regions-test places (length (now counts)) (now regions))) ⌝ }
+    ensures { λ r. ⌜ solve-of r (now (counts .exit)) ≡ solve-part (length (now (ideals .entry))) (solve-zeros (the-graph (now (regions .entry))) (by-ideals (now (ideals .entry))) limit (length (now (ideals .entry)))) ⌝ }
+{
+    clear(counts);
+    let made = make_moves(regions, incident, own, ideals, counts, limit);
+    if made.more {
+        clear(counts);
+        return SolveAnswer::Refused(Refusal::TooManyMoves);
+    }
+    SolveAnswer::Moves(made.moves)
 }

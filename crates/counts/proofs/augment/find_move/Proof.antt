@@ -22,7 +22,7 @@ returns : tie.Need-returns
 returns c = 
     let p = priced _ _ _ _ (c .before .before .before .before .before .before .before .before .before .before .before .fill-costs .ensures .0) (c .before .before .before .before .before .before .before .before .before .before .before .fill-costs .ensures .1) in
     record {
-      answer = c .find-augmentation .ensures .answer ∙ by-tables _ (by-ideals (c .before .before .before .before .before .before .before .before .before .before .before .before .before .before .before .before .before .args .ideals .now)) (c .before .before .before .before .before .before .before .before .before .before .before .before .before .before .before .before .before .args .counts .now) _ _ _ (tested-ok _ _ _ (c .before .before .before .before .before .before .before .before .before .before .before .before .before .before .before .before .before .pre .0 .1)) p;
+      answer = c .find-augmentation .ensures .answer ∙ by-tables (c .before .before .before .before .before .before .before .before .before .before .before .before .before .before .before .before .before .args .regions .now) (by-ideals (c .before .before .before .before .before .before .before .before .before .before .before .before .before .before .before .before .before .args .ideals .now)) (c .before .before .before .before .before .before .before .before .before .before .before .before .before .before .before .before .before .args .counts .now) (c .before .before .before .before .before .before .before .before .before .before .before .before .before .before .before .before .before .args .limit) _ _ (tested-ok _ _ _ (c .before .before .before .before .before .before .before .before .before .before .before .before .before .before .before .before .before .pre .0 .1)) p;
       len-fits = c .find-augmentation .ensures .len-fits;
       buffers = c .find-augmentation .ensures .buffers;
       sized =

@@ -5,19 +5,19 @@ use Rattle.counts.proofs.solve.make_moves.Reads as reads
 use Rattle.counts.proofs.solve.make_moves.Lts as lts
 use Rattle.counts.proofs.solve.moves_in.Reads as moves-in-reads
 
--- src/solve.rt:86:5
+-- src/solve.rt:93:5
 array-write-used : tie.Need-array-write-used
 array-write-used c = search needs
 
--- src/solve.rt:92:5
+-- src/solve.rt:99:5
 moves-in-requires : tie.Need-moves-in-requires
 moves-in-requires c κs = ?
 
--- src/solve.rt:79:1
+-- src/solve.rt:86:1
 same-length : tie.Need-same-length
 same-length c = search needs
 
--- src/solve.rt:79:1
+-- src/solve.rt:86:1
 returns : tie.Need-returns
 returns c = search needs
 
