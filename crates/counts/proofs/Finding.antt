@@ -34,12 +34,13 @@ priced counts ideals costs may e l =
       costs-long = l .0;
       may-long = l .1;
       cost-is = λ y s h. cost-at y s (e y h);
-      may-is = λ y s h. may-at y s (e y h)
+      may-is = λ y s h. may-at y s (e y h);
     }
   where
     cost-at : (y : ℕ) (s : Bool) → Entries counts ideals costs may y → cost-in costs y s ≡ by-ideals ideals counts y s
     cost-at y true r = r .plus-cost
     cost-at y false r = ap (λ (k : ℕ). getD costs k nan) (add-zero (y * 2)) ∙ r .minus-cost
+
     may-at : (y : ℕ) (s : Bool) → Entries counts ideals costs may y → allowed-in may y s ≡ allowed counts y s
     may-at y true r = r .plus-may
     may-at y false r = ap (λ (k : ℕ). getD may k false) (add-zero (y * 2)) ∙ r .minus-may
@@ -53,8 +54,8 @@ module _ (g : List Constraint) (n : ℕ) (ok : Accepted n g) (limit : ℕ) (cost
   start-same z b h =
       ap (λ (t : Bool). cond t (weigh (run g cost may limit (z .0) (z .1))) (λ b. b) b) (same-may (z .0) (z .1) h)
       ∙ ap (λ (st : State). cond (may' (z .0) (z .1)) (weigh st) (λ b. b) b)
-        (run-same g cost cost' may may' limit (z .0) (z .1) (λ (y : ℕ). ltb y n) (λ i x y hx hy k. ok .constraint-ok i .inside y hy)
-          (λ y s k. same-cost y s (ltb→lt y n k)) (λ y s k. same-may y s (ltb→lt y n k)) (lt→ltb (z .0) n h))
+      (run-same g cost cost' may may' limit (z .0) (z .1) (λ (y : ℕ). ltb y n) (λ i x y hx hy k. ok .constraint-ok i .inside y hy)
+      (λ y s k. same-cost y s (ltb→lt y n k)) (λ y s k. same-may y s (ltb→lt y n k)) (lt→ltb (z .0) n h))
 
   starts-same : (l : List Change) (b : Found) → ((z : Change) → In z l → z .0 < n) → each (try-start g cost may limit) l b ≡ each (try-start g cost' may' limit) l b
   starts-same [] b h = refl
@@ -80,6 +81,7 @@ can-apply g costs counts limit ok small = go (found g counts ok costs limit)
   where
     b : Found
     b = find-move g costs counts limit
+
     go : Finds g counts ok costs limit b → CanApply counts (b .best)
     go (none k e) =
         subst (λ (l : List Change). CanApply counts l) (sym e)
@@ -89,7 +91,7 @@ can-apply g costs counts limit ok small = go (found g counts ok costs limit)
           distinct = r .move .distinct;
           below = λ z i. ltb→lt (z .0) (length counts) (every-in (λ (w : Change). ltb (w .0) (length counts)) (b .best) (r .move .there) z i);
           down = λ z i. every-in (λ (w : Change). allowed counts (w .0) (w .1)) (b .best) (r .move .down) z i;
-          small = small
+          small = small;
         }
 
 -- ---- nothing known
@@ -106,7 +108,7 @@ nothing-known regions costs may limit costs' may' kept cut known known' s e =
       kept-long = s .kept-long;
       cut-long = s .cut-long;
       known-long = ap length e ∙ length-replicate 512 false;
-      right = λ c h k. absurd (not-known 512 c (sym (ap (λ (l : List Bool). getD l c false) e) ∙ k))
+      right = λ c h k. absurd (not-known 512 c (sym (ap (λ (l : List Bool). getD l c false) e) ∙ k));
     }
 
 pub tested-ok : (regions counts : List ℕ) (ideals : List Float) → Tested regions counts ideals → Accepted (length counts) (the-graph regions)

@@ -9,6 +9,7 @@ pub mod BuiltTables
 pub mod Complete
 pub mod CostLaws
 pub mod Endings
+pub mod Entry
 pub mod Find
 pub mod Finding
 pub mod FloatLaws

@@ -90,7 +90,7 @@ module _ (regions : List ℕ) (ideals : List Float) (limit : ℕ) (start counts 
         as-many = t .as-many ∙ sym (s .as-long);
         few = let f = t .few in let e = s .as-long in omega arith;
         small = λ x. (let b = s .bounded x in let m = s .allowed-moves in omega arith);
-        regions-pass = subst (λ (n : ℕ). T (is-passed (regions-test places n regions))) (sym (s .as-long)) (t .regions-pass)
+        regions-pass = subst (λ (n : ℕ). T (is-passed (regions-test places n regions))) (sym (s .as-long)) (t .regions-pass);
       }
 
   pub can-move : CanApply counts (round-at regions ideals counts limit .best)
@@ -130,8 +130,8 @@ module _ (regions : List ℕ) (ideals : List Float) (limit : ℕ) (start counts 
   in-edges x [] u = absurd u
   in-edges x (z ∷ l) u =
       elim (or-split (eqb x (z .0)) (member x (edges l)) u) [
-        inl q ↦ by-sign (z .1) refl (eqb→eq x (z .0) q)
-      | inr m ↦ elim (in-edges x l m) [ inl i ↦ inl (inr i) | inr i ↦ inr (inr i) ]
+        | inl q ↦ by-sign (z .1) refl (eqb→eq x (z .0) q)
+        | inr m ↦ elim (in-edges x l m) [ inl i ↦ inl (inr i) | inr i ↦ inr (inr i) ]
       ]
     where
       by-sign : (b : Bool) → z .1 ≡ b → x ≡ z .0 → In (x, true) (z ∷ l) ⊎ In (x, false) (z ∷ l)
@@ -156,16 +156,16 @@ module _ (regions : List ℕ) (ideals : List Float) (limit : ℕ) (start counts 
       let q : suc (max-moves - (moves + 1)) ≡ max-moves - moves = omega arith in
       record {
         rest =
-          ap (λ (c : List ℕ). solve-from (the-graph regions) (by-ideals ideals) limit (max-moves - (moves + 1)) (moves + 1) c) a
-          ∙ ap (λ (k : ℕ). solve-from (the-graph regions) (by-ideals ideals) limit (max-moves - (moves + 1)) k (apply-changes (round-at regions ideals counts limit .best) counts)) (add-one moves)
-          ∙ goes-on (max-moves - (moves + 1)) z l e
-          ∙ ap (λ (m : ℕ). solve-from (the-graph regions) (by-ideals ideals) limit m moves counts) q
-          ∙ s .rest;
+            ap (λ (c : List ℕ). solve-from (the-graph regions) (by-ideals ideals) limit (max-moves - (moves + 1)) (moves + 1) c) a
+            ∙ ap (λ (k : ℕ). solve-from (the-graph regions) (by-ideals ideals) limit (max-moves - (moves + 1)) k (apply-changes (round-at regions ideals counts limit .best) counts)) (add-one moves)
+            ∙ goes-on (max-moves - (moves + 1)) z l e
+            ∙ ap (λ (m : ℕ). solve-from (the-graph regions) (by-ideals ideals) limit m moves counts) q
+            ∙ s .rest;
         allowed-moves = omega arith;
         bounded = λ x. subst (λ (c : List ℕ). getD c x 0 ≤ moves + 1) (sym a) (more-bounded x);
         as-long = ap length a ∙ apply-length (round-at regions ideals counts limit .best) counts ∙ s .as-long;
         buffers = b;
-        sized = z'
+        sized = z';
       }
 
 pub solving-starts : (regions : List ℕ) (ideals : List Float) (limit : ℕ) (start : List ℕ) (costs : List Float) (may used : List Bool) (path best : List ℕ) (kept : List Float) (cut known : List Bool)
@@ -178,5 +178,24 @@ solving-starts regions ideals limit start costs may used path best kept cut know
       bounded = λ x. (let q : getD start x 0 ≡ 0 = ap (λ (l : List ℕ). getD l x 0) e ∙ getD-zeros (length start) x in omega arith);
       as-long = refl;
       buffers = b;
-      sized = z
+      sized = z;
     }
+
+-- ---- the move found, handed to apply_changes
+
+pub move-can : (regions : List ℕ) (ideals : List Float) (counts : List ℕ) (limit : ℕ) (r : FoundMove) (best : List ℕ) (len : ℕ) → Tested regions counts ideals
+    → found-of r best ≡ round-at regions ideals counts limit → len ≡ r .len → r .len ≤ 257 → length best ≡ 257
+    → CanApply counts (path-of len best) × (len ≤ 257) × (length best ≡ 257)
+move-can regions ideals counts limit r best len t is same h l = (
+  subst (λ (m : List Change). CanApply counts m) (sym (best-path r best (round-at regions ideals counts limit) is len same))
+      (can-apply (the-graph regions) (by-ideals ideals) counts limit (tested-ok regions counts ideals t) (t .small)),
+  omega arith,
+  l,
+)
+
+-- the counts after the move, by the move found
+pub move-made : (regions : List ℕ) (ideals : List Float) (counts after : List ℕ) (limit : ℕ) (r : FoundMove) (best : List ℕ) (len : ℕ)
+    → found-of r best ≡ round-at regions ideals counts limit → len ≡ r .len → after ≡ apply-changes (path-of len best) counts
+    → after ≡ apply-changes (round-at regions ideals counts limit .best) counts
+move-made regions ideals counts after limit r best len is same e =
+    e ∙ ap (λ (m : List Change). apply-changes m counts) (best-path r best (round-at regions ideals counts limit) is len same)

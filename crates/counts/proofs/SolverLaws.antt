@@ -12,7 +12,7 @@ use Rattle.counts.specs.Lists.{all}
 use Rattle.counts.specs.Region.{Constraint, places, region-count, side, constraints, graph, side-sum}
 use Rattle.counts.specs.Refusal.{Verdict, passed, refused, outcome, is-passed, then-test, refuse-if}
 use Rattle.counts.specs.Cost.{energy-from}
-use Rattle.counts.specs.Accept.{records-whole, limits-test, ideals-test, counts-test, values-test, pairs-test, overused-test, regions-test}
+use Rattle.counts.specs.Accept.{limits-test, ideals-test, counts-test, values-test, pairs-test, overused-test, regions-test}
 use Rattle.counts.specs.Solver.{max-limit, round-test, round-test-head, solve-test, solve-test-head, Energy, energy-of, energy-test, energy, Hold, hold-of, side-in-range, sum-of-side, constraint-holds, constraints-hold}
 use Rattle.counts.specs.declared.answer.EnergyAnswer.the-variants as energy-answer
 use Rattle.counts.specs.declared.answer.HoldAnswer.the-variants as hold-answer
@@ -60,14 +60,20 @@ values-lengths counts ideals h =
     go true t = refl
     go false t = t
 
+-- 9 comes last of them
+pub values-counts : (counts : List ℕ) (ideals : List Float) → is-passed (values-test counts ideals) ≡ true → is-passed (counts-test counts) ≡ true
+values-counts counts ideals h =
+    let n = refuse-if (not (eqb (length counts) (length ideals))) (refused 8 0 0) in
+    then-passed (ideals-test ideals) (counts-test counts) (then-passed n (then-test (ideals-test ideals) (counts-test counts)) h .1) .1
+
 -- what the tests of a round and of solve let by, up to 6
 pub record HeadPassed (regions : List ℕ) (n : ℕ) : Type 0 where
   pub few : n ≤ 256
-  pub whole : T (records-whole places regions)
+  pub limits : is-passed (limits-test places n regions) ≡ true
   pub pairs : is-passed (pairs-test places n 0 (region-count places regions) regions) ≡ true
 
 pub round-head-passed : (regions : List ℕ) (ideals : List Float) (counts : List ℕ) (limit : ℕ) → is-passed (round-test-head places regions ideals counts limit) ≡ true
-    → HeadPassed regions (length ideals) × (length counts ≡ length ideals)
+    → HeadPassed regions (length ideals) × (length counts ≡ length ideals) × (is-passed (counts-test counts) ≡ true)
 unfolding round-test-head
 round-head-passed regions ideals counts limit h =
     let e = pairs-test places (length ideals) 0 (region-count places regions) regions in
@@ -78,7 +84,7 @@ round-head-passed regions ideals counts limit h =
     let h3 = then-passed (refuse-if (ltb max-limit limit) (refused 10 0 0)) d (h2 .1) in
     let h4 = then-passed (values-test counts ideals) e (h3 .1) in
     let l = limits-passed (length ideals) regions (h1 .0) in
-    (record { few = l .0; whole = l .1; pairs = h4 .1 }, values-lengths counts ideals (h4 .0))
+    (record { few = l .0; limits = h1 .0; pairs = h4 .1 }, values-lengths counts ideals (h4 .0), values-counts counts ideals (h4 .0))
 
 pub solve-head-passed : (regions : List ℕ) (ideals : List Float) (room : ℕ) → is-passed (solve-test-head places regions ideals room) ≡ true
     → HeadPassed regions (length ideals) × (length ideals ≤ room)
@@ -90,7 +96,7 @@ solve-head-passed regions ideals room h =
     let h2 = then-passed (refuse-if (ltb room (length ideals)) (refused 11 0 0)) d (h1 .1) in
     let h3 = then-passed (ideals-test ideals) e (h2 .1) in
     let l = limits-passed (length ideals) regions (h1 .0) in
-    (record { few = l .0; whole = l .1; pairs = h3 .1 }, ltb-false room (length ideals) (go (ltb room (length ideals)) (h2 .0)))
+    (record { few = l .0; limits = h1 .0; pairs = h3 .1 }, ltb-false room (length ideals) (go (ltb room (length ideals)) (h2 .0)))
   where
     go : (b : Bool) → is-passed (refuse-if b (refused 11 0 0)) ≡ true → b ≡ false
     go true t = sym t

@@ -1,12 +1,13 @@
 -- Solve's counts are balanced: zeros are, and each move keeps the difference of opposite sides. Assumes nothing.
-use mathlib.Core.Logic.{_⊎_, inl, inr}
+use mathlib.Core.Logic.{_≢_, _⊎_, inl, inr}
 use mathlib.Core.Path.{_≡_, refl, sym, ap, subst, _∙_}
 use mathlib.Core.Bool.{Bool, true, false, not, cond}
 use mathlib.Core.List.{List, [], _∷_, _++_}
 use Prim.Native.Nat.{ℕ, zero, suc, _+_, _*_, _<_}
 use native.Mathlib.Omega.{arith}
-use lib.ListN.{length, getD, drop, replicate, length-replicate, List·getD-append}
-use lib.Dec.{T, ltb, eqb, ltb→lt}
+use lib.ListN.{length, getD, set, drop, replicate, length-replicate, List·getD-append}
+use lib.Seq.{getD-set-same, getD-set-other}
+use lib.Dec.{T, ltb, eqb, eqb→eq, ltb→lt}
 use lib.Ieee.{Float}
 use Rattle.counts.specs.Lists.{In, member}
 use Rattle.counts.specs.Refusal.{Verdict, passed, is-passed, refused, refuse-if, then-test}
@@ -18,7 +19,7 @@ use Rattle.counts.specs.Accept.{accepted, limits-test, ideals-test, regi
 use Rattle.counts.specs.Solver.{Solve, solve, solve-test, solve-with, solve-part, with-rest, solve-refused, max-limit}
 use Rattle.counts.specs.Demand.{Balanced, sum-of}
 use Rattle.counts.proofs.Accepted.{Accepted, accepted-ok}
-use Rattle.counts.proofs.BoolLaws.{by-cases, or-left, or-right}
+use Rattle.counts.proofs.BoolLaws.{by-cases, clash, eq→eqb, or-left, or-right}
 use Rattle.counts.proofs.ListLaws.{in→member}
 use Rattle.counts.proofs.RefusalLaws.{then-left, then-right, then-both}
 use Rattle.counts.proofs.Rounds.{Steady, steady-found, found, constraint-at}
@@ -107,9 +108,11 @@ done v n s lent t = go (is-passed v) refl t
 
     choice : Bool → Solve
     choice b = cond b (record { verdict = refused 7 0 0; moves = 0; counts = replicate n 0 }) (record { verdict = passed; moves = s .moves; counts = s .counts })
+
     counts-of : (b : Bool) → T (is-passed (choice b .verdict)) → choice b .counts ++ drop n lent ≡ s .counts ++ drop n lent
     counts-of true t = absurd t
     counts-of false t = refl
+
     go : (b : Bool) → is-passed v ≡ b → T (is-passed (out b .verdict)) → T b × (out b .counts ≡ s .counts ++ drop n lent)
     go true e t = (tt, counts-of (s .more) t)
     go false e t = (subst T e t, absurd (subst T e t))
@@ -171,3 +174,15 @@ solve-balanced regions ideals lent t =
 
     at : (i : ℕ) (c : Constraint) → constraint g i ≡ c → side-sum (solve regions ideals lent .counts) (c .a) ≡ side-sum (solve regions ideals lent .counts) (c .b)
     at i c e = subst (λ (c : Constraint). side-sum (solve regions ideals lent .counts) (c .a) ≡ side-sum (solve regions ideals lent .counts) (c .b)) e (even i)
+
+-- ---- counts cleared one after the other
+
+pub clear-turn : (l : List ℕ) (i : ℕ) → i < length l → ((k : ℕ) → k < i → getD l k 0 ≡ 0) → (k : ℕ) → k < i + 1 → getD (set l i 0) k 0 ≡ 0
+clear-turn l i h f k b =
+    by-cases (eqb k i)
+    (λ t. ap (λ (x : ℕ). getD (set l i 0) x 0) (eqb→eq k i t) ∙ getD-set-same l i 0 0 h)
+    (λ t. let n : k ≢ i = (λ q. clash (eqb k i) (eq→eqb k i q) t) in getD-set-other l i k 0 0 n ∙ f k (omega arith))
+
+pub all-zeros : (l : List ℕ) → ((k : ℕ) → k < length l → getD l k 0 ≡ 0) → l ≡ replicate (length l) 0
+all-zeros [] f = refl
+all-zeros (x ∷ l) f = ap (λ (y : ℕ). y ∷ l) (f 0 (omega arith)) ∙ ap {B = List ℕ} (λ m. 0 ∷ m) (all-zeros l (λ k h. f (suc k) (omega arith)))

@@ -1,6 +1,9 @@
 // A round: the searches from every start, the choice among them, and the move made.
 use crate::cost::fill_costs;
-use crate::search::{SearchState, infinity, run, wide};
+use crate::search::SearchState;
+use crate::search::infinity;
+use crate::search::run;
+use crate::search::wide;
 ghost use mathlib.Core.Path.{_≡_};
 ghost use mathlib.Core.Bool.{true, false, _||_};
 ghost use Prim.Native.Nat.{ℕ, _+_, _*_, _/_, _%_, _≤_, _<_};
@@ -314,12 +317,41 @@ pub fn apply_changes(counts: &mut [u32], best: &[u16; 257], len: usize)
 }
 
 // The best move on these counts, its changes in `best`. Edge costs are worked out once, here, and not in the search.
-pub fn find_move(regions: &[u16], incident: &[u16; 512], own: &[u16; 512], ideals: &[f64], counts: &[u32], limit: u32, costs: &mut [f64; 512], allowed: &mut [bool; 512], used: &mut [bool; 257], path: &mut [u16; 257], best: &mut [u16; 257], kept: &mut [f64; 512], cut: &mut [bool; 512], known: &mut [bool; 512]) -> FoundMove
+pub fn find_move(
+    regions: &[u16],
+    incident: &[u16; 512],
+    own: &[u16; 512],
+    ideals: &[f64],
+    counts: &[u32],
+    limit: u32,
+    costs: &mut [f64; 512],
+    allowed: &mut [bool; 512],
+    used: &mut [bool; 257],
+    path: &mut [u16; 257],
+    best: &mut [u16; 257],
+    kept: &mut [f64; 512],
+    cut: &mut [bool; 512],
+    known: &mut [bool; 512],
+) -> FoundMove
     requires { ⌜ Tables (now regions) (now incident) (now own) × Tested (now regions) (now counts) (now ideals) ⌝ }
     requires { ⌜ Buffers (now used) (now path) (now best) × Sized (now costs) (now allowed) (now kept) (now cut) (now known) ⌝ }
     ensures { λ r. ⌜ MoveFound (now (regions .entry)) (now (ideals .entry)) (now (counts .entry)) limit (now (costs .exit)) (now (allowed .exit)) (now (used .exit)) (now (path .exit)) (now (best .exit)) (now (kept .exit)) (now (cut .exit)) (now (known .exit)) r ⌝ }
 {
     fill_costs(counts, ideals, costs, allowed);
     forget(known);
-    find_augmentation(regions, incident, own, costs, allowed, limit, used, path, best, kept, cut, known, counts.len())
+    find_augmentation(
+        regions,
+        incident,
+        own,
+        costs,
+        allowed,
+        limit,
+        used,
+        path,
+        best,
+        kept,
+        cut,
+        known,
+        counts.len(),
+    )
 }

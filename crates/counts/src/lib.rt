@@ -57,7 +57,14 @@ pub fn solve_counts(regions: &[u16], ideals: &[f64], counts: &mut [u32]) -> Solv
     if let Check::Refused(r) = build_graph(regions, n, &mut incident, &mut own) {
         return SolveAnswer::Refused(r);
     }
-    solve_from_zeros(regions, &incident, &own, ideals, &mut counts[..n], MAX_LIMIT)
+    solve_from_zeros(
+        regions,
+        &incident,
+        &own,
+        ideals,
+        &mut counts[..n],
+        MAX_LIMIT,
+    )
 }
 // The energy of the counts: the sum of (s/ideal - 1)² over the edges.
 pub fn energy(counts: &[u32], ideals: &[f64]) -> EnergyAnswer

@@ -32,12 +32,42 @@ pub struct MovesMade {
 }
 
 // One round: the move found, if any, is made. The buffers are lent.
-fn round_in(regions: &[u16], incident: &[u16; 512], own: &[u16; 512], ideals: &[f64], counts: &mut [u32], limit: u32, costs: &mut [f64; 512], allowed: &mut [bool; 512], used: &mut [bool; 257], path: &mut [u16; 257], best: &mut [u16; 257], kept: &mut [f64; 512], cut: &mut [bool; 512], known: &mut [bool; 512]) -> RoundAnswer
+fn round_in(
+    regions: &[u16],
+    incident: &[u16; 512],
+    own: &[u16; 512],
+    ideals: &[f64],
+    counts: &mut [u32],
+    limit: u32,
+    costs: &mut [f64; 512],
+    allowed: &mut [bool; 512],
+    used: &mut [bool; 257],
+    path: &mut [u16; 257],
+    best: &mut [u16; 257],
+    kept: &mut [f64; 512],
+    cut: &mut [bool; 512],
+    known: &mut [bool; 512],
+) -> RoundAnswer
     requires { ⌜ Tables (now regions) (now incident) (now own) × Tested (now regions) (now counts) (now ideals) ⌝ }
     requires { ⌜ Buffers (now used) (now path) (now best) × Sized (now costs) (now allowed) (now kept) (now cut) (now known) ⌝ }
     ensures { λ r. ⌜ round-of r (now (counts .exit)) ≡ round-by (find-move (the-graph (now (regions .entry))) (by-ideals (now (ideals .entry))) (now (counts .entry)) limit) (now (counts .entry)) ⌝ }
 {
-    let found = find_move(regions, incident, own, ideals, counts, limit, costs, allowed, used, path, best, kept, cut, known);
+    let found = find_move(
+        regions,
+        incident,
+        own,
+        ideals,
+        counts,
+        limit,
+        costs,
+        allowed,
+        used,
+        path,
+        best,
+        kept,
+        cut,
+        known,
+    );
     let len = wide_len(found.len);
     if len == 0 {
         return RoundAnswer::Idle(found.cut);
@@ -46,7 +76,14 @@ fn round_in(regions: &[u16], incident: &[u16; 512], own: &[u16; 512], ideals: &[
     RoundAnswer::Moved(found.kept, found.cut)
 }
 
-pub fn make_round(regions: &[u16], incident: &[u16; 512], own: &[u16; 512], ideals: &[f64], counts: &mut [u32], limit: u32) -> RoundAnswer
+pub fn make_round(
+    regions: &[u16],
+    incident: &[u16; 512],
+    own: &[u16; 512],
+    ideals: &[f64],
+    counts: &mut [u32],
+    limit: u32,
+) -> RoundAnswer
     requires { ⌜ Tables (now regions) (now incident) (now own) × Tested (now regions) (now counts) (now ideals) ⌝ }
     ensures { λ r. ⌜ round-of r (now (counts .exit)) ≡ round-by (find-move (the-graph (now (regions .entry))) (by-ideals (now (ideals .entry))) (now (counts .entry)) limit) (now (counts .entry)) ⌝ }
 {
@@ -59,18 +96,63 @@ pub fn make_round(regions: &[u16], incident: &[u16; 512], own: &[u16; 512], idea
     let mut kept = [0.0; 512];
     let mut cut = [false; 512];
     let mut known = [false; 512];
-    round_in(regions, incident, own, ideals, counts, limit, &mut costs, &mut allowed, &mut used, &mut path, &mut best, &mut kept, &mut cut, &mut known)
+    round_in(
+        regions,
+        incident,
+        own,
+        ideals,
+        counts,
+        limit,
+        &mut costs,
+        &mut allowed,
+        &mut used,
+        &mut path,
+        &mut best,
+        &mut kept,
+        &mut cut,
+        &mut known,
+    )
 }
 
 // Round after round until one finds no move. The buffers are lent.
-fn moves_in(regions: &[u16], incident: &[u16; 512], own: &[u16; 512], ideals: &[f64], counts: &mut [u32], limit: u32, costs: &mut [f64; 512], allowed: &mut [bool; 512], used: &mut [bool; 257], path: &mut [u16; 257], best: &mut [u16; 257], kept: &mut [f64; 512], cut: &mut [bool; 512], known: &mut [bool; 512]) -> MovesMade
+fn moves_in(
+    regions: &[u16],
+    incident: &[u16; 512],
+    own: &[u16; 512],
+    ideals: &[f64],
+    counts: &mut [u32],
+    limit: u32,
+    costs: &mut [f64; 512],
+    allowed: &mut [bool; 512],
+    used: &mut [bool; 257],
+    path: &mut [u16; 257],
+    best: &mut [u16; 257],
+    kept: &mut [f64; 512],
+    cut: &mut [bool; 512],
+    known: &mut [bool; 512],
+) -> MovesMade
     requires { ⌜ Tables (now regions) (now incident) (now own) × Tested (now regions) (now counts) (now ideals) × (now counts ≡ replicate (length (now counts)) 0) ⌝ }
     requires { ⌜ Buffers (now used) (now path) (now best) × Sized (now costs) (now allowed) (now kept) (now cut) (now known) ⌝ }
     ensures { λ r. ⌜ solved-of r (now (counts .exit)) ≡ solve-from (the-graph (now (regions .entry))) (by-ideals (now (ideals .entry))) limit max-moves 0 (now (counts .entry)) ⌝ }
 {
     let mut moves = 0;
     loop {
-        let found = find_move(regions, incident, own, ideals, counts, limit, costs, allowed, used, path, best, kept, cut, known);
+        let found = find_move(
+            regions,
+            incident,
+            own,
+            ideals,
+            counts,
+            limit,
+            costs,
+            allowed,
+            used,
+            path,
+            best,
+            kept,
+            cut,
+            known,
+        );
         let len = wide_len(found.len);
         if len == 0 {
             return MovesMade { moves, more: false };
@@ -83,7 +165,14 @@ fn moves_in(regions: &[u16], incident: &[u16; 512], own: &[u16; 512], ideals: &[
     }
 }
 
-pub fn make_moves(regions: &[u16], incident: &[u16; 512], own: &[u16; 512], ideals: &[f64], counts: &mut [u32], limit: u32) -> MovesMade
+pub fn make_moves(
+    regions: &[u16],
+    incident: &[u16; 512],
+    own: &[u16; 512],
+    ideals: &[f64],
+    counts: &mut [u32],
+    limit: u32,
+) -> MovesMade
     requires { ⌜ Tables (now regions) (now incident) (now own) × Tested (now regions) (now counts) (now ideals) × (now counts ≡ replicate (length (now counts)) 0) ⌝ }
     ensures { λ r. ⌜ solved-of r (now (counts .exit)) ≡ solve-from (the-graph (now (regions .entry))) (by-ideals (now (ideals .entry))) limit max-moves 0 (now (counts .entry)) ⌝ }
 {
@@ -96,7 +185,22 @@ pub fn make_moves(regions: &[u16], incident: &[u16; 512], own: &[u16; 512], idea
     let mut kept = [0.0; 512];
     let mut cut = [false; 512];
     let mut known = [false; 512];
-    moves_in(regions, incident, own, ideals, counts, limit, &mut costs, &mut allowed, &mut used, &mut path, &mut best, &mut kept, &mut cut, &mut known)
+    moves_in(
+        regions,
+        incident,
+        own,
+        ideals,
+        counts,
+        limit,
+        &mut costs,
+        &mut allowed,
+        &mut used,
+        &mut path,
+        &mut best,
+        &mut kept,
+        &mut cut,
+        &mut known,
+    )
 }
 
 fn clear(counts: &mut [u32])
@@ -110,7 +214,14 @@ fn clear(counts: &mut [u32])
 }
 
 // The counts solved from zeros, or zeros where there is a move too many.
-pub fn solve_from_zeros(regions: &[u16], incident: &[u16; 512], own: &[u16; 512], ideals: &[f64], counts: &mut [u32], limit: u32) -> SolveAnswer
+pub fn solve_from_zeros(
+    regions: &[u16],
+    incident: &[u16; 512],
+    own: &[u16; 512],
+    ideals: &[f64],
+    counts: &mut [u32],
+    limit: u32,
+) -> SolveAnswer
     requires { ⌜ Tables (now regions) (now incident) (now own) × (length (now ideals) ≡ length (now counts)) × (length (now counts) ≤ 256) × T (is-passed (regions-test places (length (now counts)) (now regions))) ⌝ }
     ensures { λ r. ⌜ solve-of r (now (counts .exit)) ≡ solve-part (length (now (ideals .entry))) (solve-zeros (the-graph (now (regions .entry))) (by-ideals (now (ideals .entry))) limit (length (now (ideals .entry)))) ⌝ }
 {

@@ -14,25 +14,26 @@ forget-requires : tie.Need-forget-requires
 forget-requires c κs = search needs
 
 find-augmentation-requires : tie.Need-find-augmentation-requires
-find-augmentation-requires c κs = 
-    ((c .before .before .before .before .before .before .before .before .before .before .before .before .before .before .before .before .pre .0 .0, c .before .before .before .before .before .before .before .before .before .before .before .before .before .before .before .before .pre .0 .1 .few),
-    (c .before .before .before .before .before .before .before .before .before .before .before .before .before .before .before .before .pre .1 .0, nothing-known _ _ _ _ _ _ _ _ _ _ (c .before .before .before .before .before .before .before .before .before .before .before .before .before .before .before .before .pre .1 .1) (c .before .before .before .before .before .before .before .before .forget .ensures)))
+find-augmentation-requires c κs = (
+  (c .before .before .before .before .before .before .before .before .before .before .before .before .before .before .before .before .pre .0 .0, c .before .before .before .before .before .before .before .before .before .before .before .before .before .before .before .before .pre .0 .1 .few),
+  (c .before .before .before .before .before .before .before .before .before .before .before .before .before .before .before .before .pre .1 .0, nothing-known _ _ _ _ _ _ _ _ _ _ (c .before .before .before .before .before .before .before .before .before .before .before .before .before .before .before .before .pre .1 .1) (c .before .before .before .before .before .before .before .before .forget .ensures)),
+)
 
 returns : tie.Need-returns
-returns c = 
+returns c =
     let p = priced _ _ _ _ (c .before .before .before .before .before .before .before .before .before .before .before .fill-costs .ensures .0) (c .before .before .before .before .before .before .before .before .before .before .before .fill-costs .ensures .1) in
     record {
       answer = c .find-augmentation .ensures .answer ∙ by-tables (c .before .before .before .before .before .before .before .before .before .before .before .before .before .before .before .before .before .args .regions .now) (by-ideals (c .before .before .before .before .before .before .before .before .before .before .before .before .before .before .before .before .before .args .ideals .now)) (c .before .before .before .before .before .before .before .before .before .before .before .before .before .before .before .before .before .args .counts .now) (c .before .before .before .before .before .before .before .before .before .before .before .before .before .before .before .before .before .args .limit) _ _ (tested-ok _ _ _ (c .before .before .before .before .before .before .before .before .before .before .before .before .before .before .before .before .before .pre .0 .1)) p;
       len-fits = c .find-augmentation .ensures .len-fits;
       buffers = c .find-augmentation .ensures .buffers;
       sized =
-        record {
-          costs-long = p .costs-long;
-          may-long = p .may-long;
-          kept-long = c .find-augmentation .ensures .remembered .kept-long;
-          cut-long = c .find-augmentation .ensures .remembered .cut-long;
-          known-long = c .find-augmentation .ensures .remembered .known-long
-        }
+          record {
+            costs-long = p .costs-long;
+            may-long = p .may-long;
+            kept-long = c .find-augmentation .ensures .remembered .kept-long;
+            cut-long = c .find-augmentation .ensures .remembered .cut-long;
+            known-long = c .find-augmentation .ensures .remembered .known-long;
+          };
     }
 
 pub find-move-spec : {M : Type 1} → statement M

@@ -1,23 +1,19 @@
+-- `solve::make_moves` meets its contract: it lends fresh buffers. Assumes nothing.
+use mathlib.Core.Path.{_≡_, refl}
+use Rattle.counts.proofs.Start.{marks-made}
 use borrow.Author.Needs.{needs}
 use Rattle.counts.proofs.solve.make_moves.Statement.{statement}
 use Rattle.counts.proofs.solve.make_moves.Tie as tie
-use Rattle.counts.proofs.solve.make_moves.Reads as reads
-use Rattle.counts.proofs.solve.make_moves.Lts as lts
-use Rattle.counts.proofs.solve.moves_in.Reads as moves-in-reads
 
--- src/solve.rt:93:5
 array-write-used : tie.Need-array-write-used
 array-write-used c = search needs
 
--- src/solve.rt:99:5
 moves-in-requires : tie.Need-moves-in-requires
-moves-in-requires c κs = ?
+moves-in-requires c κs = (c .before .before .before .before .before .before .before .before .before .before .before .before .pre, (record { unmarked = marks-made; path-long = refl; best-long = refl }, record { costs-long = refl; may-long = refl; kept-long = refl; cut-long = refl; known-long = refl }))
 
--- src/solve.rt:86:1
 same-length : tie.Need-same-length
 same-length c = search needs
 
--- src/solve.rt:86:1
 returns : tie.Need-returns
 returns c = search needs
 

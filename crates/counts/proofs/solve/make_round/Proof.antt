@@ -1,23 +1,19 @@
+-- `solve::make_round` meets its contract: it lends fresh buffers. Assumes nothing.
+use mathlib.Core.Path.{_≡_, refl}
+use Rattle.counts.proofs.Start.{marks-made}
 use borrow.Author.Needs.{needs}
 use Rattle.counts.proofs.solve.make_round.Statement.{statement}
 use Rattle.counts.proofs.solve.make_round.Tie as tie
-use Rattle.counts.proofs.solve.make_round.Reads as reads
-use Rattle.counts.proofs.solve.make_round.Lts as lts
-use Rattle.counts.proofs.solve.round_in.Reads as round-in-reads
 
--- src/solve.rt:56:5
 array-write-used : tie.Need-array-write-used
 array-write-used c = search needs
 
--- src/solve.rt:62:5
 round-in-requires : tie.Need-round-in-requires
-round-in-requires c κs = ?
+round-in-requires c κs = (c .before .before .before .before .before .before .before .before .before .before .before .before .pre, (record { unmarked = marks-made; path-long = refl; best-long = refl }, record { costs-long = refl; may-long = refl; kept-long = refl; cut-long = refl; known-long = refl }))
 
--- src/solve.rt:49:1
 same-length : tie.Need-same-length
 same-length c = search needs
 
--- src/solve.rt:49:1
 returns : tie.Need-returns
 returns c = search needs
 

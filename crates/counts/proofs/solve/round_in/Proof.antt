@@ -1,39 +1,31 @@
+-- `solve::round_in` meets its contract, by whether a move was found. Assumes nothing.
+use Rattle.counts.proofs.SolveLoop.{round-idle, round-moved, move-can}
 use borrow.Author.Needs.{needs}
 use Rattle.counts.proofs.solve.round_in.Statement.{statement}
 use Rattle.counts.proofs.solve.round_in.Tie as tie
-use Rattle.counts.proofs.solve.round_in.Reads as reads
-use Rattle.counts.proofs.solve.round_in.Lts as lts
-use Rattle.counts.proofs.augment.apply_changes.Reads as apply-changes-reads
-use Rattle.counts.proofs.augment.find_move.Reads as find-move-reads
-use Rattle.counts.proofs.solve.wide_len.Reads as wide-len-reads
 
--- src/solve.rt:33:9
 find-move-requires : tie.Need-find-move-requires
 find-move-requires c κs = search needs
 
--- src/solve.rt:34:9
 wide-len-requires : tie.Need-wide-len-requires
 wide-len-requires c κs = search needs
 
--- src/solve.rt:36:9
 same-length : tie.Need-same-length
 same-length c = search needs
 
--- src/solve.rt:36:9
 returns : tie.Need-returns
-returns c = ?
+returns c = round-idle (c .before .before .find-move .result) _ _ (c .before .before .find-move .ensures .answer) _ (c .before .wide-len .ensures) _ (c .if1 .taken)
 
--- src/solve.rt:38:5
 apply-changes-requires : tie.Need-apply-changes-requires
-apply-changes-requires c κs = ?
+apply-changes-requires c κs =
+    move-can _ _ _ _ (c .before .before .before .before .find-move .result) _ _ (c .before .before .before .before .before .before .before .before .before .before .before .before .before .before .before .before .before .pre .0 .1) (c .before .before .before .before .find-move .ensures .answer) (c .before .before .before .wide-len .ensures) (c .before .before .before .before .find-move .ensures .len-fits) (c .before .before .before .before .find-move .ensures .buffers .best-long)
 
--- src/solve.rt:28:1
 same-length-2 : tie.Need-same-length-2
 same-length-2 c = search needs
 
--- src/solve.rt:28:1
 returns-2 : tie.Need-returns-2
-returns-2 c = ?
+returns-2 c =
+    round-moved (c .before .before .before .before .before .before .before .find-move .result) _ _ (c .before .before .before .before .before .before .before .find-move .ensures .answer) _ (c .before .before .before .before .before .before .wide-len .ensures) _ _ (c .before .before .before .before .before .if1 .left) (c .before .before .before .before .before .before .before .find-move .ensures .buffers .best-long) (c .before .before .apply-changes .ensures)
 
 pub round-in-spec : {M : Type 1} → statement M
 round-in-spec =

@@ -1,38 +1,33 @@
+-- `solve::solve_from_zeros` meets its contract, by whether a move was found too many. Assumes nothing.
+use mathlib.Core.Path.{_≡_, _∙_}
+use Rattle.counts.proofs.Entry.{zeros-tested, part-done, part-stopped}
 use borrow.Author.Needs.{needs}
 use Rattle.counts.proofs.solve.solve_from_zeros.Statement.{statement}
 use Rattle.counts.proofs.solve.solve_from_zeros.Tie as tie
-use Rattle.counts.proofs.solve.solve_from_zeros.Reads as reads
-use Rattle.counts.proofs.solve.solve_from_zeros.Lts as lts
-use Rattle.counts.proofs.solve.clear.Reads as clear-reads
-use Rattle.counts.proofs.solve.make_moves.Reads as make-moves-reads
 
--- src/solve.rt:117:5
 clear-requires : tie.Need-clear-requires
 clear-requires c κs = search needs
 
--- src/solve.rt:118:9
 make-moves-requires : tie.Need-make-moves-requires
-make-moves-requires c κs = ?
+make-moves-requires c κs =
+    let z = zeros-tested (c .before .before .before .before .before .before .before .before .args .regions .now) (c .before .before .before .before .before .before .before .before .args .ideals .now) (c .before .before .before .before .before .before .before .before .args .limit) (c .before .before .before .before .before .before .before .before .args .counts .now) (c .before .before .before .clear .last .0) (c .before .before .before .before .before .before .before .before .pre .1) (c .before .before .before .clear .ensures) (c .before .before .before .before .before .before .before .before .pre .2) (c .before .before .before .before .before .before .before .before .pre .3) in (c .before .before .before .before .before .before .before .before .pre .0, z .0, z .1)
 
--- src/solve.rt:120:9
 clear-requires-2 : tie.Need-clear-requires-2
 clear-requires-2 c κs = search needs
 
--- src/solve.rt:121:9
 same-length : tie.Need-same-length
 same-length c = search needs
 
--- src/solve.rt:121:9
 returns : tie.Need-returns
-returns c = ?
+returns c =
+    part-stopped (c .before .before .before .before .before .before .before .before .before .before .before .before .before .before .before .before .args .regions .now) (c .before .before .before .before .before .before .before .before .before .before .before .before .before .before .before .before .args .ideals .now) (c .before .before .before .before .before .before .before .before .before .before .before .before .before .before .before .before .args .limit) (c .before .before .before .before .before .before .before .before .before .before .before .before .before .before .before .before .args .counts .now) (c .before .before .before .before .before .before .before .before .before .before .before .clear .last .0) (c .before .before .before .before .before .before .before .before .before .before .before .before .before .before .before .before .pre .1) (c .before .before .before .before .before .before .before .before .before .before .before .clear .ensures) (c .before .before .before .before .before .before .before .make-moves .result) (c .before .before .before .before .before .before .before .make-moves .last .1 .1 .1 .1 .0) _ (c .before .before .before .before .before .before .before .make-moves .ensures) (c .before .before .before .before .if1 .taken) (c .before .before .clear2 .ensures) (c .before .before .before .before .before .before .before .make-moves .kept .1 .1 .1 .1 .0 ∙ c .before .before .before .before .before .before .before .before .before .before .before .clear .kept .0)
 
--- src/solve.rt:113:1
 same-length-2 : tie.Need-same-length-2
 same-length-2 c = search needs
 
--- src/solve.rt:113:1
 returns-2 : tie.Need-returns-2
-returns-2 c = ?
+returns-2 c =
+    part-done (c .before .before .before .before .before .before .before .before .before .before .before .before .args .regions .now) (c .before .before .before .before .before .before .before .before .before .before .before .before .args .ideals .now) (c .before .before .before .before .before .before .before .before .before .before .before .before .args .limit) (c .before .before .before .before .before .before .before .before .before .before .before .before .args .counts .now) (c .before .before .before .before .before .before .before .clear .last .0) (c .before .before .before .before .before .before .before .before .before .before .before .before .pre .1) (c .before .before .before .before .before .before .before .clear .ensures) (c .before .before .before .make-moves .result) _ (c .before .before .before .make-moves .ensures) (c .if1 .left)
 
 pub solve-from-zeros-spec : {M : Type 1} → statement M
 solve-from-zeros-spec =
