@@ -1,0 +1,26 @@
+//! The oracle: the published Rust, compiled unchanged (build.rs), asked for its answers to cases.
+//!
+//! - `reach`: the private parts of the published solver, and its round with `max_expansions` set.
+//! - `refusal`: the Rust's error messages as 01's numbers and places.
+//! - `limits`: 01's limits, which the Rust does not have.
+//! - `solver`, `geometry`: an operation a function, on plain lists.
+//! - `words`, `case`: cases and answers as text.
+//! - `json`, `vector`, `generate`, `stored`, `pack`: the stored list (src/bin/stored.rs).
+
+include!(concat!(env!("OUT_DIR"), "/published.rs"));
+
+mod quality;
+
+pub mod case;
+pub mod generate;
+pub mod geometry;
+pub mod json;
+pub mod limits;
+pub mod pack;
+pub mod refusal;
+pub mod solver;
+pub mod stored;
+pub mod vector;
+pub mod words;
+
+pub use simons_qgp::reach;

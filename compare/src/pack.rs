@@ -1,0 +1,116 @@
+//! The data file of the replay: numbers of fixed widths, little-endian, no padding. README.md has the layout.
+
+use crate::refusal::Refusal;
+use crate::stored::{Case, Step};
+
+const MARK: &[u8; 8] = b"replay 1";
+
+pub fn file(cases: &[Case]) -> Result<Vec<u8>, String> {
+    let mut bytes = Bytes(MARK.to_vec());
+    bytes.length(cases.len())?;
+    for case in cases {
+        let packed = one(case)?;
+        bytes.length(packed.len())?;
+        bytes.0.extend(packed);
+    }
+    Ok(bytes.0)
+}
+
+/// One case, without its length.
+pub fn one(case: &Case) -> Result<Vec<u8>, String> {
+    let mut bytes = Bytes(Vec::new());
+    match case {
+        Case::Solve(c) => {
+            bytes.number(1);
+            bytes.places(&c.records)?;
+            bytes.floats(&c.ideals)?;
+            bytes.numbers(&c.before)?;
+            bytes.verdict(c.answer.err());
+            bytes.number(c.answer.unwrap_or(0));
+            bytes.numbers(&c.after)?;
+        }
+        Case::Round(c) => {
+            bytes.number(2);
+            bytes.rounds(&c.records, &c.before, std::slice::from_ref(&c.step))?;
+        }
+        Case::Rounds(c) => {
+            bytes.number(3);
+            bytes.rounds(&c.records, &c.before, &c.steps)?;
+        }
+        Case::Energy(c) => {
+            bytes.number(4);
+            bytes.numbers(&c.counts)?;
+            bytes.floats(&c.ideals)?;
+            bytes.verdict(c.answer.err());
+            bytes.float(c.answer.unwrap_or(0.0));
+        }
+        Case::Hold(c) => {
+            bytes.number(5);
+            bytes.places(&c.records)?;
+            bytes.numbers(&c.counts)?;
+            bytes.verdict(c.answer.err());
+            bytes.number(u32::from(c.answer.unwrap_or(false)));
+        }
+    }
+    Ok(bytes.0)
+}
+
+struct Bytes(Vec<u8>);
+
+impl Bytes {
+    fn number(&mut self, value: u32) {
+        self.0.extend(value.to_le_bytes());
+    }
+
+    fn float(&mut self, value: f64) {
+        self.0.extend(value.to_bits().to_le_bytes());
+    }
+
+    fn length(&mut self, length: usize) -> Result<(), String> {
+        self.number(u32::try_from(length).map_err(|_| format!("a list of {length} is too long"))?);
+        Ok(())
+    }
+
+    fn places(&mut self, values: &[u16]) -> Result<(), String> {
+        self.length(values.len())?;
+        self.0.extend(values.iter().flat_map(|value| value.to_le_bytes()));
+        Ok(())
+    }
+
+    fn numbers(&mut self, values: &[u32]) -> Result<(), String> {
+        self.length(values.len())?;
+        values.iter().for_each(|&value| self.number(value));
+        Ok(())
+    }
+
+    fn floats(&mut self, values: &[f64]) -> Result<(), String> {
+        self.length(values.len())?;
+        values.iter().for_each(|&value| self.float(value));
+        Ok(())
+    }
+
+    fn verdict(&mut self, refusal: Option<Refusal>) {
+        let refusal = refusal.unwrap_or(Refusal { number: 0, first: 0, second: 0 });
+        self.number(refusal.number);
+        self.number(refusal.first);
+        self.number(refusal.second);
+    }
+
+    fn rounds(&mut self, records: &[u16], before: &[u32], steps: &[Step]) -> Result<(), String> {
+        self.places(records)?;
+        self.numbers(before)?;
+        self.length(steps.len())?;
+        for step in steps {
+            let made = step.answer.ok();
+            let cost = made.and_then(|made| made.cost);
+            self.floats(&step.ideals)?;
+            self.number(step.limit);
+            self.verdict(step.answer.err());
+            self.number(u32::from(cost.is_some()));
+            self.float(cost.unwrap_or(0.0));
+            self.number(u32::from(made.is_some_and(|made| made.cut)));
+            self.numbers(&step.after)?;
+        }
+        Ok(())
+    }
+}

@@ -1,0 +1,167 @@
+//! A module inside the published `simons_qgp`, so that its private functions and fields can be named here. It adds no rule of its own
+//! but the two that 01 adds to the Rust: a limit that is set, and the mark that a search was cut.
+
+use super::*;
+
+pub use super::BoundaryCurves;
+pub use super::Region;
+
+/// Edges with their changes, in the order of the reading.
+pub type Changes = Vec<(usize, i32)>;
+
+/// What one round of searches found.
+pub struct Found {
+    /// The kept reading and its cost.
+    pub best: Option<(f64, Changes)>,
+    /// Whether any search turned an entry back.
+    pub cut: bool,
+    /// The entries of all searches together.
+    pub expansions: usize,
+}
+
+pub fn delta(count: usize, ideal: f64, sign: i32) -> f64 {
+    edge_delta(count, ideal, sign)
+}
+
+/// The limit that the published search has.
+pub fn published_limit() -> usize {
+    MAX_SEARCH_NODES
+}
+
+/// `build_graph`, for its refusals.
+pub fn check_regions(regions: &[Region], edges: usize) -> Result<(), String> {
+    build_graph(regions, edges).map(|_| ())
+}
+
+/// `find_augmentation` with `max_expansions` set.
+pub fn find(regions: &[Region], counts: &[usize], ideals: &[f64], limit: usize) -> Result<Found, String> {
+    let graph = build_graph(regions, ideals.len())?;
+    let mut found = Found { best: None, cut: false, expansions: 0 };
+    for edge in 0..counts.len() {
+        for sign in [1, -1] {
+            if sign < 0 && counts[edge] == 0 {
+                continue;
+            }
+            let entered = expansions(&graph, counts, ideals, (edge, sign), limit + 1);
+            found.cut |= entered > limit;
+            found.expansions += entered.min(limit);
+            let mut search = AugmentSearch::new(&graph, counts, ideals, edge, sign);
+            search.max_expansions = limit;
+            if let Some((cost, changes)) = search.run() {
+                keep(&mut found.best, cost, changes);
+            }
+        }
+    }
+    if limit == MAX_SEARCH_NODES {
+        same_as_published(&found.best, find_augmentation(&graph, counts, ideals))?;
+    }
+    Ok(found)
+}
+
+/// The entries that a search makes under a limit, by the steps of `AugmentSearch::run`. A search with limit L turned an entry back just
+/// if it makes L + 1 entries under the limit L + 1.
+fn expansions(graph: &Graph, counts: &[usize], ideals: &[f64], start: (usize, i32), limit: usize) -> usize {
+    let (edge, sign) = start;
+    let mut search = AugmentSearch::new(graph, counts, ideals, edge, sign);
+    search.max_expansions = limit;
+    search.visited[edge] = true;
+    search.changes.push(start);
+    search.dfs(edge, sign, edge_delta(counts[edge], ideals[edge], sign));
+    search.expansions
+}
+
+/// The choice between starts that `find_augmentation` makes.
+fn keep(best: &mut Option<(f64, Changes)>, cost: f64, changes: Changes) {
+    if cost >= -EPS_IMPROVEMENT {
+        return;
+    }
+    let replaces = match best {
+        None => true,
+        Some((kept, _)) => cost < *kept - EPS_IMPROVEMENT,
+    };
+    if replaces {
+        *best = Some((cost, changes));
+    }
+}
+
+fn same_as_published(ours: &Option<(f64, Changes)>, published: Option<(f64, Changes)>) -> Result<(), String> {
+    let bits = |found: &Option<(f64, Changes)>| found.as_ref().map(|(cost, changes)| (cost.to_bits(), changes.clone()));
+    if bits(ours) == bits(&published) {
+        Ok(())
+    } else {
+        Err(format!("the round of this oracle found {ours:?}, find_augmentation {published:?}"))
+    }
+}
+
+pub fn apply(counts: &mut [usize], changes: &Changes) -> Result<(), String> {
+    apply_changes(counts, changes)
+}
+
+/// The number of moves of a solve that is accepted: the loop of `solve_counts`, counted.
+pub fn count_moves(regions: &[Region], ideals: &[f64]) -> Result<(u32, Vec<usize>), String> {
+    let graph = build_graph(regions, ideals.len())?;
+    let mut counts = vec![0; ideals.len()];
+    let mut moves = 0;
+    while let Some((_, changes)) = find_augmentation(&graph, &counts, ideals) {
+        apply_changes(&mut counts, &changes)?;
+        moves += 1;
+    }
+    Ok((moves, counts))
+}
+
+/// The entries that the searches of a round make, counted no further than just past `most`. Input that is refused makes none.
+pub fn round_effort(regions: &[Region], counts: &[usize], ideals: &[f64], limit: usize, most: usize) -> usize {
+    match build_graph(regions, ideals.len()) {
+        Ok(graph) if counts.len() == ideals.len() => searches_effort(&graph, counts, ideals, limit, most),
+        _ => 0,
+    }
+}
+
+fn searches_effort(graph: &Graph, counts: &[usize], ideals: &[f64], limit: usize, most: usize) -> usize {
+    let mut total = 0;
+    for edge in 0..counts.len() {
+        for sign in [1, -1] {
+            if total <= most && (sign > 0 || counts[edge] > 0) {
+                total += expansions(graph, counts, ideals, (edge, sign), limit.min(most + 1));
+            }
+        }
+    }
+    total
+}
+
+/// The same for all rounds of a solve.
+pub fn solve_effort(regions: &[Region], ideals: &[f64], most: usize) -> usize {
+    let Ok(graph) = build_graph(regions, ideals.len()) else {
+        return 0;
+    };
+    let mut counts = vec![0; ideals.len()];
+    let mut total = 0;
+    while total <= most {
+        total += searches_effort(&graph, &counts, ideals, MAX_SEARCH_NODES, most);
+        match find_augmentation(&graph, &counts, ideals) {
+            Some((_, changes)) if apply_changes(&mut counts, &changes).is_ok() => {}
+            _ => break,
+        }
+    }
+    total
+}
+
+/// `ArcCurve::new`, for its refusals.
+pub fn check_curve(points: &[[f64; 2]]) -> Result<(), String> {
+    ArcCurve::new(points).map(|_| ())
+}
+
+pub fn at(points: &[[f64; 2]], parameter: f64) -> Result<[f64; 2], String> {
+    ArcCurve::new(points)?.at(parameter)
+}
+
+pub fn intersection(a: f64, b: f64, c: f64, d: f64) -> Result<(f64, f64), String> {
+    logical_intersection(a, b, c, d)
+}
+
+/// A mesh as flat lists: x, y, z of each point, four indices of each cell.
+pub fn flat_mesh(mesh: &Mesh) -> (Vec<f64>, Vec<usize>) {
+    let points = mesh.points.iter().flatten().copied().collect();
+    let cells = mesh.cells.iter().flat_map(|cell| cell.nodes.iter().copied()).collect();
+    (points, cells)
+}

@@ -1,0 +1,275 @@
+// The operations of the solver: each reads its input from the case, calls the proved function, and compares all that it answers and
+// leaves with what the case has.
+use crate::reading;
+use counts::answer::EnergyAnswer;
+use counts::answer::HoldAnswer;
+use counts::answer::RoundAnswer;
+use counts::answer::SolveAnswer;
+use verdict::Verdict;
+
+// The longest lists of any case: 130 records, 320 edges.
+const PLACES: usize = 8840;
+
+const EDGES: usize = 320;
+
+// The first position behind the operation.
+const INPUT: usize = 4;
+
+struct SolveResult {
+    verdict: Verdict,
+    moves: u32,
+}
+
+fn solve_result(answer: SolveAnswer) -> SolveResult {
+    match answer {
+        SolveAnswer::Moves(moves) => {
+            let verdict = verdict::accepted();
+            SolveResult { verdict, moves }
+        }
+        SolveAnswer::Refused(refusal) => {
+            let verdict = verdict::verdict_of(refusal);
+            SolveResult { verdict, moves: 0 }
+        }
+    }
+}
+
+// Whether the rest of a case of solve is this answer and these counts.
+fn is_solved(case: &[u8], at: usize, answer: SolveAnswer, left: &[u32]) -> bool {
+    let got = solve_result(answer);
+    let verdict = got.verdict;
+    if !reading::is_verdict(case, at, verdict) {
+        return false;
+    }
+    let moves_at = reading::past_verdict(at);
+    if reading::number(case, moves_at) != got.moves {
+        return false;
+    }
+    let left_at = reading::past_number(moves_at);
+    if !reading::is_numbers(case, left_at, left) {
+        return false;
+    }
+    reading::is_end(case, reading::past_numbers(case, left_at))
+}
+
+fn solve_on(
+    case: &[u8],
+    answer_at: usize,
+    regions: &[u16],
+    ideals: &[f64],
+    counts: &mut [u32],
+) -> bool {
+    let answer = counts::solve_counts(regions, ideals, counts);
+    is_solved(case, answer_at, answer, counts)
+}
+
+pub fn solve(case: &[u8]) -> bool {
+    let mut regions = [0u16; PLACES];
+    let mut ideals = [0.0; EDGES];
+    let mut counts = [0u32; EDGES];
+    let ideals_at = reading::past_places(case, INPUT);
+    let counts_at = reading::past_floats(case, ideals_at);
+    let answer_at = reading::past_numbers(case, counts_at);
+    let r = reading::places(case, INPUT, &mut regions);
+    let i = reading::floats(case, ideals_at, &mut ideals);
+    let n = reading::numbers(case, counts_at, &mut counts);
+    solve_on(
+        case,
+        answer_at,
+        &regions[..r],
+        &ideals[..i],
+        &mut counts[..n],
+    )
+}
+
+// A round's answer as the case has it: no cost is 0.
+struct RoundResult {
+    verdict: Verdict,
+    moved: bool,
+    cost: f64,
+    cut: bool,
+}
+
+fn round_result(answer: RoundAnswer) -> RoundResult {
+    match answer {
+        RoundAnswer::Moved(cost, cut) => {
+            let verdict = verdict::accepted();
+            RoundResult {
+                verdict,
+                moved: true,
+                cost,
+                cut,
+            }
+        }
+        RoundAnswer::Idle(cut) => {
+            let verdict = verdict::accepted();
+            RoundResult {
+                verdict,
+                moved: false,
+                cost: 0.0,
+                cut,
+            }
+        }
+        RoundAnswer::Refused(refusal) => {
+            let verdict = verdict::verdict_of(refusal);
+            RoundResult {
+                verdict,
+                moved: false,
+                cost: 0.0,
+                cut: false,
+            }
+        }
+    }
+}
+
+// Whether a round's part of the case, from its verdict on, is this answer and these counts.
+fn is_rounded(case: &[u8], at: usize, answer: RoundAnswer, left: &[u32]) -> bool {
+    let got = round_result(answer);
+    let verdict = got.verdict;
+    if !reading::is_verdict(case, at, verdict) {
+        return false;
+    }
+    let moved_at = reading::past_verdict(at);
+    if reading::flag(case, moved_at) != got.moved {
+        return false;
+    }
+    let cost_at = reading::past_number(moved_at);
+    if !reading::is_float(case, cost_at, got.cost) {
+        return false;
+    }
+    let cut_at = reading::past_float(cost_at);
+    if reading::flag(case, cut_at) != got.cut {
+        return false;
+    }
+    reading::is_numbers(case, reading::past_number(cut_at), left)
+}
+
+// One round of a list, on the counts as the round before left them.
+fn round(case: &[u8], at: usize, regions: &[u16], counts: &mut [u32]) -> bool {
+    let mut ideals = [0.0; EDGES];
+    let i = reading::floats(case, at, &mut ideals);
+    let limit_at = reading::past_floats(case, at);
+    let limit = reading::number(case, limit_at);
+    let answer = counts::round(regions, &ideals[..i], counts, limit);
+    is_rounded(case, reading::past_number(limit_at), answer, counts)
+}
+
+// The position behind a round that starts at `at`.
+fn past_round(case: &[u8], at: usize) -> usize {
+    let limit_at = reading::past_floats(case, at);
+    let moved_at = reading::past_verdict(reading::past_number(limit_at));
+    let cut_at = reading::past_float(reading::past_number(moved_at));
+    reading::past_numbers(case, reading::past_number(cut_at))
+}
+
+// The rounds from `at` on.
+fn rounds_from(case: &[u8], at: usize, regions: &[u16], counts: &mut [u32]) -> bool {
+    let steps = reading::number(case, at);
+    let mut from = reading::past_number(at);
+    let mut k = 0;
+    while k < steps {
+        if !round(case, from, regions, counts) {
+            return false;
+        }
+        from = past_round(case, from);
+        k += 1;
+    }
+    reading::is_end(case, from)
+}
+
+pub fn rounds(case: &[u8]) -> bool {
+    let mut regions = [0u16; PLACES];
+    let mut counts = [0u32; EDGES];
+    let counts_at = reading::past_places(case, INPUT);
+    let r = reading::places(case, INPUT, &mut regions);
+    let n = reading::numbers(case, counts_at, &mut counts);
+    let steps_at = reading::past_numbers(case, counts_at);
+    rounds_from(case, steps_at, &regions[..r], &mut counts[..n])
+}
+
+struct EnergyResult {
+    verdict: Verdict,
+    total: f64,
+}
+
+fn energy_result(answer: EnergyAnswer) -> EnergyResult {
+    match answer {
+        EnergyAnswer::Total(total) => {
+            let verdict = verdict::accepted();
+            EnergyResult { verdict, total }
+        }
+        EnergyAnswer::Refused(refusal) => {
+            let verdict = verdict::verdict_of(refusal);
+            EnergyResult {
+                verdict,
+                total: 0.0,
+            }
+        }
+    }
+}
+
+fn is_energy(case: &[u8], at: usize, answer: EnergyAnswer) -> bool {
+    let got = energy_result(answer);
+    let verdict = got.verdict;
+    if !reading::is_verdict(case, at, verdict) {
+        return false;
+    }
+    let total_at = reading::past_verdict(at);
+    if !reading::is_float(case, total_at, got.total) {
+        return false;
+    }
+    reading::is_end(case, reading::past_float(total_at))
+}
+
+pub fn energy(case: &[u8]) -> bool {
+    let mut counts = [0u32; EDGES];
+    let mut ideals = [0.0; EDGES];
+    let ideals_at = reading::past_numbers(case, INPUT);
+    let n = reading::numbers(case, INPUT, &mut counts);
+    let i = reading::floats(case, ideals_at, &mut ideals);
+    let answer = counts::energy(&counts[..n], &ideals[..i]);
+    is_energy(case, reading::past_floats(case, ideals_at), answer)
+}
+
+struct HoldResult {
+    verdict: Verdict,
+    holds: bool,
+}
+
+fn hold_result(answer: HoldAnswer) -> HoldResult {
+    match answer {
+        HoldAnswer::Holds(holds) => {
+            let verdict = verdict::accepted();
+            HoldResult { verdict, holds }
+        }
+        HoldAnswer::Refused(refusal) => {
+            let verdict = verdict::verdict_of(refusal);
+            HoldResult {
+                verdict,
+                holds: false,
+            }
+        }
+    }
+}
+
+fn is_held(case: &[u8], at: usize, answer: HoldAnswer) -> bool {
+    let got = hold_result(answer);
+    let verdict = got.verdict;
+    if !reading::is_verdict(case, at, verdict) {
+        return false;
+    }
+    let holds_at = reading::past_verdict(at);
+    if reading::flag(case, holds_at) != got.holds {
+        return false;
+    }
+    reading::is_end(case, reading::past_number(holds_at))
+}
+
+pub fn hold(case: &[u8]) -> bool {
+    let mut regions = [0u16; PLACES];
+    let mut counts = [0u32; EDGES];
+    let counts_at = reading::past_places(case, INPUT);
+    let r = reading::places(case, INPUT, &mut regions);
+    let n = reading::numbers(case, counts_at, &mut counts);
+    let answer = counts::constraints_hold(&regions[..r], &counts[..n]);
+    is_held(case, reading::past_numbers(case, counts_at), answer)
+}
