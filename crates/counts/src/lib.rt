@@ -1,1 +1,1 @@
-mod refusal;
+pub mod refusal;

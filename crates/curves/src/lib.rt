@@ -1,0 +1,2 @@
+// The geometry above the counts: so far the square root.
+pub mod root;
