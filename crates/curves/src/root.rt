@@ -3,8 +3,8 @@
 ghost use mathlib.Core.Path.{_≡_};
 ghost use Prim.Native.Nat.{_+_, _*_, _^_, _≤_, _<_};
 ghost use lib.Ieee.{binary64, ofBits};
-ghost use Rattle.curves.specs.Answers.{root-told, root-answer};
-ghost use Rattle.curves.specs.Root.{root as root-of, rounded as rounded-of, parted};
+ghost use Rattle.curves.specs.Answers.{root-of, root-answer};
+ghost use Rattle.curves.specs.Root.{root as ieee-root, rounded as rounded-root, parted};
 ghost use Rattle.curves.specs.RootSteps.{Whole, NotBelow, Normal, Splits, Taken};
 use counts::refusal::Refusal;
 
@@ -34,7 +34,7 @@ struct Apart {
 
 // The square root, or the refusal of a NaN and of a number below zero.
 pub fn root(x: f64) -> RootAnswer
-    ensures { λ r. ⌜ root-told r ≡ root-answer x ⌝ }
+    ensures { λ r. ⌜ root-of r ≡ root-answer x ⌝ }
 {
     if x != x {
         return RootAnswer::Refused(Refusal::RootUndefined);
@@ -47,7 +47,7 @@ pub fn root(x: f64) -> RootAnswer
 
 // The square root, where a NaN and a number below zero give a NaN.
 pub(crate) fn sqrt(x: f64) -> f64
-    ensures { λ r. ⌜ r ≡ root-of binary64 x ⌝ }
+    ensures { λ r. ⌜ r ≡ ieee-root binary64 x ⌝ }
 {
     if x != x {
         return x;
@@ -153,7 +153,7 @@ fn newton_step(n: u64, r: u64) -> u64
 // the even one is taken. Where the 53 digits run over into a 54th, the carry runs into the exponent's field, as it should.
 fn rounded(a: Apart) -> f64
     requires { ⌜ (2 ^ 53 ≤ a .whole) × (a .whole < 2 ^ 54) × (a .exponent ≤ 2000) ⌝ }
-    ensures { λ r. ⌜ r ≡ rounded-of binary64 (parted (a .exponent) (a .whole) (a .rest)) ⌝ }
+    ensures { λ r. ⌜ r ≡ rounded-root binary64 (parted (a .exponent) (a .whole) (a .rest)) ⌝ }
 {
     let s = a.whole;
     let q = s / 2;

@@ -10,7 +10,7 @@ use Rattle.curves.specs.Root.{root}
 use Rattle.curves.specs.Answers.{root-answer, good}
 
 -- case L: "root of 2^-1074 is 2^-537"; `negsuc n` is -(n + 1)
-pub case-L : root-answer (fin false 1 (negsuc 1073)) ≡ good (fin false 1 (negsuc 536) ∷ [])
+pub case-L : root-answer (fin false 1 (negsuc 1073)) ≡ good (fin false 1 (negsuc 536))
 unfolding root-answer
 case-L = refl
 

@@ -1,7 +1,6 @@
 -- The special operands, a NaN, the zeros, the infinities and what is below zero, by their bit patterns and by the code's tests; and what `root` tells of them. Assumes nothing.
 use mathlib.Core.Path.{_≡_, refl, sym, ap, _∙_, subst}
 use mathlib.Core.Bool.{Bool, true, false, not, _&&_, cond}
-use mathlib.Core.List.{[], _∷_}
 use Prim.Native.Nat.{ℕ, zero, suc, _+_, _*_, _/_, _%_, _^_, _≤_, _<_}
 use native.Mathlib.Nat.{lt-irrefl, zero-mul, mul-pos, zero-lt-suc}
 use native.Mathlib.Omega.{arith}
@@ -15,18 +14,18 @@ use lib.Ieee.Exact.{HasValue, odd-sign}
 use Rattle.counts.specs.Refusal.{refused}
 use Rattle.counts.specs.declared.refusal.Refusal.the-variants.{RootUndefined}
 use Rattle.curves.specs.Root.{root}
-use Rattle.curves.specs.Answers.{good, turned-away, root-told, root-answer, rootless}
+use Rattle.curves.specs.Answers.{good, turned-away, root-of, root-answer, rootless}
 use Rattle.curves.specs.declared.root.RootAnswer.the-variants.{Value, Refused}
 
 -- ---- the answer goes by `rootless`
 
-refused-told : (x : Float) → rootless x ≡ true → root-told (Refused RootUndefined) ≡ root-answer x
-unfolding root-told root-answer
-refused-told x e = sym (ap (λ (b : Bool). cond b (turned-away (refused 28 0 0)) (good (root binary64 x ∷ []))) e)
+refused-told : (x : Float) → rootless x ≡ true → root-of (Refused RootUndefined) ≡ root-answer x
+unfolding root-of root-answer
+refused-told x e = sym (ap (λ (b : Bool). cond b (turned-away (refused 28 0 0)) (good (root binary64 x))) e)
 
-value-told : (x : Float) → rootless x ≡ false → root-told (Value (root binary64 x)) ≡ root-answer x
-unfolding root-told root-answer
-value-told x e = sym (ap (λ (b : Bool). cond b (turned-away (refused 28 0 0)) (good (root binary64 x ∷ []))) e)
+value-told : (x : Float) → rootless x ≡ false → root-of (Value (root binary64 x)) ≡ root-answer x
+unfolding root-of root-answer
+value-told x e = sym (ap (λ (b : Bool). cond b (turned-away (refused 28 0 0)) (good (root binary64 x))) e)
 
 -- ---- a NaN
 
@@ -34,7 +33,7 @@ rootless-nan : rootless nan ≡ true
 unfolding rootless
 rootless-nan = refl
 
-pub told-nan : (x : Float) → ne x x ≡ true → root-told (Refused RootUndefined) ≡ root-answer x
+pub told-nan : (x : Float) → ne x x ≡ true → root-of (Refused RootUndefined) ≡ root-answer x
 told-nan x h = refused-told x (ap rootless (differs-from-itself x (subst T (sym h) tt)) ∙ rootless-nan)
 
 pub root-nan : (x : Float) → ne x x ≡ true → x ≡ root binary64 x
@@ -147,10 +146,10 @@ not-below (fin true (suc m) e) n h = absurd (subst T (sym (is-true (ltb 0 (suc m
     some a b l = omega arith
 not-below (fin false m e) n h = refl
 
-pub told-below : (x : Float) → lt x (ofBits binary64 0) ≡ true → root-told (Refused RootUndefined) ≡ root-answer x
+pub told-below : (x : Float) → lt x (ofBits binary64 0) ≡ true → root-of (Refused RootUndefined) ≡ root-answer x
 told-below x h = refused-told x (below-is x h)
 
-pub told-value : (x : Float) → ne x x ≡ false → lt x (ofBits binary64 0) ≡ false → root-told (Value (root binary64 x)) ≡ root-answer x
+pub told-value : (x : Float) → ne x x ≡ false → lt x (ofBits binary64 0) ≡ false → root-of (Value (root binary64 x)) ≡ root-answer x
 told-value x n h = value-told x (not-below x n h)
 
 -- ---- the patterns that are left are those of finite values above zero, and no such pattern is a NaN's

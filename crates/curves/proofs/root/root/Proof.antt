@@ -3,7 +3,7 @@ use mathlib.Core.Path.{ap, _∙_}
 use lib.Ieee.{Float}
 use borrow.Author.Needs.{needs}
 use Rattle.curves.specs.declared.root.RootAnswer.the-variants.{Value}
-use Rattle.curves.specs.Answers.{root-told}
+use Rattle.curves.specs.Answers.{root-of}
 use Rattle.curves.proofs.root.Special.{told-nan, told-below, told-value}
 use Rattle.curves.proofs.root.root.Statement.{statement}
 use Rattle.curves.proofs.root.root.Tie as tie
@@ -20,7 +20,7 @@ sqrt-requires c κs = search needs
 returns-3 : tie.Need-returns-3
 returns-3 c =
     let x = c .before .before .before .args .x in
-    ap (λ (y : Float). root-told (Value y)) (c .sqrt .ensures) ∙ told-value x (c .before .before .if1 .left) (c .before .if2 .left)
+    ap (λ (y : Float). root-of (Value y)) (c .sqrt .ensures) ∙ told-value x (c .before .before .if1 .left) (c .before .if2 .left)
 
 pub root-spec : {M : Type 1} → statement M
 root-spec = tie.close (tie.spec returns returns-2 sqrt-requires returns-3)
