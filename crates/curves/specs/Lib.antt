@@ -2,3 +2,6 @@
 pub mod Root
 pub mod RootSteps
 pub mod Answers
+pub mod Scalar
+pub mod Point
+pub mod Crossing
