@@ -5,3 +5,5 @@ pub mod Answers
 pub mod Scalar
 pub mod Point
 pub mod Crossing
+pub mod Lists
+pub mod Curve

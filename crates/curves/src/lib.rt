@@ -1,5 +1,6 @@
-// The geometry above the counts: so far the square root, and the scalars and points that the curves go by.
+// The geometry above the counts: the square root, the scalars and points that the curves go by, and the curves.
 mod crossing;
+mod curve;
 mod point;
 pub mod root;
 mod scalar;
