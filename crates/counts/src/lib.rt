@@ -1,1 +1,2 @@
+mod answer;
 pub mod refusal;

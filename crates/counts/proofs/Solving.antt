@@ -1,0 +1,175 @@
+-- Solve's counts are balanced: zeros are, and each move keeps the difference of opposite sides. Assumes nothing.
+use mathlib.Core.Logic.{_⊎_, inl, inr}
+use mathlib.Core.Path.{_≡_, refl, sym, ap, subst, _∙_}
+use mathlib.Core.Bool.{Bool, true, false, not, cond}
+use mathlib.Core.List.{List, [], _∷_, _++_}
+use Prim.Native.Nat.{ℕ, zero, suc, _+_, _*_, _<_}
+use native.Mathlib.Omega.{arith}
+use lib.ListN.{length, getD, drop, replicate, length-replicate, List·getD-append}
+use lib.Dec.{T, ltb, eqb, ltb→lt}
+use lib.Ieee.{Float}
+use Rattle.counts.specs.Lists.{In, member}
+use Rattle.counts.specs.Refusal.{Verdict, is-passed, refused, refuse-if, then-test}
+use Rattle.counts.specs.Region.{Constraint, constraint, graph, holds, places, region-count, side, side-sum}
+use Rattle.counts.specs.Move.{Change, apply-changes}
+use Rattle.counts.specs.Cost.{CostModel, by-ideals}
+use Rattle.counts.specs.Round.{find-move, Solved, solve-by, solve-from, solve-zeros, max-moves}
+use Rattle.counts.specs.Accept.{accepted, limits-test, ideals-test, regions-test}
+use Rattle.counts.specs.Solver.{Solve, solve, solve-test, solve-with, solve-by-moves, solve-refused, solve-stopped, solve-done, max-limit}
+use Rattle.counts.specs.Demand.{Balanced, sum-of}
+use Rattle.counts.proofs.Accepted.{Accepted, accepted-ok}
+use Rattle.counts.proofs.BoolLaws.{by-cases, or-left, or-right}
+use Rattle.counts.proofs.ListLaws.{in→member}
+use Rattle.counts.proofs.RefusalLaws.{then-left, then-right, then-both}
+use Rattle.counts.proofs.Rounds.{Steady, steady-found, found, constraint-at}
+
+-- ---- counts whose constraints all balance
+
+pub record Level (g : List Constraint) (n : ℕ) (counts : List ℕ) : Type 0 where
+  pub level : (i : ℕ) → side-sum counts (constraint g i .a) ≡ side-sum counts (constraint g i .b)
+  pub long : length counts ≡ n
+
+pub getD-zeros : (n x : ℕ) → _≡_ {A = ℕ} (getD (replicate n 0) x 0) 0
+getD-zeros zero x = refl
+getD-zeros (suc n) zero = refl
+getD-zeros (suc n) (suc x) = getD-zeros n x
+
+sum-zeros : (n : ℕ) (l : List ℕ) → side-sum (replicate n 0) l ≡ 0
+sum-zeros n [] = refl
+sum-zeros n (x ∷ l) = let e = getD-zeros n x in let h = sum-zeros n l in omega arith
+
+pub level-zeros : (g : List Constraint) (n : ℕ) → Level g n (replicate n 0)
+level-zeros g n =
+    record { level = λ i. sum-zeros n (constraint g i .a) ∙ sym (sum-zeros n (constraint g i .b)); long = length-replicate n 0 }
+
+pub level-steady : (g : List Constraint) (n : ℕ) (before after : List ℕ) → Level g n before → Steady g before after → Level g n after
+level-steady g n before after l s =
+    record { level = λ i. (let d = s .difference i in let e = l .level i in omega arith); long = s .as-long ∙ l .long }
+
+level-move : (g : List Constraint) (n : ℕ) → Accepted n g → (costs : CostModel) (limit : ℕ) (counts : List ℕ) → Level g n counts
+    → Level g n (apply-changes (find-move g costs counts limit .best) counts)
+level-move g n ok costs limit counts l =
+    let ok' = subst (λ (m : ℕ). Accepted m g) (sym (l .long)) ok in
+    level-steady g n counts (apply-changes (find-move g costs counts limit .best) counts) l
+    (steady-found g counts ok' costs limit (find-move g costs counts limit) (found g counts ok' costs limit))
+
+-- ---- solve
+
+level-from : (g : List Constraint) (n : ℕ) → Accepted n g → (costs : CostModel) (limit m k : ℕ) (counts : List ℕ) → Level g n counts
+    → Level g n (solve-from g costs limit m k counts .counts)
+unfolding solve-from
+level-from g n ok costs limit zero k counts h = go (find-move g costs counts limit .best)
+  where
+    go : (b : List Change) → Level g n (solve-by zero k counts b (λ c. record { moves = k; counts = c; more = true }) .counts)
+    go [] = h
+    go (z ∷ b) = h
+level-from g n ok costs limit (suc m) k counts h =
+    go (find-move g costs counts limit .best) (level-move g n ok costs limit counts h) (level-from g n ok costs limit m (suc k))
+  where
+    go : (b : List Change) → Level g n (apply-changes b counts) → ((c : List ℕ) → Level g n c → Level g n (solve-from g costs limit m (suc k) c .counts))
+        → Level g n (solve-by (suc m) k counts b (solve-from g costs limit m (suc k)) .counts)
+    go [] a f = h
+    go (z ∷ b) a f = f (apply-changes (z ∷ b) counts) a
+
+pub level-solved : (g : List Constraint) (n : ℕ) → Accepted n g → (costs : CostModel) (limit : ℕ) → Level g n (solve-zeros g costs limit n .counts)
+unfolding solve-zeros
+level-solved g n ok costs limit = level-from g n ok costs limit max-moves 0 (replicate n 0) (level-zeros g n)
+
+-- ---- what stands past the counts is not read by a side whose edges are below them
+
+sum-append : (counts rest side : List ℕ) → ((x : ℕ) → In x side → x < length counts) → side-sum (counts ++ rest) side ≡ side-sum counts side
+sum-append counts rest [] h = refl
+sum-append counts rest (x ∷ side) h =
+    let e = List·getD-append counts rest 0 x (h x (inl refl)) in let f = sum-append counts rest side (λ y i. h y (inr i)) in omega arith
+
+level-append : (g : List Constraint) (n : ℕ) (counts rest : List ℕ) → Accepted n g → Level g n counts
+    → (i : ℕ) → side-sum (counts ++ rest) (constraint g i .a) ≡ side-sum (counts ++ rest) (constraint g i .b)
+level-append g n counts rest ok l i =
+    sum-append counts rest (constraint g i .a) (λ x m. inside x (or-left (member x (constraint g i .a)) (member x (constraint g i .b)) (in→member x (constraint g i .a) m)))
+    ∙ l .level i
+    ∙ sym (sum-append counts rest (constraint g i .b) (λ x m. inside x (or-right (member x (constraint g i .a)) (member x (constraint g i .b)) (in→member x (constraint g i .b) m))))
+  where
+    inside : (x : ℕ) → T (holds (constraint g i) x) → x < length counts
+    inside x t = subst (λ (m : ℕ). x < m) (sym (l .long)) (ltb→lt x n (ok .constraint-ok i .inside x t))
+
+-- ---- the public solve
+
+-- a solve by its verdict and by what is solved, neither of them looked into
+abbrev by-verdict : Verdict → ℕ → Solved → List ℕ → Solve
+by-verdict v n s lent = elim (is-passed v) [ true ↦ solve-by-moves n s lent | false ↦ solve-refused v lent ]
+
+done : (v : Verdict) (n : ℕ) (s : Solved) (lent : List ℕ) → T (is-passed (by-verdict v n s lent .verdict))
+    → T (is-passed v) × (by-verdict v n s lent .counts ≡ s .counts ++ drop n lent)
+done v n s lent t = go (is-passed v) refl t
+  where
+    out : Bool → Solve
+    out b = elim b [ true ↦ solve-by-moves n s lent | false ↦ solve-refused v lent ]
+
+    choice : Bool → Solve
+    choice b = cond b (solve-stopped n lent) (solve-done n s lent)
+
+    counts-of : (b : Bool) → T (is-passed (choice b .verdict)) → choice b .counts ≡ s .counts ++ drop n lent
+    counts-of true t = absurd t
+    counts-of false t = refl
+
+    go : (b : Bool) → is-passed v ≡ b → T (is-passed (out b .verdict)) → T b × (out b .counts ≡ s .counts ++ drop n lent)
+    go true e t = (tt, counts-of (s .more) t)
+    go false e t = (subst T e t, absurd (subst T e t))
+
+-- an accepted solve: its regions are accepted, and its counts are those of the definition
+pub record SolveIs (regions : List ℕ) (ideals : List Float) (lent : List ℕ) : Type 0 where
+  pub regions-accepted : T (accepted places (length ideals) regions)
+  pub counts-are : solve regions ideals lent .counts
+      ≡ solve-zeros (graph places regions) (by-ideals ideals) max-limit (length ideals) .counts ++ drop (length ideals) lent
+
+solve-opens : (regions : List ℕ) (ideals : List Float) (lent : List ℕ)
+    → solve regions ideals lent
+    ≡ by-verdict (solve-test places regions ideals (length lent)) (length ideals) (solve-zeros (graph places regions) (by-ideals ideals) max-limit (length ideals)) lent
+unfolding solve solve-with
+solve-opens regions ideals lent = refl
+
+test-accepts : (regions : List ℕ) (ideals : List Float) (room : ℕ) → T (is-passed (solve-test places regions ideals room)) → T (accepted places (length ideals) regions)
+unfolding solve-test accepted
+test-accepts regions ideals room u =
+    let l = limits-test places (length ideals) regions in
+    let r = regions-test places (length ideals) regions in
+    let eleven = refuse-if (ltb room (length ideals)) (refused 11 0 0) in
+    let rest = then-right l (then-test eleven (then-test (ideals-test ideals) r)) u in
+    then-both l r (then-left l (then-test eleven (then-test (ideals-test ideals) r)) u)
+    (then-right (ideals-test ideals) r (then-right eleven (then-test (ideals-test ideals) r) rest))
+
+pub solve-is : (regions : List ℕ) (ideals : List Float) (lent : List ℕ) → T (is-passed (solve regions ideals lent .verdict)) → SolveIs regions ideals lent
+solve-is regions ideals lent t =
+    let e = solve-opens regions ideals lent in
+    let d = done (solve-test places regions ideals (length lent)) (length ideals) (solve-zeros (graph places regions) (by-ideals ideals) max-limit (length ideals)) lent
+    (subst (λ (o : Solve). T (is-passed (o .verdict))) e t) in
+    record { regions-accepted = test-accepts regions ideals (length lent) (d .0); counts-are = ap (λ (o : Solve). o .counts) e ∙ d .1 }
+
+-- Counts that an accepted solve wrote are balanced in every region.
+pub solve-balanced : (regions : List ℕ) (ideals : List Float) (lent : List ℕ) → T (is-passed (solve regions ideals lent .verdict))
+    → Balanced regions (solve regions ideals lent .counts)
+solve-balanced regions ideals lent t =
+    record {
+      bottom-top = λ r h. at (r * 2) _ (constraint-at places (region-count places regions) regions r h .0);
+      right-left = λ r h. at (suc (r * 2)) _ (constraint-at places (region-count places regions) regions r h .1);
+    }
+  where
+    n : ℕ
+    n = length ideals
+
+    g : List Constraint
+    g = graph places regions
+
+    s : SolveIs regions ideals lent
+    s = solve-is regions ideals lent t
+
+    ok : Accepted n g
+    ok = accepted-ok places n regions (s .regions-accepted)
+
+    even : (i : ℕ) → side-sum (solve regions ideals lent .counts) (constraint g i .a) ≡ side-sum (solve regions ideals lent .counts) (constraint g i .b)
+    even i =
+        subst (λ (l : List ℕ). side-sum l (constraint g i .a) ≡ side-sum l (constraint g i .b)) (sym (s .counts-are))
+        (level-append g n (solve-zeros g (by-ideals ideals) max-limit n .counts) (drop n lent) ok (level-solved g n ok (by-ideals ideals) max-limit) i)
+
+    at : (i : ℕ) (c : Constraint) → constraint g i ≡ c → side-sum (solve regions ideals lent .counts) (c .a) ≡ side-sum (solve regions ideals lent .counts) (c .b)
+    at i c e = subst (λ (c : Constraint). side-sum (solve regions ideals lent .counts) (c .a) ≡ side-sum (solve regions ideals lent .counts) (c .b)) e (even i)

@@ -1,0 +1,69 @@
+-- Demand 3, the solver's half, as one claim about a whole list of rounds on the same regions. Assumes nothing.
+-- A round is whatever the contract of a public round says of it: `answer` gives what it answers and leaves, `costs` its edge costs. So the
+-- claim is stated once for every kind of round.
+use mathlib.Core.Logic.{_≢_, _↔_}
+use mathlib.Core.Path.{_≡_}
+use mathlib.Core.Bool.{Bool, not}
+use mathlib.Core.List.{List, [], _∷_}
+use Prim.Native.Nat.{ℕ, _<_}
+use lib.Dec.{T}
+use lib.Ieee.{Float, lt, neg}
+use Rattle.counts.specs.Refusal.{is-passed}
+use Rattle.counts.specs.Region.{places, graph, region-count, from-region, side, side-sum}
+use Rattle.counts.specs.Move.{Change, Reading, Makes, cost}
+use Rattle.counts.specs.Cost.{CostModel, by-ideals}
+use Rattle.counts.specs.Search.{eps, two-eps}
+use Rattle.counts.specs.Solver.{Round, round}
+
+-- "A side adds up to the sum of its edges' counts (..); 0 and 2 are opposite, and 1 and 3": side k of region r
+abbrev pub sum-of : List ℕ → List ℕ → ℕ → ℕ → ℕ
+sum-of regions counts r k = side-sum counts (side places (from-region places regions r) k)
+
+module _ {Ask : Type 0} (regions : List ℕ) (answer : Ask → List ℕ → Round) (costs : Ask → CostModel) where
+  abbrev pub left : List ℕ → Ask → List ℕ
+  left counts ask = answer ask counts .counts
+
+  -- "each later one gets them as the round before left them, refused or not"
+  abbrev pub left-by-all : List ℕ → List Ask → List ℕ
+  left-by-all counts [] = counts
+  left-by-all counts (ask ∷ asks) = left-by-all (left counts ask) asks
+
+  -- What is claimed of one round, on the counts that it got. A move costs less than a bound if some reading does.
+  pub record Told (counts : List ℕ) (ask : Ask) : Type 0 where
+    -- "Each of these rounds that changes the counts makes one unit move (..) that costs less than -1e-12 and makes no count negative"
+    pub changed : left counts ask ≢ counts
+        → (r : List Change) × Reading (graph places regions) counts r × T (lt (cost (costs ask counts) r) (neg eps)) × Makes counts r (left counts ask)
+    -- "Each accepted one that changes nothing and reports no search cut short leaves no unit move that costs less than -2e-12"
+    pub idle : T (is-passed (answer ask counts .verdict)) → left counts ask ≡ counts → T (not (answer ask counts .cut))
+        → (r : List Change) → Reading (graph places regions) counts r → T (lt (cost (costs ask counts) r) (neg two-eps)) → ⊥
+
+  abbrev pub Told-all : List ℕ → List Ask → Type 0
+  Told-all counts [] = Unit {0}
+  Told-all counts (ask ∷ asks) = Told counts ask × Told-all (left counts ask) asks
+
+  pub record Demand (counts : List ℕ) (asks : List Ask) : Type 0 where
+    -- "after the rounds two opposite sides of a region add up to equal counts exactly when they did before the first"
+    pub bottom-top : (r : ℕ) → r < region-count places regions
+        → (sum-of regions counts r 0 ≡ sum-of regions counts r 2)
+        ↔ (sum-of regions (left-by-all counts asks) r 0 ≡ sum-of regions (left-by-all counts asks) r 2)
+    pub right-left : (r : ℕ) → r < region-count places regions
+        → (sum-of regions counts r 1 ≡ sum-of regions counts r 3)
+        ↔ (sum-of regions (left-by-all counts asks) r 1 ≡ sum-of regions (left-by-all counts asks) r 3)
+    pub rounds : Told-all counts asks
+
+-- "ideals (also too few or too many) and limit are each round's own"
+pub record Ask : Type 0 where
+  pub ideals : List Float
+  pub limit : ℕ
+
+-- the public round of the crate
+abbrev pub asked : List ℕ → Ask → List ℕ → Round
+asked regions ask counts = round regions (ask .ideals) counts (ask .limit)
+
+abbrev pub costs-of : Ask → CostModel
+costs-of ask = by-ideals (ask .ideals)
+
+-- opposite sides of every region add up to the same
+pub record Balanced (regions counts : List ℕ) : Type 0 where
+  pub bottom-top : (r : ℕ) → r < region-count places regions → sum-of regions counts r 0 ≡ sum-of regions counts r 2
+  pub right-left : (r : ℕ) → r < region-count places regions → sum-of regions counts r 1 ≡ sum-of regions counts r 3

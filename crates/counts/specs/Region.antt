@@ -1,0 +1,73 @@
+-- 01, "Regions": region records and the constraints that they give. A side has p places: 16 in 01. Assumes nothing.
+use mathlib.Core.Bool.{Bool, true, false, not, _&&_, _||_, cond}
+use mathlib.Core.List.{List, [], _∷_}
+use Prim.Native.Nat.{ℕ, zero, suc, _+_, _*_, _/_}
+use lib.Dec.{eqb}
+use lib.ListN.{length, getD, take, drop}
+use Rattle.counts.specs.Lists.{member}
+
+-- "then 16 places"
+abbrev pub places : ℕ
+places = 16
+
+-- "for each of four sides (..): how many edges, then 16 places": 68 numbers
+abbrev pub record-size : ℕ → ℕ
+record-size p = 4 * suc p
+
+-- how many records a list holds
+abbrev pub region-count : ℕ → List ℕ → ℕ
+region-count p regions = length regions / record-size p
+
+-- the list from record r on
+abbrev pub from-region : ℕ → List ℕ → ℕ → List ℕ
+from-region p regions r = drop (r * record-size p) regions
+
+-- the edges of side k of the record that stands first; "places past that number are never read"
+abbrev pub side : ℕ → List ℕ → ℕ → List ℕ
+side p regions k = take (getD regions (k * suc p) 0) (drop (suc (k * suc p)) regions)
+
+-- two opposite sides, whose counts are to add up to the same
+pub record Constraint : Type 0 where
+  pub a : List ℕ
+  pub b : List ℕ
+
+-- `build_graph`: "each region gives constraint (0,2), then (1,3)", so that constraint 2 * r + k is pair k of region r.
+-- A constraint with both sides empty is not skipped here: it holds no edge, so that nothing ever meets it.
+unfoldable pub constraints : ℕ → ℕ → List ℕ → List Constraint
+constraints p zero regions = []
+constraints p (suc n) regions =
+    record { a = side p regions 0; b = side p regions 2 }
+    ∷ record { a = side p regions 1; b = side p regions 3 }
+    ∷ constraints p n (drop (record-size p) regions)
+
+abbrev pub graph : ℕ → List ℕ → List Constraint
+graph p regions = constraints p (region-count p regions) regions
+
+abbrev pub no-sides : Constraint
+no-sides = record { a = []; b = [] }
+
+abbrev pub constraint : List Constraint → ℕ → Constraint
+constraint g i = getD g i no-sides
+
+abbrev pub holds : Constraint → ℕ → Bool
+holds c x = member x (c .a) || member x (c .b)
+
+-- the side that x stands on, and the one opposite
+abbrev pub own-side : Constraint → ℕ → List ℕ
+own-side c x = cond (member x (c .a)) (c .a) (c .b)
+
+abbrev pub opposite-side : Constraint → ℕ → List ℕ
+opposite-side c x = cond (member x (c .a)) (c .b) (c .a)
+
+-- the numbers of the constraints that hold x, counted from i, rising
+abbrev pub incidence-from : ℕ → List Constraint → ℕ → List ℕ
+incidence-from i [] x = []
+incidence-from i (c ∷ cs) x = cond (holds c x) (i ∷ incidence-from (suc i) cs x) (incidence-from (suc i) cs x)
+
+abbrev pub incidence : List Constraint → ℕ → List ℕ
+incidence g x = incidence-from 0 g x
+
+-- "A side adds up to the sum of its edges' counts, an empty side to 0"
+abbrev pub side-sum : List ℕ → List ℕ → ℕ
+side-sum counts [] = 0
+side-sum counts (x ∷ xs) = getD counts x 0 + side-sum counts xs

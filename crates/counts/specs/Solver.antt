@@ -1,0 +1,181 @@
+-- What the public functions of the crate answer, and what they leave in the lent counts, refused calls included. Assumes nothing.
+use mathlib.Core.Bool.{Bool, true, false, not, _&&_, cond}
+use mathlib.Core.List.{List, [], _∷_, _++_}
+use Prim.Native.Nat.{ℕ, zero, suc}
+use lib.ListN.{length, drop, replicate}
+use lib.Dec.{leb, ltb, eqb}
+use lib.Ieee.{Float, ofBits, binary64}
+use Rattle.counts.specs.Lists.{all}
+use Rattle.counts.specs.Refusal.{Verdict, passed, refused, then-test, refuse-if, is-passed, verdict-of}
+use Rattle.counts.specs.Region.{Constraint, places, graph, side-sum}
+use Rattle.counts.specs.Move.{Change, apply-changes}
+use Rattle.counts.specs.Cost.{CostModel, by-ideals, energy-from}
+use Rattle.counts.specs.Round.{Found, find-move, Solved, solve-zeros}
+use Rattle.counts.specs.Accept.{limits-test, ideals-test, counts-test, regions-test}
+use Rattle.counts.specs.declared.answer.RoundAnswer.{RoundAnswer}
+use Rattle.counts.specs.declared.answer.RoundAnswer.the-variants as round-answer
+use Rattle.counts.specs.declared.answer.SolveAnswer.{SolveAnswer}
+use Rattle.counts.specs.declared.answer.SolveAnswer.the-variants as solve-answer
+use Rattle.counts.specs.declared.answer.EnergyAnswer.{EnergyAnswer}
+use Rattle.counts.specs.declared.answer.EnergyAnswer.the-variants as energy-answer
+use Rattle.counts.specs.declared.answer.HoldAnswer.{HoldAnswer}
+use Rattle.counts.specs.declared.answer.HoldAnswer.the-variants as hold-answer
+
+-- ---- a round
+
+-- "the cost of the move made, or none"
+pub data Move : Type 0 where
+  none : Move
+  made : Float → Move
+
+pub record Round : Type 0 where
+  pub verdict : Verdict
+  pub move : Move
+  pub cut : Bool
+  pub counts : List ℕ
+
+-- 01's number and values for each answer of a round, with the counts that it leaves
+unfoldable pub round-of : RoundAnswer → List ℕ → Round
+unfolding verdict-of
+round-of (round-answer.Moved cost cut) counts = record { verdict = passed; move = made cost; cut = cut; counts = counts }
+round-of (round-answer.Idle cut) counts = record { verdict = passed; move = none; cut = cut; counts = counts }
+round-of (round-answer.Refused r) counts = record { verdict = verdict-of r; move = none; cut = false; counts = counts }
+
+-- "Limit 0 to 100,000"
+abbrev pub max-limit : ℕ
+max-limit = 100000
+
+-- "Order, solver: 1, 10, 8 (rounds), 11 (solve), 2, 9 (rounds); then by region and pair (..); then 6"
+unfoldable pub round-test : ℕ → List ℕ → List Float → List ℕ → ℕ → Verdict
+unfolding limits-test regions-test
+round-test p regions ideals counts limit =
+    then-test (limits-test p (length ideals) regions)
+    (then-test (limits-test p (length counts) regions)
+    (then-test (refuse-if (ltb max-limit limit) (refused 10 0 0))
+    (then-test (refuse-if (not (eqb (length counts) (length ideals))) (refused 8 0 0))
+    (then-test (ideals-test ideals)
+    (then-test (counts-test counts) (regions-test p (length ideals) regions))))))
+
+-- "A public round (added) applies the result to the lent counts"
+abbrev pub round-made : Bool → List Change → Float → List ℕ → Round
+round-made cut [] kept counts = record { verdict = passed; move = none; cut = cut; counts = counts }
+round-made cut (z ∷ r) kept counts = record { verdict = passed; move = made kept; cut = cut; counts = apply-changes (z ∷ r) counts }
+
+abbrev pub round-by : Found → List ℕ → Round
+round-by found counts = round-made (found .cut) (found .best) (found .kept) counts
+
+abbrev pub round-refused : Verdict → List ℕ → Round
+round-refused v counts = record { verdict = v; move = none; cut = false; counts = counts }
+
+-- a round asked for with any test and edge costs
+unfoldable pub round-with : ℕ → Verdict → CostModel → List ℕ → List ℕ → ℕ → Round
+unfolding find-move
+round-with p verdict costs regions counts limit =
+    elim (is-passed verdict) [
+      | true ↦ round-by (find-move (graph p regions) costs counts limit) counts
+      | false ↦ round-refused verdict counts
+    ]
+
+unfoldable pub round : List ℕ → List Float → List ℕ → ℕ → Round
+unfolding round-test round-with
+round regions ideals counts limit = round-with places (round-test places regions ideals counts limit) (by-ideals ideals) regions counts limit
+
+-- ---- solve
+
+pub record Solve : Type 0 where
+  pub verdict : Verdict
+  pub moves : ℕ
+  pub counts : List ℕ
+
+unfoldable pub solve-of : SolveAnswer → List ℕ → Solve
+unfolding verdict-of
+solve-of (solve-answer.Moves moves) counts = record { verdict = passed; moves = moves; counts = counts }
+solve-of (solve-answer.Refused r) counts = record { verdict = verdict-of r; moves = 0; counts = counts }
+
+-- 11: the lent counts are output, and as many are needed as there are ideals
+unfoldable pub solve-test : ℕ → List ℕ → List Float → ℕ → Verdict
+unfolding limits-test regions-test
+solve-test p regions ideals room =
+    then-test (limits-test p (length ideals) regions)
+    (then-test (refuse-if (ltb room (length ideals)) (refused 11 0 0))
+    (then-test (ideals-test ideals) (regions-test p (length ideals) regions)))
+
+abbrev pub solve-refused : Verdict → List ℕ → Solve
+solve-refused v lent = record { verdict = v; moves = 0; counts = lent }
+
+-- "Output past the needed part is untouched": the needed part of n counts, then what was lent
+abbrev pub solve-done : ℕ → Solved → List ℕ → Solve
+solve-done n s lent = record { verdict = passed; moves = s .moves; counts = s .counts ++ drop n lent }
+
+-- 7: "a further move found after 200,000", and counts 0
+abbrev pub solve-stopped : ℕ → List ℕ → Solve
+solve-stopped n lent = record { verdict = refused 7 0 0; moves = 0; counts = replicate n 0 ++ drop n lent }
+
+abbrev pub solve-by-moves : ℕ → Solved → List ℕ → Solve
+solve-by-moves n s lent = cond (s .more) (solve-stopped n lent) (solve-done n s lent)
+
+unfoldable pub solve-with : ℕ → Verdict → CostModel → List ℕ → ℕ → ℕ → List ℕ → Solve
+unfolding solve-zeros
+solve-with p verdict costs regions n limit lent =
+    elim (is-passed verdict) [
+      | true ↦ solve-by-moves n (solve-zeros (graph p regions) costs limit n) lent
+      | false ↦ solve-refused verdict lent
+    ]
+
+-- "with limit 100,000"
+unfoldable pub solve : List ℕ → List Float → List ℕ → Solve
+unfolding solve-test solve-with
+solve regions ideals lent =
+    solve-with places (solve-test places regions ideals (length lent)) (by-ideals ideals) regions (length ideals) max-limit lent
+
+-- ---- energy and constraints_hold
+
+pub record Energy : Type 0 where
+  pub verdict : Verdict
+  pub total : Float
+
+unfoldable pub energy-of : EnergyAnswer → Energy
+unfolding verdict-of
+energy-of (energy-answer.Total t) = record { verdict = passed; total = t }
+energy-of (energy-answer.Refused r) = record { verdict = verdict-of r; total = ofBits binary64 0 }
+
+-- "`energy`: 1, 8, 2, 9"
+unfoldable pub energy-test : List ℕ → List Float → Verdict
+energy-test counts ideals =
+    then-test (limits-test places (length ideals) [])
+    (then-test (limits-test places (length counts) [])
+    (then-test (refuse-if (not (eqb (length counts) (length ideals))) (refused 8 0 0))
+    (then-test (ideals-test ideals) (counts-test counts))))
+
+unfoldable pub energy : List ℕ → List Float → Energy
+unfolding energy-test energy-from
+energy counts ideals =
+    elim (is-passed (energy-test counts ideals)) [
+      | true ↦ record { verdict = passed; total = energy-from (ofBits binary64 0) counts ideals }
+      | false ↦ record { verdict = energy-test counts ideals; total = ofBits binary64 0 }
+    ]
+
+pub record Hold : Type 0 where
+  pub verdict : Verdict
+  pub holds : Bool
+
+unfoldable pub hold-of : HoldAnswer → Hold
+unfolding verdict-of
+hold-of (hold-answer.Holds b) = record { verdict = passed; holds = b }
+hold-of (hold-answer.Refused r) = record { verdict = verdict-of r; holds = false }
+
+-- "(edge out of range: no)"
+abbrev pub side-in-range : List ℕ → List ℕ → Bool
+side-in-range counts side = all (λ (e : ℕ). ltb e (length counts)) side
+
+abbrev pub constraint-holds : List ℕ → Constraint → Bool
+constraint-holds counts c =
+    side-in-range counts (c .a) && (side-in-range counts (c .b) && eqb (side-sum counts (c .a)) (side-sum counts (c .b)))
+
+-- "`constraints_hold`: 1 alone"
+unfoldable pub constraints-hold : List ℕ → List ℕ → Hold
+unfolding limits-test
+constraints-hold regions counts =
+    cond (is-passed (limits-test places (length counts) regions))
+    (record { verdict = passed; holds = all (constraint-holds counts) (graph places regions) })
+    (record { verdict = limits-test places (length counts) regions; holds = false })
