@@ -27,13 +27,14 @@ at-in s (y ∷ l) z (inr i) = inr (at-in s l z i)
 
 pub partner-holds : (c : Constraint) (x : ℕ) (s : Bool) (z : Change) → In z (partners c x s) → T (holds c (z .0))
 partner-holds c x s z i = elim (in-split z (signed s (opposite-side c x)) (signed (not s) (filter (differs x) (own-side c x))) i) [
-    inl a ↦ right (member x (c .a)) (in→member (z .0) (opposite-side c x) (at-in s (opposite-side c x) z a))
+  | inl a ↦ right (member x (c .a)) (in→member (z .0) (opposite-side c x) (at-in s (opposite-side c x) z a))
   | inr a ↦ left (member x (c .a)) (in→member (z .0) (own-side c x) (filter-in (differs x) (z .0) (own-side c x) (at-in (not s) (filter (differs x) (own-side c x)) z a) .0))
-  ]
+]
   where
     right : (b : Bool) → T (member (z .0) (cond b (c .b) (c .a))) → T (holds c (z .0))
     right true t = or-right (member (z .0) (c .a)) (member (z .0) (c .b)) t
     right false t = or-left (member (z .0) (c .a)) (member (z .0) (c .b)) t
+
     left : (b : Bool) → T (member (z .0) (cond b (c .a) (c .b))) → T (holds c (z .0))
     left true t = or-left (member (z .0) (c .a)) (member (z .0) (c .b)) t
     left false t = or-right (member (z .0) (c .a)) (member (z .0) (c .b)) t

@@ -7,3 +7,6 @@ pub mod Point
 pub mod Crossing
 pub mod Lists
 pub mod Curve
+pub mod Tests
+pub mod Boundary
+pub mod Seam

@@ -3,7 +3,8 @@
 ghost use mathlib.Core.Path.{_≡_};
 ghost use Prim.Native.Nat.{_+_, _*_, _<_, _≤_};
 ghost use lib.ListN.{length};
-ghost use Rattle.counts.specs.Refusal.{outcome, passed};
+ghost use lib.Dec.{T};
+ghost use Rattle.counts.specs.Refusal.{outcome, is-passed};
 ghost use Rattle.curves.specs.Lists.{splice};
 ghost use Rattle.curves.specs.Curve.{point-count, point-at, distance, total-length, curve, cumulative-of, Sampled, knot, toward, span, fraction, blend, segment-at, curve-at, all-finite, total-test, curve-test};
 use crate::point::Point;
@@ -133,7 +134,7 @@ fn check_total(total: f64, side: u32) -> Check
 pub(crate) fn new_curve(points: &[f64], side: u32, cumulative: &mut [f64]) -> Check
     requires { ⌜ point-count (now points) ≤ length (now cumulative) ⌝ }
     ensures { λ r. ⌜ outcome r ≡ curve-test (now (points .entry)) side ⌝ }
-    ensures { λ r. ⌜ (outcome r ≡ passed → now (cumulative .exit) ≡ splice (now (cumulative .entry)) 0 (cumulative-of (now (points .entry)))) ⌝ }
+    ensures { λ r. ⌜ (T (is-passed (outcome r)) → now (cumulative .exit) ≡ splice (now (cumulative .entry)) 0 (cumulative-of (now (points .entry)))) ⌝ }
 {
     if points.len() / 2 < 2 {
         return Check::Refused(Refusal::CurveTooShort(side));

@@ -2,7 +2,6 @@
 use mathlib.Core.Path.{_≡_, sym, _∙_}
 use borrow.Author.Tests.{not-true, not-false}
 use Rattle.counts.specs.Refusal.{outcome, verdict-of}
-use Rattle.curves.proofs.TestLaws.{refused-not-passed}
 use Rattle.curves.proofs.curve.Laws.{too-short, not-finite, measured}
 use borrow.Author.Needs.{needs}
 use Rattle.curves.proofs.curve.new_curve.Statement.{statement}
@@ -10,14 +9,14 @@ use Rattle.curves.proofs.curve.new_curve.Tie as tie
 
 returns : tie.Need-returns
 unfolding outcome verdict-of
-returns c = (too-short _ _ (c .if1 .taken), λ e. absurd (refused-not-passed _ _ _ e))
+returns c = (too-short _ _ (c .if1 .taken), λ e. absurd e)
 
 all-finite-requires : tie.Need-all-finite-requires
 all-finite-requires c κs = search needs
 
 returns-2 : tie.Need-returns-2
 unfolding outcome verdict-of
-returns-2 c = (not-finite _ _ (c .before .before .if1 .left) (sym (c .before .all-finite .ensures) ∙ not-true _ (c .if2 .taken)), λ e. absurd (refused-not-passed _ _ _ e))
+returns-2 c = (not-finite _ _ (c .before .before .if1 .left) (sym (c .before .all-finite .ensures) ∙ not-true _ (c .if2 .taken)), λ e. absurd e)
 
 run-lengths-requires : tie.Need-run-lengths-requires
 run-lengths-requires c κs = search needs
