@@ -10,3 +10,4 @@ pub mod Curve
 pub mod Tests
 pub mod Boundary
 pub mod Seam
+pub mod Patch

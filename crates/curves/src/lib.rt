@@ -1,8 +1,9 @@
-// The geometry above the counts: the square root, the scalars and points that the curves go by, the curves and their seams.
+// The geometry above the counts: the square root, the scalars and points that the curves go by, the curves, their seams and the patch between them.
 mod boundary;
 mod check;
 mod crossing;
 mod curve;
+mod patch;
 mod point;
 pub mod root;
 mod scalar;

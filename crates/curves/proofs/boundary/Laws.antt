@@ -2,15 +2,13 @@
 use mathlib.Core.Path.{_≡_, sym, ap, subst, _∙_}
 use mathlib.Core.List.{List}
 use Prim.Native.Nat.{ℕ}
-use lib.ListN.{take}
 use lib.Dec.{T}
 use lib.Ieee.{Float}
 use Rattle.counts.specs.Refusal.{Verdict, outcome, is-passed, then-test}
 use Rattle.counts.specs.declared.refusal.Check.{Check}
 use Rattle.counts.specs.declared.refusal.Check.the-variants.{Passed, Refused}
 use Rattle.counts.specs.declared.refusal.Refusal.{Refusal}
-use Rattle.curves.specs.Lists.{splice}
-use Rattle.curves.specs.Curve.{point-count, curve, cumulative-of, Sampled, curve-test}
+use Rattle.curves.specs.Curve.{curve, cumulative-of, Sampled, curve-test}
 use Rattle.curves.specs.Boundary.{boundary, boundary-of, boundary-ends, ends-test, curves-test, checked-curves}
 use Rattle.curves.specs.declared.boundary.BoundaryEnds.{BoundaryEnds}
 use Rattle.curves.proofs.TestLaws.{chain-stops, chain-goes-on, in-turn, told-passed, both-passed}

@@ -1,5 +1,5 @@
 -- `boundary::check_ends` meets its contract. Assumes nothing.
-use mathlib.Core.Path.{_≡_, ap, _∙_}
+use mathlib.Core.Path.{ap, _∙_}
 use Rattle.curves.specs.Boundary.{joined-test, ends-test}
 use Rattle.curves.proofs.TestLaws.{in-turn}
 use borrow.Author.Needs.{needs}

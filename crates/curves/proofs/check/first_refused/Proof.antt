@@ -1,6 +1,5 @@
 -- `check::first_refused` meets its contract. Assumes nothing.
 use mathlib.Core.Path.{refl}
-use Rattle.counts.specs.Refusal.{outcome}
 use Rattle.curves.proofs.TestLaws.{chain-stops, chain-goes-on}
 use borrow.Author.Needs.{needs}
 use Rattle.curves.proofs.check.first_refused.Statement.{statement}

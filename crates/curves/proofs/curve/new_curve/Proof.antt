@@ -1,5 +1,5 @@
 -- `curve::new_curve` meets its contract: each way through the code is a law of the definition. Assumes nothing.
-use mathlib.Core.Path.{_≡_, sym, _∙_}
+use mathlib.Core.Path.{sym, _∙_}
 use borrow.Author.Tests.{not-true, not-false}
 use Rattle.counts.specs.Refusal.{outcome, verdict-of}
 use Rattle.curves.proofs.curve.Laws.{too-short, not-finite, measured}

@@ -1,10 +1,8 @@
 -- `curve::run_lengths` meets its contract. Before each turn k lengths are written, and `total` is the length run up to the point k. Assumes nothing.
-use mathlib.Core.Path.{_≡_, refl, sym, ap, _∙_}
+use mathlib.Core.Path.{_≡_, refl, ap, _∙_}
 use Prim.Native.Nat.{ℕ, _+_, _-_, _/_, _<_}
-use native.Mathlib.Numerals.{add-one}
 use native.Mathlib.Omega.{arith}
 use lib.ListN.{length, length-set}
-use lib.Ieee.{Float, binary64, add}
 use denote.Ref.{now}
 use Rattle.curves.specs.Lists.{tab, splice}
 use Rattle.curves.specs.Curve.{length-to, cumulative-of}

@@ -1,5 +1,5 @@
 -- `seam::validate_parameters` meets its contract. Assumes nothing.
-use mathlib.Core.Path.{_≡_, _∙_}
+use mathlib.Core.Path.{_∙_}
 use Rattle.counts.specs.Refusal.{outcome, verdict-of}
 use Rattle.curves.proofs.TestLaws.{in-turn}
 use Rattle.curves.proofs.seam.Laws.{too-short, long-enough}
