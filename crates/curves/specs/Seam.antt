@@ -1,13 +1,49 @@
--- What is refused of parameter seams: 000's `validate_parameters` and the head of its `coons_grid`. Definitions only.
+-- Parameter seams: how they are made, evenly or from counts and breaks, and what is refused of them. Definitions only.
 use mathlib.Core.Bool.{Bool, not, _&&_, _||_}
-use mathlib.Core.List.{List}
-use Prim.Native.Nat.{ℕ, _-_}
+use mathlib.Core.List.{List, [], _∷_, _++_}
+use Prim.Native.Nat.{ℕ, suc, _+_, _-_}
 use lib.ListN.{length, getD}
 use lib.Dec.{ltb, eqb}
-use lib.Ieee.{Float, nan, binary64, add, sub, lt}
+use lib.IntN.{pos}
+use lib.Ieee.{Float, nan, binary64, add, sub, mul, div, lt, ofInt}
 use Rattle.counts.specs.Refusal.{Verdict, refused, then-test, refuse-if}
 use Rattle.curves.specs.Scalar.{one, e-9, e-12, float-abs, in-unit}
+use Rattle.curves.specs.Lists.{tab}
 use Rattle.curves.specs.Tests.{first-of}
+
+-- ---- how seams are made
+
+-- the fraction j / n
+abbrev pub part : ℕ → ℕ → Float
+part j n = div binary64 (ofInt binary64 (pos j)) (ofInt binary64 (pos n))
+
+-- 000's `uniform_parameters`
+unfoldable pub uniform-parameters : ℕ → List Float
+unfolding div ofInt
+uniform-parameters n = tab (λ (i : ℕ). part i n) 0 (n + 1)
+
+-- "Edge i with count n gives b(i) + (b(i+1) - b(i))·(j/n)"
+unfoldable pub edge-value : List Float → ℕ → ℕ → ℕ → Float
+unfolding add sub mul div ofInt
+edge-value breaks i n j = add binary64 (getD breaks i nan) (mul binary64 (sub binary64 (getD breaks (i + 1) nan) (getD breaks i nan)) (part j n))
+
+-- "for j from 0 to n-1"
+unfoldable pub edge-values : List Float → ℕ → ℕ → List Float
+unfolding edge-value
+edge-values breaks i n = tab (edge-value breaks i n) 0 n
+
+-- the edges from i on, and "last stands b(k)"
+unfoldable pub seam-from : List Float → ℕ → List ℕ → List Float
+unfolding edge-values
+seam-from breaks i [] = getD breaks i nan ∷ []
+seam-from breaks i (n ∷ counts) = edge-values breaks i n ++ seam-from breaks (suc i) counts
+
+-- the seam of a side whose edges have these counts
+unfoldable pub side-seam : List Float → List ℕ → List Float
+unfolding seam-from
+side-seam breaks counts = seam-from breaks 0 counts
+
+-- ---- what is refused: 000's `validate_parameters` and the head of its `coons_grid`
 
 -- below the value before it by more than 1e-12, as rounded
 unfoldable pub falls : List Float → ℕ → Bool

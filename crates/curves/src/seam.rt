@@ -1,16 +1,64 @@
-// The parameter seams of a patch: at which fractions of the four curves the logical lines begin and end. What is refused of them (18 to
-// 22).
+// The parameter seams of a patch: at which fractions of the four curves the logical lines begin and end. How they are made, and what is
+// refused of them (18 to 22).
 ghost use mathlib.Core.Path.{_≡_};
-ghost use Prim.Native.Nat.{_<_, _≤_};
+ghost use Prim.Native.Nat.{_+_, _<_, _≤_};
 ghost use lib.ListN.{length};
 ghost use Rattle.counts.specs.Refusal.{outcome};
+ghost use Rattle.curves.specs.Lists.{splice};
 ghost use Rattle.curves.specs.Tests.{first-of};
-ghost use Rattle.curves.specs.Seam.{value-test, seam-ends-test, seam-test, pair-test, seams-test};
+ghost use Rattle.curves.specs.Seam.{uniform-parameters, edge-values, side-seam, value-test, seam-ends-test, seam-test, pair-test, seams-test};
 use crate::check::first_refused;
 use crate::scalar::abs;
 use crate::scalar::in_unit;
 use counts::refusal::Check;
 use counts::refusal::Refusal;
+
+// The n + 1 values 0, 1/n, .., 1.
+pub(crate) fn uniform_parameters(n: u32, out: &mut [f64])
+    requires { ⌜ (n ≤ 1024) × (n < length (now out)) ⌝ }
+    ensures { λ _. ⌜ now (out .exit) ≡ splice (now (out .entry)) 0 (uniform-parameters n) ⌝ }
+{
+    let mut i = 0u32;
+    while i <= n {
+        let k = i as usize;
+        out[k] = i as f64 / n as f64;
+        i += 1;
+    }
+}
+
+// Writes the n values of edge i, from an index on.
+fn edge_values(breaks: &[f64], i: usize, n: u32, from: usize, out: &mut [f64])
+    requires { ⌜ (i + 1 < length (now breaks)) × (from + n ≤ length (now out)) ⌝ }
+    ensures { λ _. ⌜ now (out .exit) ≡ splice (now (out .entry)) from (edge-values (now (breaks .entry)) i n) ⌝ }
+{
+    let start = breaks[i];
+    let span = breaks[i + 1] - start;
+    let mut j = 0u32;
+    while j < n {
+        let part = j as f64 / n as f64;
+        let k = from + j as usize;
+        out[k] = start + span * part;
+        j += 1;
+    }
+}
+
+// Writes the seam of a side, given the counts of its edges, and returns how many values it has.
+pub(crate) fn side_seam(breaks: &[f64], counts: &[u32], out: &mut [f64]) -> usize
+    requires { ⌜ (length (now counts) < length (now breaks)) × (length (side-seam (now breaks) (now counts)) ≤ length (now out)) ⌝ }
+    ensures { λ r. ⌜ r ≡ length (side-seam (now (breaks .entry)) (now (counts .entry))) ⌝ }
+    ensures { λ r. ⌜ now (out .exit) ≡ splice (now (out .entry)) 0 (side-seam (now (breaks .entry)) (now (counts .entry))) ⌝ }
+{
+    let mut i = 0usize;
+    let mut written = 0usize;
+    while i < counts.len() {
+        let n = counts[i];
+        edge_values(breaks, i, n, written, out);
+        written += n as usize;
+        i += 1;
+    }
+    out[written] = breaks[i];
+    written + 1
+}
 
 // 19 and 20 at one index: out of range, or below the value before it.
 fn check_value(values: &[f64], seam: u32, i: usize) -> Check
