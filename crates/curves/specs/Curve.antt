@@ -7,7 +7,7 @@ use lib.ListN.{length, getD}
 use lib.Dec.{ltb}
 use lib.Ieee.{Float, nan, binary64, add, sub, mul, div, lt, le}
 use Rattle.counts.specs.Refusal.{Verdict, refused, then-test, refuse-if}
-use Rattle.curves.specs.Scalar.{nought, is-finite, clamp-unit}
+use Rattle.curves.specs.Scalar.{nought, is-finite, is-positive, clamp-unit}
 use Rattle.curves.specs.Root.{root}
 use Rattle.curves.specs.Point.{point}
 use Rattle.curves.specs.Lists.{tab}
@@ -123,8 +123,8 @@ all-finite [] = true
 all-finite (x ∷ xs) = is-finite x && all-finite xs
 
 unfoldable pub total-test : Float → ℕ → Verdict
-unfolding is-finite le
-total-test total side = refuse-if (not (is-finite total && not (le total nought))) (refused 15 side 0)
+unfolding is-positive
+total-test total side = refuse-if (not (is-positive total)) (refused 15 side 0)
 
 unfoldable pub curve-test : List Float → ℕ → Verdict
 unfolding all-finite length-to total-test

@@ -11,3 +11,4 @@ pub mod Tests
 pub mod Boundary
 pub mod Seam
 pub mod Patch
+pub mod Quad

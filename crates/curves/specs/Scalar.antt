@@ -1,6 +1,6 @@
 -- 000's constants, and Rust's helpers on f64 that 000 uses (01: "`clamp`, `min`, `max`, `abs`, `is_finite`: helpers"), bit for bit. Definitions only.
 use mathlib.Core.Bool.{Bool, true, false, not, _&&_, _||_, cond}
-use lib.Ieee.{Float, nan, inf, fin, binary64, add, neg, lt, ne, ofBits}
+use lib.Ieee.{Float, nan, inf, fin, binary64, add, neg, lt, le, ne, ofBits}
 
 -- ---- constants, as the code has them: by their bits
 
@@ -35,6 +35,11 @@ unfoldable pub float-abs : Float → Float
 float-abs nan = nan
 float-abs (inf s) = inf false
 float-abs (fin s m e) = fin false m e
+
+-- what 000 asks of a length and of an area: finite, and not at or below zero
+unfoldable pub is-positive : Float → Bool
+unfolding is-finite le
+is-positive x = is-finite x && not (le x nought)
 
 -- `a.min(b)`: a NaN gives way to the other. Of two equal values Rust may give either, and this is the first, as compiled Rust gives on x86-64: it tells only in the sign of a zero.
 unfoldable pub float-min : Float → Float → Float

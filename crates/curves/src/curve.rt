@@ -11,6 +11,7 @@ use crate::point::Point;
 use crate::root::sqrt;
 use crate::scalar::clamp_unit;
 use crate::scalar::is_finite;
+use crate::scalar::is_positive;
 use counts::refusal::Check;
 use counts::refusal::Refusal;
 
@@ -120,11 +121,8 @@ fn all_finite(values: &[f64]) -> bool
 fn check_total(total: f64, side: u32) -> Check
     ensures { λ r. ⌜ outcome r ≡ total-test total side ⌝ }
 {
-    let finite = is_finite(total);
-    if finite {
-        if total <= 0.0 {
-            return Check::Refused(Refusal::BadCurveLength(side));
-        }
+    let positive = is_positive(total);
+    if positive {
         return Check::Passed;
     }
     Check::Refused(Refusal::BadCurveLength(side))

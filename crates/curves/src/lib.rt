@@ -5,6 +5,7 @@ mod crossing;
 mod curve;
 mod patch;
 mod point;
+mod quad;
 pub mod root;
 mod scalar;
 mod seam;

@@ -1,7 +1,8 @@
-// Rust's helpers on f64, bit for bit: `is_finite`, `abs`, `min`, `max`, `clamp(0.0, 1.0)`, and the test that a parameter lies in 0..1.
+// Rust's helpers on f64, bit for bit: `is_finite`, `abs`, `min`, `max`, `clamp(0.0, 1.0)`, and the tests that a length or an area is above
+// zero and that a parameter lies in 0..1.
 // specs/Scalar.antt says what each gives for a NaN and for zeros of either sign.
 ghost use mathlib.Core.Path.{_≡_};
-ghost use Rattle.curves.specs.Scalar.{is-finite, float-abs, float-min, float-max, clamp-unit, in-unit};
+ghost use Rattle.curves.specs.Scalar.{is-finite, is-positive, float-abs, float-min, float-max, clamp-unit, in-unit};
 
 pub(crate) fn is_finite(x: f64) -> bool
     ensures { λ r. ⌜ r ≡ is-finite x ⌝ }
@@ -9,6 +10,20 @@ pub(crate) fn is_finite(x: f64) -> bool
     let infinity = f64::from_bits(0x7ff0_0000_0000_0000);
     if x < infinity {
         return -infinity < x;
+    }
+    false
+}
+
+// Finite and above zero.
+pub(crate) fn is_positive(x: f64) -> bool
+    ensures { λ r. ⌜ r ≡ is-positive x ⌝ }
+{
+    let finite = is_finite(x);
+    if finite {
+        if x <= 0.0 {
+            return false;
+        }
+        return true;
     }
     false
 }
