@@ -1,4 +1,5 @@
-// The geometry above the counts: the square root, the scalars and points that the curves go by, the curves, their seams and the patch between them.
+// The geometry above the counts: the square root, the scalars and points that the curves go by, the curves, their seams, the patch between
+// them and its quads.
 mod boundary;
 mod check;
 mod crossing;
