@@ -1,0 +1,3 @@
+-- The laws that belong to no one module of the code. Assumes nothing.
+pub mod ListLaws
+pub mod TestLaws

@@ -1,0 +1,93 @@
+-- Laws of `tab` and `splice`: a list by its index function, and a buffer that is written from some index on. Assumes nothing.
+use mathlib.Core.Path.{_≡_, refl, sym, ap, _∙_}
+use mathlib.Core.List.{List, [], _∷_, _++_, append-assoc, append-nil}
+use Prim.Native.Nat.{ℕ, zero, suc, _+_, _-_, _<_, _≤_}
+use native.Mathlib.Nat.{add-zero, zero-add, add-suc, suc-add, add-assoc}
+use native.Mathlib.Numerals.{add-one}
+use native.Mathlib.Omega.{arith}
+use lib.ListN.{length, getD, set, take, drop, length-append, length-drop, take-append-drop}
+use lib.Seq.{drop-cons, set-at, append-snoc, set-split, length-take-le, take-at, drop-at, drop-drop, take-add, take-append-seam, drop-append-seam}
+use Rattle.curves.specs.Lists.{tab, splice}
+
+module _ {A : Type 0} where
+  -- ---- tab
+
+  pub length-tab : (f : ℕ → A) (k n : ℕ) → length (tab f k n) ≡ n
+  length-tab f k zero = refl
+  length-tab f k (suc n) = ap suc (length-tab f (suc k) n)
+
+  tab-snoc : (f : ℕ → A) (k n : ℕ) → tab f k (suc n) ≡ tab f k n ++ (f (k + n) ∷ [])
+  tab-snoc f k zero = ap (λ (j : ℕ). f j ∷ []) (sym (add-zero k))
+  tab-snoc f k (suc n) = ap (λ (r : List A). f k ∷ r) (tab-snoc f (suc k) n ∙ ap (λ (j : ℕ). tab f (suc k) n ++ (f j ∷ [])) (suc-add k n ∙ sym (add-suc k n)))
+
+  -- one more at the end, as a loop's counter has it
+  pub tab-more : (f : ℕ → A) (n : ℕ) → tab f 0 (n + 1) ≡ tab f 0 n ++ (f n ∷ [])
+  tab-more f n = rw (add-one, tab-snoc f 0 n, zero-add n)
+
+  -- ---- splice
+
+  head-length : (d : List A) (from : ℕ) (vs : List A) → from ≤ length d → length (take from d ++ vs) ≡ from + length vs
+  head-length d from vs h = length-append (take from d) vs ∙ ap (λ (k : ℕ). k + length vs) (length-take-le from d h)
+
+  pub splice-none : (d : List A) (from : ℕ) → d ≡ splice d from []
+  splice-none d from = sym (ap (λ (k : ℕ). take from d ++ [] ++ drop k d) (add-zero from) ∙ ap (λ (r : List A). r ++ drop from d) (append-nil (take from d)) ∙ take-append-drop from d)
+
+  -- a store just past what was replaced
+  pub splice-snoc : (d : List A) (from : ℕ) (vs : List A) (v : A) (i : ℕ) → i ≡ from + length vs → i < length d → set (splice d from vs) i v ≡ splice d from (vs ++ (v ∷ []))
+  splice-snoc d from vs v i e h =
+      let p : List A = take from d ++ vs in
+      let q : suc i ≡ from + length (vs ++ (v ∷ [])) = simp length-append (omega arith) in
+      ap (λ (k : ℕ). set (p ++ drop k d) i v) (sym e)
+      ∙ ap (λ (r : List A). set (p ++ r) i v) (drop-cons d i v h)
+      ∙ set-at p (getD d i v) (drop (suc i) d) v i (head-length d from vs (omega arith) ∙ sym e)
+      ∙ sym (append-snoc p v (drop (suc i) d))
+      ∙ ap (λ (r : List A). r ++ drop (suc i) d) (append-assoc (take from d) vs (v ∷ []))
+      ∙ ap (λ (k : ℕ). take from d ++ (vs ++ (v ∷ [])) ++ drop k d) q
+
+  -- a turn of a loop that writes f 0, f 1, .. from an index on
+  pub fill-step : (d : List A) (from : ℕ) (f : ℕ → A) (out : List A) (j k : ℕ) (v : A)
+      → out ≡ splice d from (tab f 0 j) → k ≡ from + j → k < length d → v ≡ f j → set out k v ≡ splice d from (tab f 0 (j + 1))
+  fill-step d from f out j k v o e h w =
+      ap (λ (l : List A). set l k v) o
+      ∙ splice-snoc d from (tab f 0 j) v k (e ∙ ap (λ (n : ℕ). from + n) (sym (length-tab f 0 j))) h
+      ∙ ap (λ (x : A). splice d from (tab f 0 j ++ (x ∷ []))) w
+      ∙ ap (splice d from) (sym (tab-more f j))
+
+  -- a second part just past the first
+  splice-next : (d : List A) (from : ℕ) (vs ws : List A) (i : ℕ) → i ≡ from + length vs → i ≤ length d → splice (splice d from vs) i ws ≡ splice d from (vs ++ ws)
+  splice-next d from vs ws i e h =
+      let p : List A = take from d ++ vs in
+      let r : List A = drop (from + length vs) d in
+      let l : length p ≡ i = head-length d from vs (omega arith) ∙ sym e in
+      ap (λ (x : List A). x ++ ws ++ drop (i + length ws) (p ++ r)) (take-at p r i l)
+      ∙ ap (λ (x : List A). p ++ ws ++ x) (sym (drop-drop (length ws) i (p ++ r)) ∙ ap (drop (length ws)) (drop-at p r i l) ∙ drop-drop (length ws) (from + length vs) d)
+      ∙ ap (λ (x : List A). x ++ drop (from + length vs + length ws) d) (append-assoc (take from d) vs ws)
+      ∙ ap (λ (k : ℕ). take from d ++ (vs ++ ws) ++ drop k d) (add-assoc from (length vs) (length ws) ∙ ap (λ (k : ℕ). from + k) (sym (length-append vs ws)))
+
+  -- ---- a list s that is written part by part: k values stand in the buffer, and what is still to come begins with the next part vs
+
+  pub part-written : (d out : List A) (s vs rest : List A) (k : ℕ) (next : List A) → k ≤ length s → length s ≤ length d → drop k s ≡ vs ++ rest → out ≡ splice d 0 (take k s) → next ≡ splice out k vs
+      → next ≡ splice d 0 (take (k + length vs) s)
+  part-written d out s vs rest k next h g e o w =
+      w
+      ∙ ap (λ (x : List A). splice x k vs) o
+      ∙ splice-next d 0 (take k s) vs k (sym (length-take-le k s h) ∙ sym (zero-add (length (take k s)))) (omega arith)
+      ∙ ap (λ (x : List A). splice d 0 (take k s ++ x)) (sym (ap (take (length vs)) e ∙ take-append-seam vs rest))
+      ∙ ap (splice d 0) (sym (take-add k (length vs) s))
+
+  pub part-left : (s vs rest : List A) (k : ℕ) → drop k s ≡ vs ++ rest → drop (k + length vs) s ≡ rest
+  part-left s vs rest k e = sym (drop-drop (length vs) k s) ∙ ap (drop (length vs)) e ∙ drop-append-seam vs rest
+
+  -- what is still to come is as long as it should be
+  pub part-fits : (s vs rest : List A) (k : ℕ) → k ≤ length s → drop k s ≡ vs ++ rest → k + length vs + length rest ≡ length s
+  part-fits s vs rest k h e =
+      let f : length s - k ≡ length vs + length rest = sym (length-drop k s) ∙ ap length e ∙ length-append vs rest in
+      omega arith
+
+  -- one value is a part too
+  pub set-splice : (l : List A) (k : ℕ) (v : A) → k < length l → set l k v ≡ splice l k (v ∷ [])
+  set-splice l k v h = set-split l k v h ∙ ap (λ (n : ℕ). take k l ++ v ∷ drop n l) (sym (add-one k)) ∙ sym (append-snoc (take k l) v (drop (k + 1) l))
+
+  -- what was written at the front
+  pub take-splice : (d vs : List A) (n : ℕ) → length vs ≡ n → take n (splice d 0 vs) ≡ vs
+  take-splice d vs n e = take-at vs (drop (0 + length vs) d) n e

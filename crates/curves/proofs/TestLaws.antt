@@ -1,0 +1,96 @@
+-- Laws of tests that are made one after the other. Assumes nothing.
+use mathlib.Core.Path.{_≡_, refl, sym, ap, subst, _∙_}
+use mathlib.Core.Bool.{Bool, false, cond}
+use Prim.Native.Nat.{ℕ, suc, _+_, _-_, _<_, _≤_}
+use native.Mathlib.Numerals.{add-one}
+use native.Mathlib.Omega.{arith}
+use lib.Dec.{T}
+use Rattle.counts.specs.Refusal.{Verdict, passed, verdict-of, outcome, is-passed, then-test}
+use Rattle.counts.specs.declared.refusal.Check.{Check}
+use Rattle.counts.specs.declared.refusal.Check.the-variants.{Passed, Refused}
+use Rattle.counts.specs.declared.refusal.Refusal.{Refusal}
+use Rattle.counts.specs.declared.refusal.Refusal.the-variants as because
+use Rattle.counts.proofs.RefusalLaws.{then-left, then-right}
+use Rattle.curves.specs.Tests.{first-of}
+
+-- no refusal has the number 0
+refusal-number : (r : Refusal) → is-passed (verdict-of r) ≡ false
+unfolding verdict-of
+refusal-number because.Malformed = refl
+refusal-number (because.BadIdeal e) = refl
+refusal-number (because.EdgeOutOfRange r s) = refl
+refusal-number (because.EdgeRepeated r s) = refl
+refusal-number (because.EdgeOnBothSides r s) = refl
+refusal-number (because.EdgeOverused e) = refl
+refusal-number because.TooManyMoves = refl
+refusal-number because.LengthsDiffer = refl
+refusal-number (because.CountTooLarge e) = refl
+refusal-number because.LimitTooLarge = refl
+refusal-number because.OutputTooShort = refl
+refusal-number because.BadLoop = refl
+refusal-number (because.CurveTooShort c) = refl
+refusal-number (because.PointNotFinite c) = refl
+refusal-number (because.BadCurveLength c) = refl
+refusal-number (because.CurvesApart c) = refl
+refusal-number because.CornersClockwise = refl
+refusal-number (because.SeamTooShort s) = refl
+refusal-number (because.SeamOutOfRange s i) = refl
+refusal-number (because.SeamFalling s i) = refl
+refusal-number (because.SeamEnds s) = refl
+refusal-number (because.SeamsUnequal p) = refl
+refusal-number (because.LinesParallel i j) = refl
+refusal-number (because.CrossingOutside i j) = refl
+refusal-number (because.BadQuadArea i j) = refl
+refusal-number because.NoCells = refl
+refusal-number (because.BreaksMismatch s) = refl
+refusal-number because.RootUndefined = refl
+
+pub refused-not-passed : (r : Refusal) → T (is-passed (outcome (Refused r))) → ⊥
+unfolding outcome
+refused-not-passed r t = subst T (refusal-number r) t
+
+-- a test that refuses is the whole chain
+pub chain-stops : (c : Check) (r : Refusal) (v w : Verdict) → c ≡ Refused r → outcome c ≡ v → outcome (Refused r) ≡ then-test v w
+unfolding outcome
+chain-stops c r v w e o =
+    let q : verdict-of r ≡ v = sym (ap outcome e) ∙ o in
+    q ∙ ap (λ (b : Bool). cond b w v) (sym (sym (ap is-passed q) ∙ refusal-number r))
+
+-- a test that is passed leaves the rest of the chain
+pub chain-goes-on : (c : Check) (v w : Verdict) → c ≡ Passed → outcome c ≡ v → w ≡ then-test v w
+unfolding outcome
+chain-goes-on c v w e o = ap (λ (u : Verdict). then-test u w) (sym (ap outcome e) ∙ o)
+
+-- both tests are those of the definition
+pub in-turn : (u v w a b : Verdict) → u ≡ then-test v w → v ≡ a → w ≡ b → u ≡ then-test a b
+in-turn u v w a b e f g = e ∙ ap (λ (x : Verdict). then-test x w) f ∙ ap (then-test a) g
+
+pub told-passed : (c : Check) → c ≡ Passed → T (is-passed (outcome c))
+unfolding outcome
+told-passed c e = subst (λ (x : Check). T (is-passed (outcome x))) (sym e) tt
+
+-- where a chain passes, both its tests do
+pub both-passed : (u v w : Verdict) → u ≡ then-test v w → T (is-passed u) → T (is-passed v) × T (is-passed w)
+both-passed u v w e t = let s = subst (λ (x : Verdict). T (is-passed x)) e t in (then-left v w s, then-right v w s)
+
+-- ---- tests by an index, turn by turn
+
+module _ (f : ℕ → Verdict) where
+  pub first-start : (n : ℕ) → first-of f 0 n ≡ first-of f 0 (n - 0)
+  first-start n = let e : n ≡ n - 0 = omega arith in ap (first-of f 0) e
+
+  turn : (i n : ℕ) → i < n → first-of f i (n - i) ≡ then-test (f i) (first-of f (i + 1) (n - (i + 1)))
+  unfolding first-of
+  turn i n h =
+      let e : n - i ≡ suc (n - (i + 1)) = omega arith in
+      ap (first-of f i) e ∙ ap (λ (k : ℕ). then-test (f i) (first-of f k (n - (i + 1)))) (sym (add-one i))
+
+  pub first-next : (i n : ℕ) (c : Check) → i < n → c ≡ Passed → outcome c ≡ f i → first-of f i (n - i) ≡ first-of f (i + 1) (n - (i + 1))
+  first-next i n c h e o = turn i n h ∙ sym (chain-goes-on c (f i) _ e o)
+
+  pub first-stops : (i n : ℕ) (c : Check) (r : Refusal) → i < n → c ≡ Refused r → outcome c ≡ f i → outcome (Refused r) ≡ first-of f i (n - i)
+  first-stops i n c r h e o = chain-stops c r (f i) _ e o ∙ sym (turn i n h)
+
+  pub first-done : (i n : ℕ) → n ≤ i → passed ≡ first-of f i (n - i)
+  unfolding first-of
+  first-done i n h = let e : n - i ≡ 0 = omega arith in sym (ap (first-of f i) e)

@@ -1,0 +1,2 @@
+-- The laws of the four boundary curves. Assumes nothing.
+pub mod Laws

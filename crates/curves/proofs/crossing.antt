@@ -1,0 +1,2 @@
+-- The laws of the crossing. Assumes nothing.
+pub mod Laws

@@ -1,0 +1,34 @@
+-- `logical-intersection` by its tests, one law for each way through. Assumes nothing.
+use mathlib.Core.Path.{_≡_, refl, sym, ap, _∙_}
+use mathlib.Core.Bool.{Bool, true, false, _&&_, cond}
+use Prim.Native.Nat.{ℕ}
+use lib.Ieee.{Float, lt}
+use Rattle.counts.specs.Refusal.{refused}
+use Rattle.curves.specs.Answers.{good, turned-away}
+use Rattle.curves.specs.Scalar.{e-12, float-abs, clamp-unit, in-unit}
+use Rattle.curves.specs.Point.{point}
+use Rattle.curves.specs.Crossing.{denominator, crossing-u, crossing-v, inside-or-refused, logical-intersection}
+
+pub parallel : (a b c d : Float) (i j : ℕ) → lt (float-abs (denominator a b c d)) e-12 ≡ true → turned-away (refused 23 i j) ≡ logical-intersection a b c d i j
+unfolding logical-intersection
+parallel a b c d i j e = sym (ap (λ (p : Bool). cond p (turned-away (refused 23 i j)) (inside-or-refused (crossing-u a b c d) (crossing-v a b c d) i j)) e)
+
+pub not-parallel : (a b c d : Float) (i j : ℕ) → lt (float-abs (denominator a b c d)) e-12 ≡ false → inside-or-refused (crossing-u a b c d) (crossing-v a b c d) i j ≡ logical-intersection a b c d i j
+unfolding logical-intersection
+not-parallel a b c d i j e = sym (ap (λ (p : Bool). cond p (turned-away (refused 23 i j)) (inside-or-refused (crossing-u a b c d) (crossing-v a b c d) i j)) e)
+
+by-tests : (u v : Float) (i j : ℕ) (p q : Bool) → in-unit u ≡ p → in-unit v ≡ q → cond (p && q) (good (point (clamp-unit u) (clamp-unit v))) (turned-away (refused 24 i j)) ≡ inside-or-refused u v i j
+unfolding inside-or-refused
+by-tests u v i j p q e f =
+    sym
+    (ap (λ (x : Bool). cond (x && in-unit v) (good (point (clamp-unit u) (clamp-unit v))) (turned-away (refused 24 i j))) e
+    ∙ ap (λ (x : Bool). cond (p && x) (good (point (clamp-unit u) (clamp-unit v))) (turned-away (refused 24 i j))) f)
+
+pub inside : (u v : Float) (i j : ℕ) (x y : Float) → x ≡ clamp-unit u → y ≡ clamp-unit v → in-unit u ≡ true → in-unit v ≡ true → good (point x y) ≡ inside-or-refused u v i j
+inside u v i j x y h k e f = ap (λ (z : Float). good (point z y)) h ∙ ap (λ (z : Float). good (point (clamp-unit u) z)) k ∙ by-tests u v i j true true e f
+
+pub u-outside : (u v : Float) (i j : ℕ) → in-unit u ≡ false → turned-away (refused 24 i j) ≡ inside-or-refused u v i j
+u-outside u v i j e = by-tests u v i j false (in-unit v) e refl
+
+pub v-outside : (u v : Float) (i j : ℕ) → in-unit u ≡ true → in-unit v ≡ false → turned-away (refused 24 i j) ≡ inside-or-refused u v i j
+v-outside u v i j e f = by-tests u v i j true false e f

@@ -1,0 +1,4 @@
+-- The laws of the curves. Assumes nothing.
+pub mod Halving
+pub mod Laws
+pub mod Cases

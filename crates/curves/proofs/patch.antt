@@ -1,0 +1,2 @@
+-- The laws of the patch. Assumes nothing.
+pub mod Laws

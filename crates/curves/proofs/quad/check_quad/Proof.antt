@@ -1,0 +1,23 @@
+-- `quad::check_quad` meets its contract. Assumes nothing.
+use Rattle.counts.specs.Refusal.{outcome, verdict-of}
+use Rattle.curves.specs.Quad.{quad-test}
+use borrow.Author.Needs.{needs}
+use Rattle.curves.proofs.quad.check_quad.Statement.{statement}
+use Rattle.curves.proofs.quad.check_quad.Tie as tie
+
+signed-area-requires : tie.Need-signed-area-requires
+signed-area-requires c κs = search needs
+
+is-positive-requires : tie.Need-is-positive-requires
+is-positive-requires c κs = search needs
+
+returns : tie.Need-returns
+unfolding outcome quad-test
+returns c = simp (← c .before .before .signed-area .ensures, ← c .before .is-positive .ensures, c .if1 .taken)
+
+returns-2 : tie.Need-returns-2
+unfolding outcome verdict-of quad-test
+returns-2 c = simp (← c .before .before .signed-area .ensures, ← c .before .is-positive .ensures, c .if1 .left)
+
+pub check-quad-spec : {M : Type 1} → statement M
+check-quad-spec = tie.close (tie.spec signed-area-requires is-positive-requires returns returns-2)

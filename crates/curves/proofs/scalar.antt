@@ -1,0 +1,3 @@
+-- The laws of the scalars. Assumes nothing.
+pub mod Constants
+pub mod Laws

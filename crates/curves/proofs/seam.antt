@@ -1,0 +1,2 @@
+-- The laws of the seams. Assumes nothing.
+pub mod Laws

@@ -1,0 +1,12 @@
+// The geometry above the counts: the square root, the scalars and points that the curves go by, the curves, their seams, the patch between
+// them and its quads.
+mod boundary;
+mod check;
+mod crossing;
+mod curve;
+mod patch;
+mod point;
+mod quad;
+pub mod root;
+mod scalar;
+mod seam;

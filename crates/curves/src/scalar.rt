@@ -1,0 +1,96 @@
+// Rust's helpers on f64, bit for bit: `is_finite`, `abs`, `min`, `max`, `clamp(0.0, 1.0)`, and the tests that a length or an area is above
+// zero and that a parameter lies in 0..1.
+// specs/Scalar.antt says what each gives for a NaN and for zeros of either sign.
+ghost use mathlib.Core.Path.{_≡_};
+ghost use Rattle.curves.specs.Scalar.{is-finite, is-positive, float-abs, float-min, float-max, clamp-unit, in-unit};
+
+pub(crate) fn is_finite(x: f64) -> bool
+    ensures { λ r. ⌜ r ≡ is-finite x ⌝ }
+{
+    let infinity = f64::from_bits(0x7ff0_0000_0000_0000);
+    if x < infinity {
+        return -infinity < x;
+    }
+    false
+}
+
+// Finite and above zero.
+pub(crate) fn is_positive(x: f64) -> bool
+    ensures { λ r. ⌜ r ≡ is-positive x ⌝ }
+{
+    let finite = is_finite(x);
+    if finite {
+        if x <= 0.0 {
+            return false;
+        }
+        return true;
+    }
+    false
+}
+
+pub(crate) fn abs(x: f64) -> f64
+    ensures { λ r. ⌜ r ≡ float-abs x ⌝ }
+{
+    if x < 0.0 {
+        return -x;
+    }
+    // -0 too
+    if x == 0.0 {
+        return 0.0;
+    }
+    x
+}
+
+pub(crate) fn min(a: f64, b: f64) -> f64
+    ensures { λ r. ⌜ r ≡ float-min a b ⌝ }
+{
+    if b < a {
+        return b;
+    }
+    if a != a {
+        return b;
+    }
+    a
+}
+
+pub(crate) fn max(a: f64, b: f64) -> f64
+    ensures { λ r. ⌜ r ≡ float-max a b ⌝ }
+{
+    if a < b {
+        return b;
+    }
+    if a != a {
+        return b;
+    }
+    a
+}
+
+// `clamp(0.0, 1.0)`
+pub(crate) fn clamp_unit(x: f64) -> f64
+    ensures { λ r. ⌜ r ≡ clamp-unit x ⌝ }
+{
+    if x < 0.0 {
+        return 0.0;
+    }
+    if x > 1.0 {
+        return 1.0;
+    }
+    x
+}
+
+// Finite, and in 0..1 or at most 1e-9 outside.
+pub(crate) fn in_unit(x: f64) -> bool
+    ensures { λ r. ⌜ r ≡ in-unit x ⌝ }
+{
+    let finite = is_finite(x);
+    if finite {
+        if x < -1e-9 {
+            return false;
+        }
+        if x > 1.0 + 1e-9 {
+            return false;
+        }
+        return true;
+    }
+    false
+}
