@@ -1,0 +1,81 @@
+-- The tests of a loop by what their parts say. Assumes nothing.
+use mathlib.Core.Path.{_≡_, refl, sym, ap, _∙_}
+use mathlib.Core.Bool.{Bool, true, false, not, _&&_, _||_, cond}
+use mathlib.Core.List.{List}
+use Prim.Native.Nat.{ℕ, _+_, _-_, _*_, _/_, _%_, _<_, _≤_}
+use native.Mathlib.Omega.{arith}
+use lib.ListN.{length, getD}
+use lib.Dec.{leb, ltb, eqb}
+use lib.Ieee.{Float, nan, eq}
+use borrow.Author.Tests.{leb-true, lt-ltb, le-ltb, le-leb, lt-leb, eq-eqb, ne-eqb}
+use Rattle.counts.specs.Refusal.{Verdict, passed, refused, then-test, refuse-if}
+use Rattle.curves.specs.Curve.{point-count}
+use Rattle.mesh.specs.Loop.{same-point, closes, points-used, size-test, fours-test, loop-test}
+
+-- ---- 12
+
+module _ (used : ℕ) where
+  fours-by : (a b c : Bool) → eqb used 4 ≡ a → leb 8 used ≡ b → eqb (used % 4) 0 ≡ c → refuse-if (not (a || (b && c))) (refused 12 0 0) ≡ fours-test used
+  unfolding fours-test
+  fours-by a b c e f g = simp (e, f, g)
+
+  pub four-points : used ≡ 4 → passed ≡ fours-test used
+  four-points h = fours-by true (leb 8 used) (eqb (used % 4) 0) (eq-eqb used 4 h) refl refl
+
+  pub under-eight : (used ≡ 4 → ⊥) → used < 8 → refused 12 0 0 ≡ fours-test used
+  under-eight n h = fours-by false false (eqb (used % 4) 0) (ne-eqb used 4 n) (lt-leb 8 used h) refl
+
+  pub in-fours : (used ≡ 4 → ⊥) → 8 ≤ used → used % 4 ≡ 0 → passed ≡ fours-test used
+  in-fours n h z = fours-by false true true (ne-eqb used 4 n) (le-leb 8 used h) (eq-eqb (used % 4) 0 z)
+
+  pub not-in-fours : (used ≡ 4 → ⊥) → 8 ≤ used → (used % 4 ≡ 0 → ⊥) → refused 12 0 0 ≡ fours-test used
+  not-in-fours n h z = fours-by false true false (ne-eqb used 4 n) (le-leb 8 used h) (ne-eqb (used % 4) 0 z)
+
+module _ (points : List Float) where
+  -- ---- the closing point
+
+  abbrev last : ℕ
+  last = point-count points - 1
+
+  closes-by : (a b c : Bool) → leb 5 (point-count points) ≡ a → eq (getD points 0 nan) (getD points (2 * last) nan) ≡ b → eq (getD points 1 nan) (getD points (2 * last + 1) nan) ≡ c
+      → (a && (b && c)) ≡ closes points
+  unfolding closes
+  closes-by a b c e f g = simp (e, f, g)
+
+  pub under-five : point-count points < 5 → false ≡ closes points
+  under-five h = closes-by false _ _ (lt-leb 5 (point-count points) h) refl refl
+
+  pub same-x : 5 ≤ point-count points → eq (getD points 0 nan) (getD points (2 * last) nan) ≡ true → eq (getD points 1 nan) (getD points (2 * last + 1) nan) ≡ closes points
+  same-x h e = closes-by true true _ (le-leb 5 (point-count points) h) e refl
+
+  pub other-x : 5 ≤ point-count points → eq (getD points 0 nan) (getD points (2 * last) nan) ≡ false → false ≡ closes points
+  other-x h e = closes-by true false _ (le-leb 5 (point-count points) h) e refl
+
+  -- only a loop of at least 5 points closes
+  pub closes-many : closes points ≡ true → 5 ≤ point-count points
+  unfolding closes
+  closes-many e = leb-true 5 (point-count points) (left (leb 5 (point-count points)) (same-point points 0 last) e)
+    where
+      left : (a b : Bool) → (a && b) ≡ true → a ≡ true
+      left true b e = refl
+      left false b e = e
+
+  pub used-by : (r b : Bool) → r ≡ closes points → r ≡ b → cond b last (point-count points) ≡ points-used points
+  unfolding points-used
+  used-by r b e f = ap (λ (x : Bool). cond x last (point-count points)) (sym f ∙ e)
+
+  -- ---- 1, then 12
+
+  size-by : (a b : Bool) → ltb 4096 (point-count points) ≡ a → eqb (length points % 2) 0 ≡ b
+      → then-test (refuse-if (a || not b) (refused 1 0 0)) (fours-test (points-used points)) ≡ loop-test points
+  unfolding size-test loop-test
+  size-by a b e f = simp (e, f)
+
+  pub too-many : 4096 < point-count points → refused 1 0 0 ≡ loop-test points
+  too-many h = size-by true _ (lt-ltb 4096 (point-count points) h) refl
+
+  pub odd-values : point-count points ≤ 4096 → (length points % 2 ≡ 0 → ⊥) → refused 1 0 0 ≡ loop-test points
+  odd-values h n = size-by false false (le-ltb 4096 (point-count points) h) (ne-eqb (length points % 2) 0 n)
+
+  pub whole-points : point-count points ≤ 4096 → length points % 2 ≡ 0 → fours-test (points-used points) ≡ loop-test points
+  whole-points h e = size-by false true (le-ltb 4096 (point-count points) h) (eq-eqb (length points % 2) 0 e)
