@@ -1,9 +1,12 @@
 // A tile's boundary given as one closed loop of points, counter-clockwise, lent as x, y in turn: its test (1 and 12), and the four
 // curves that it falls into. The natural loop of 8 points or more repeats its first point at the end; that one is dropped.
 ghost use mathlib.Core.Path.{_≡_};
-ghost use Prim.Native.Nat.{_≤_};
+ghost use Prim.Native.Nat.{_+_, _*_, _<_, _≤_};
+ghost use lib.ListN.{length};
 ghost use Rattle.counts.specs.Refusal.{outcome};
-ghost use Rattle.mesh.specs.Loop.{closes, points-used, fours-test, loop-test};
+ghost use Rattle.curves.specs.Curve.{point-count};
+ghost use Rattle.curves.specs.Lists.{splice};
+ghost use Rattle.mesh.specs.Loop.{closes, points-used, fours-test, loop-test, points-from, piece};
 use counts::refusal::Check;
 use counts::refusal::Refusal;
 
@@ -71,4 +74,39 @@ pub(crate) fn check_loop(points: &[f64]) -> Check
     }
     let used = points_used(points);
     check_fours(used)
+}
+
+// Writes the n points from the point k on to the buffer, its values from the index `from` on.
+fn copy_points(points: &[f64], k: usize, n: usize, out: &mut [f64], from: usize)
+    requires { ⌜ (2 * k + 2 * n ≤ length (now points)) × (from + 2 * n ≤ length (now out)) ⌝ }
+    ensures { λ r. ⌜ now (out .exit) ≡ splice (now (out .entry)) from (points-from (now (points .entry)) k n) ⌝ }
+{
+    let start = 2 * k;
+    let count = 2 * n;
+    let mut i = 0usize;
+    while i < count {
+        let value = points[start + i];
+        let to = from + i;
+        out[to] = value;
+        i += 1;
+    }
+}
+
+// Writes the points of the curve of side k, bottom 0 to left 3, to the start of the buffer, and returns how many values these are.
+pub(crate) fn curve_of(points: &[f64], k: usize, out: &mut [f64]) -> usize
+    requires { ⌜ (k < 4) × (point-count (now points) ≤ 4096) × (2048 ≤ length (now out)) ⌝ }
+    ensures { λ r. ⌜ r ≡ length (piece (now (points .entry)) k) ⌝ }
+    ensures { λ r. ⌜ now (out .exit) ≡ splice (now (out .entry)) 0 (piece (now (points .entry)) k) ⌝ }
+{
+    let used = points_used(points);
+    if used == 4 {
+        let next = (k + 1) % 4;
+        copy_points(points, k, 1, out, 0);
+        copy_points(points, next, 1, out, 2);
+        return 4;
+    }
+    let m = used / 4;
+    let start = k * m;
+    copy_points(points, start, m, out, 0);
+    2 * m
 }
