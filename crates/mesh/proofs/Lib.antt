@@ -1,0 +1,1 @@
+-- The laws that belong to no one module of the code: none so far. Assumes nothing.

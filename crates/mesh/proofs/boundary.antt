@@ -1,0 +1,2 @@
+-- The laws of loops. Assumes nothing.
+pub mod Laws

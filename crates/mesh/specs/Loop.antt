@@ -1,0 +1,57 @@
+-- 000's `BoundaryCurves::from_loop`: a closed loop of points, "lent as x, y in turn", what is refused of it, and the four curves that it falls into. Definitions only.
+use mathlib.Core.Bool.{Bool, not, _&&_, _||_, cond}
+use mathlib.Core.List.{List, _++_}
+use Prim.Native.Nat.{ℕ, _+_, _-_, _*_, _/_, _%_}
+use lib.ListN.{length, getD, take, drop}
+use lib.Dec.{leb, ltb, eqb}
+use lib.Ieee.{Float, nan, eq}
+use Rattle.counts.specs.Refusal.{Verdict, refused, then-test, refuse-if}
+use Rattle.curves.specs.Curve.{point-count}
+
+-- ---- the points used
+
+-- both coordinates equal as f64: -0 equals +0, and a NaN equals nothing
+abbrev pub same-point : List Float → ℕ → ℕ → Bool
+same-point points i j = eq (getD points (2 * i) nan) (getD points (2 * j) nan) && eq (getD points (2 * i + 1) nan) (getD points (2 * j + 1) nan)
+
+-- "a last point equal to the first (..) (from 5 points up)"
+unfoldable pub closes : List Float → Bool
+unfolding eq
+closes points = leb 5 (point-count points) && same-point points 0 (point-count points - 1)
+
+-- how many points there are, "once a last point equal to the first is dropped"
+unfoldable pub points-used : List Float → ℕ
+unfolding closes
+points-used points = cond (closes points) (point-count points - 1) (point-count points)
+
+-- ---- what is refused: "1, 12"
+
+-- "a limit above exceeded, or a broken record or list": "at most 4,096 points", and "an odd number of values is broken"
+unfoldable pub size-test : List Float → Verdict
+size-test points = refuse-if (ltb 4096 (point-count points) || not (eqb (length points % 2) 0)) (refused 1 0 0)
+
+-- "loop not 4 points, nor 8 or more in fours"
+unfoldable pub fours-test : ℕ → Verdict
+fours-test used = refuse-if (not (eqb used 4 || (leb 8 used && eqb (used % 4) 0))) (refused 12 0 0)
+
+unfoldable pub loop-test : List Float → Verdict
+unfolding points-used size-test fours-test
+loop-test points = then-test (size-test points) (fours-test (points-used points))
+
+-- ---- the four curves of a loop that is not refused, by the numbers of their sides: bottom 0, right 1, top 2, left 3
+
+-- n points from the point k on
+abbrev pub points-from : List Float → ℕ → ℕ → List Float
+points-from points k n = take (2 * n) (drop (2 * k) points)
+
+-- "only a 4-point loop shares its corners": its curve k goes from the corner k to the next one, and after the last corner comes the first
+unfoldable pub corner-pair : List Float → ℕ → List Float
+corner-pair points k = points-from points k 1 ++ points-from points ((k + 1) % 4) 1
+
+-- of 8 points or more each curve has a quarter of its own
+unfoldable pub quarter : List Float → ℕ → ℕ → List Float
+quarter points used k = points-from points (k * (used / 4)) (used / 4)
+
+unfoldable pub piece : List Float → ℕ → List Float
+unfolding points-used corner-pair quarter
+piece points k = cond (eqb (points-used points) 4) (corner-pair points k) (quarter points (points-used points) k)
