@@ -1,4 +1,4 @@
--- The tests of a loop by what their parts say. Assumes nothing.
+-- The tests of a loop by what their parts say, and its pieces as they are copied to a buffer. Assumes nothing.
 use mathlib.Core.Path.{_≡_, refl, sym, ap, _∙_}
 use mathlib.Core.Bool.{Bool, true, false, not, _&&_, _||_, cond}
 use mathlib.Core.List.{List, [], _∷_, _++_, append-nil}
