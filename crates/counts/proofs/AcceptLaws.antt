@@ -1,4 +1,4 @@
--- Laws of the tests: chains of tests, and each test turn by turn, as the code makes it. Each turn law says what is left of a test once
+-- Laws of the tests, turn by turn, as the code makes them. Each turn law says what is left of a test once
 -- one more entry, side or region has been looked at. Assumes nothing.
 use mathlib.Core.Path.{_≡_, refl, sym, ap, subst, _∙_}
 use mathlib.Core.Bool.{Bool, true, false, true≢false, not, _&&_, _||_, cond}
@@ -18,82 +18,8 @@ use Rattle.counts.specs.Lists.{member}
 use Rattle.counts.specs.Region.{places}
 use Rattle.counts.specs.Refusal.{Verdict, passed, refused, verdict-of, outcome, is-passed, then-test, refuse-if}
 use Rattle.counts.specs.Accept.{sides-fit, records-whole, limits-test, first-bad, ideal-ok, shared-edge, side-test, pair-test, region-test, pairs-test}
-use Rattle.counts.specs.declared.refusal.Check.{Check}
-use Rattle.counts.specs.declared.refusal.Check.the-variants.{Passed, Refused}
-use Rattle.counts.specs.declared.refusal.Refusal.{Refusal}
-use Rattle.counts.specs.declared.refusal.Refusal.the-variants as because
+use Rattle.counts.proofs.RefusalLaws.{then-test-assoc}
 use Rattle.counts.proofs.Turns.{drop-at}
-
--- ---- chains
-
--- no refusal has the number 0
-pub refusal-number : (r : Refusal) → is-passed (verdict-of r) ≡ false
-unfolding verdict-of
-refusal-number because.Malformed = refl
-refusal-number (because.BadIdeal e) = refl
-refusal-number (because.EdgeOutOfRange r s) = refl
-refusal-number (because.EdgeRepeated r s) = refl
-refusal-number (because.EdgeOnBothSides r s) = refl
-refusal-number (because.EdgeOverused e) = refl
-refusal-number because.TooManyMoves = refl
-refusal-number because.LengthsDiffer = refl
-refusal-number (because.CountTooLarge e) = refl
-refusal-number because.LimitTooLarge = refl
-refusal-number because.OutputTooShort = refl
-refusal-number because.BadLoop = refl
-refusal-number (because.CurveTooShort c) = refl
-refusal-number (because.PointNotFinite c) = refl
-refusal-number (because.BadCurveLength c) = refl
-refusal-number (because.CurvesApart c) = refl
-refusal-number because.CornersClockwise = refl
-refusal-number (because.SeamTooShort s) = refl
-refusal-number (because.SeamOutOfRange s i) = refl
-refusal-number (because.SeamFalling s i) = refl
-refusal-number (because.SeamEnds s) = refl
-refusal-number (because.SeamsUnequal p) = refl
-refusal-number (because.LinesParallel i j) = refl
-refusal-number (because.CrossingOutside i j) = refl
-refusal-number (because.BadQuadArea i j) = refl
-refusal-number because.NoCells = refl
-refusal-number (because.BreaksMismatch s) = refl
-refusal-number because.RootUndefined = refl
-
--- what a test that refuses says
-pub was-refused : {c : Check} {r : Refusal} {v : Verdict} → c ≡ Refused r → outcome c ≡ v → (verdict-of r ≡ v) × (is-passed v ≡ false)
-unfolding outcome
-was-refused {c} {r} {v} e o =
-    let q : verdict-of r ≡ v = sym (ap outcome e) ∙ o in
-    (q, sym (ap is-passed q) ∙ refusal-number r)
-
--- a test that refuses is the whole chain
-pub chain-stops : {c : Check} {r : Refusal} {v : Verdict} (w : Verdict) → c ≡ Refused r → outcome c ≡ v → outcome (Refused r) ≡ then-test v w
-unfolding outcome
-chain-stops {c} {r} {v} w e o = let q = was-refused e o in q .0 ∙ ap (λ (t : Bool). cond t w v) (sym (q .1))
-
--- a test that is passed leaves the rest of the chain
-pub chain-goes-on : {c : Check} {v w : Verdict} → c ≡ Passed → outcome c ≡ v → w ≡ then-test v w
-unfolding outcome
-chain-goes-on {c} {v} {w} e o = let q : passed ≡ v = sym (ap outcome e) ∙ o in ap (λ (u : Verdict). then-test u w) q
-
--- what a test that is passed says
-pub was-passed : {c : Check} {v : Verdict} → c ≡ Passed → outcome c ≡ v → is-passed v ≡ true
-unfolding outcome
-was-passed e o = ap is-passed (sym o ∙ ap outcome e)
-
-pub then-test-assoc : (u v w : Verdict) → then-test (then-test u v) w ≡ then-test u (then-test v w)
-then-test-assoc u v w = go (is-passed u) (λ e. e)
-  where
-    go : (b : Bool) → (b ≡ false → is-passed u ≡ false) → cond (is-passed (cond b v u)) w (cond b v u) ≡ cond b (then-test v w) u
-    go true h = refl
-    go false h = ap (λ (t : Bool). cond t w u) (h refl)
-
--- a chain that is passed: so is each test
-pub then-passed : (u v : Verdict) → is-passed (then-test u v) ≡ true → (is-passed u ≡ true) × (is-passed v ≡ true)
-then-passed u v h = go (is-passed u) (λ e. e) h
-  where
-    go : (b : Bool) → (b ≡ false → is-passed u ≡ false) → is-passed (cond b v u) ≡ true → (b ≡ true) × (is-passed v ≡ true)
-    go true f t = (refl, t)
-    go false f t = absurd (true≢false (sym t ∙ f refl))
 
 -- ---- the first bad entry
 module _ {A : Type 0} (ok : A → Bool) (number : ℕ) (xs : List A) (d : A) (i : ℕ) where

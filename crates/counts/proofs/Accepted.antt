@@ -12,7 +12,7 @@ use lib.Dec.{T, ltb, eqb, not-T, ltb→lt, nltb→le}
 use Rattle.counts.specs.Lists.{In, member, Distinct, any}
 use Rattle.counts.specs.Refusal.{is-passed, refused, then-test, refuse-if}
 use Rattle.counts.specs.Region.{Constraint, constraint, constraints, graph, holds, incidence, no-sides, record-size, region-count, side}
-use Rattle.counts.specs.Accept.{accepted, limits-test, regions-test, pairs-test, pair-test, side-test, overused-test, shared-edge}
+use Rattle.counts.specs.Accept.{accepted, limits-test, regions-test, pairs-test, region-test, pair-test, side-test, overused-test, shared-edge}
 use Rattle.counts.proofs.BoolLaws.{clash, or-split, or-left, or-right, eq→eqb}
 use Rattle.counts.proofs.Complete.{Thin}
 use Rattle.counts.proofs.ListLaws.{member→in, holds→incidence}
@@ -81,19 +81,13 @@ pub pairs-ok : (p n r m : ℕ) (l : List ℕ) → T (is-passed (pairs-test p n r
 unfolding pairs-test constraints
 pairs-ok p n r zero l t i = no-sides-ok n
 pairs-ok p n r (suc m) l t zero =
-    pair-ok n r 0 2 (side p l 0) (side p l 2) (then-left (pair-test n r 0 2 (side p l 0) (side p l 2)) (pair-test n r 1 3 (side p l 1) (side p l 3)) (first-region p n r m l t))
-  where
-    first-region : (p n r m : ℕ) (l : List ℕ)
-        → T (is-passed (then-test (then-test (pair-test n r 0 2 (side p l 0) (side p l 2)) (pair-test n r 1 3 (side p l 1) (side p l 3))) (pairs-test p n (suc r) m (drop (record-size p) l))))
-        → T (is-passed (then-test (pair-test n r 0 2 (side p l 0) (side p l 2)) (pair-test n r 1 3 (side p l 1) (side p l 3))))
-    first-region p n r m l t = then-left (then-test (pair-test n r 0 2 (side p l 0) (side p l 2)) (pair-test n r 1 3 (side p l 1) (side p l 3))) (pairs-test p n (suc r) m (drop (record-size p) l)) t
+    pair-ok n r 0 2 (side p l 0) (side p l 2)
+    (then-left (pair-test n r 0 2 (side p l 0) (side p l 2)) (pair-test n r 1 3 (side p l 1) (side p l 3)) (then-left (region-test p n r l) (pairs-test p n (suc r) m (drop (record-size p) l)) t))
 pairs-ok p n r (suc m) l t (suc zero) =
     pair-ok n r 1 3 (side p l 1) (side p l 3)
-    (then-right (pair-test n r 0 2 (side p l 0) (side p l 2)) (pair-test n r 1 3 (side p l 1) (side p l 3))
-    (then-left (then-test (pair-test n r 0 2 (side p l 0) (side p l 2)) (pair-test n r 1 3 (side p l 1) (side p l 3))) (pairs-test p n (suc r) m (drop (record-size p) l)) t))
+    (then-right (pair-test n r 0 2 (side p l 0) (side p l 2)) (pair-test n r 1 3 (side p l 1) (side p l 3)) (then-left (region-test p n r l) (pairs-test p n (suc r) m (drop (record-size p) l)) t))
 pairs-ok p n r (suc m) l t (suc (suc i)) =
-    pairs-ok p n (suc r) m (drop (record-size p) l)
-    (then-right (then-test (pair-test n r 0 2 (side p l 0) (side p l 2)) (pair-test n r 1 3 (side p l 1) (side p l 3))) (pairs-test p n (suc r) m (drop (record-size p) l)) t) i
+    pairs-ok p n (suc r) m (drop (record-size p) l) (then-right (region-test p n r l) (pairs-test p n (suc r) m (drop (record-size p) l)) t) i
 
 -- ---- no edge in three constraints
 

@@ -16,7 +16,7 @@ use Rattle.counts.specs.Accept.{limits-test, counts-test, count-ok, firs
 use Rattle.counts.specs.Solver.{Round, round-of, round-by, round-refused, round-with, round, round-test, round-test-head, Solve, solve-of, solve-part, with-rest, solve-refused, solve-with, solve, solve-test, solve-test-head, max-limit}
 use Rattle.counts.specs.Tables.{Tables, the-graph}
 use Rattle.counts.specs.Graph.{Built}
-use Rattle.counts.specs.RoundContract.{Tested, solved-of}
+use Rattle.counts.specs.RoundContract.{RoundInput, solved-of}
 use Rattle.counts.specs.declared.answer.RoundAnswer.{RoundAnswer}
 use Rattle.counts.specs.declared.answer.RoundAnswer.the-variants as round-answer
 use Rattle.counts.specs.declared.answer.SolveAnswer.{SolveAnswer}
@@ -26,9 +26,8 @@ use Rattle.counts.specs.declared.refusal.Check.the-variants.{Passed, Ref
 use Rattle.counts.specs.declared.refusal.Refusal.{Refusal}
 use Rattle.counts.specs.declared.refusal.Refusal.the-variants.{TooManyMoves}
 use Rattle.counts.specs.declared.solve.MovesMade.{MovesMade}
-use Rattle.counts.proofs.AcceptLaws.{was-refused, was-passed}
 use Rattle.counts.proofs.BoolLaws.{true-T}
-use Rattle.counts.proofs.RefusalLaws.{then-both}
+use Rattle.counts.proofs.RefusalLaws.{then-both, was-refused, was-passed}
 use Rattle.counts.proofs.Solving.{getD-zeros}
 use Rattle.counts.proofs.SolverLaws.{round-test-chain, solve-test-chain, HeadPassed, round-head-passed, solve-head-passed}
 
@@ -116,7 +115,7 @@ module _ (regions : List ℕ) (ideals : List Float) (counts : List ℕ) (limit :
       let h = round-head-passed regions ideals counts limit (was-passed e o) .0 in (true-T _ (h .limits), true-T _ (h .pairs))
 
   pub round-tested : {c d : Check} → c ≡ Passed → outcome c ≡ round-test-head places regions ideals counts limit
-      → d ≡ Passed → outcome d ≡ overused-test (graph places regions) 0 (length ideals) → Tested regions counts ideals
+      → d ≡ Passed → outcome d ≡ overused-test (graph places regions) 0 (length ideals) → RoundInput regions counts ideals
   round-tested e o f p =
       let h = round-head-passed regions ideals counts limit (was-passed e o) in
       record {
@@ -201,7 +200,7 @@ module _ (regions : List ℕ) (ideals : List Float) (limit : ℕ) (counts zeros 
   zeros-long : length zeros ≡ length counts
   zeros-long = ap length cleared ∙ length-replicate (length counts) 0
 
-  pub zeros-tested : length counts ≤ 256 → T (is-passed (regions-test places (length counts) regions)) → Tested regions zeros ideals × (zeros ≡ replicate (length zeros) 0)
+  pub zeros-tested : length counts ≤ 256 → T (is-passed (regions-test places (length counts) regions)) → RoundInput regions zeros ideals × (zeros ≡ replicate (length zeros) 0)
   zeros-tested f t = (
     record {
       as-many = as-many ∙ sym zeros-long;

@@ -1,4 +1,5 @@
--- `find`: what it finds is a reading that costs less than -E; where it finds nothing and no search was cut, no reading costs less than -2E. Assumes nothing.
+-- `find-augmentation`: what it finds is a reading that costs less than -E; where it finds nothing and no search was cut, no reading costs
+-- less than -2E. Assumes nothing.
 use mathlib.Core.Logic.{_≢_, _⊎_, inl, inr}
 use mathlib.Core.Path.{_≡_, refl, sym, ap, subst, _∙_}
 use mathlib.Core.Bool.{Bool, true, false, not, _&&_, _||_, cond, Bool·beq}

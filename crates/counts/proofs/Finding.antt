@@ -18,7 +18,7 @@ use Rattle.counts.specs.Cost.{CostModel, by-ideals, Entries}
 use Rattle.counts.specs.Search.{State, run}
 use Rattle.counts.specs.Round.{Found, weigh, starts, nothing-found, try-start, find-augmentation, find-move}
 use Rattle.counts.specs.Tables.{the-graph, cost-in, allowed-in}
-use Rattle.counts.specs.RoundContract.{Priced, CanApply, Tested, Sized, Remembered}
+use Rattle.counts.specs.RoundContract.{Priced, CanApply, RoundInput, TableSizes, Remembered}
 use Rattle.counts.proofs.Accepted.{Accepted, regions-ok}
 use Rattle.counts.proofs.Find.{Best, none, some, starts-below}
 use Rattle.counts.proofs.ListLaws.{every-in}
@@ -101,7 +101,7 @@ not-known zero c e = let z : T false = subst T (sym e) tt in z
 not-known (suc n) zero e = let z : T false = subst T (sym e) tt in z
 not-known (suc n) (suc c) e = not-known n c e
 
-pub nothing-known : (regions : List ℕ) (costs : List Float) (may : List Bool) (limit : ℕ) (costs' : List Float) (may' : List Bool) (kept : List Float) (cut known known' : List Bool) → Sized costs' may' kept cut known → known' ≡ replicate 512 false
+pub nothing-known : (regions : List ℕ) (costs : List Float) (may : List Bool) (limit : ℕ) (costs' : List Float) (may' : List Bool) (kept : List Float) (cut known known' : List Bool) → TableSizes costs' may' kept cut known → known' ≡ replicate 512 false
     → Remembered regions costs may limit kept cut known'
 nothing-known regions costs may limit costs' may' kept cut known known' s e =
     record {
@@ -111,5 +111,5 @@ nothing-known regions costs may limit costs' may' kept cut known known' s e =
       right = λ c h k. absurd (not-known 512 c (sym (ap (λ (l : List Bool). getD l c false) e) ∙ k));
     }
 
-pub tested-ok : (regions counts : List ℕ) (ideals : List Float) → Tested regions counts ideals → Accepted (length counts) (the-graph regions)
+pub tested-ok : (regions counts : List ℕ) (ideals : List Float) → RoundInput regions counts ideals → Accepted (length counts) (the-graph regions)
 tested-ok regions counts ideals t = regions-ok places (length counts) regions (t .regions-pass)

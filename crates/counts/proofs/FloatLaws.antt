@@ -1,4 +1,6 @@
--- The four facts about f64 that the search rests on. Assumes nothing.
+-- The four facts about f64 that the search rests on, E being 1e-12: what is below something is no NaN (real-of-lt); what is below (b - E) is
+-- below -E where b is (below-again); what is below -2E is below (b - E) where b is not below -E (far-below), and below -E (two-eps-below).
+-- Assumes nothing.
 use mathlib.Core.Path.{_≡_, refl, sym, ap, subst, _∙_}
 use mathlib.Core.Bool.{Bool, true, false, not, _&&_, _||_, cond, Bool·beq}
 use mathlib.Core.Logic.{_⊎_, inl, inr}
@@ -15,7 +17,6 @@ use lib.Ieee.Positive.{first-pos}
 use Rattle.counts.specs.Search.{eps, two-eps}
 use Rattle.counts.proofs.BoolLaws.{or-split}
 
--- 2e-12
 pub real-of-lt : (c d : Float) → T (lt c d) → T (not (isNan c))
 unfolding lt isNan
 real-of-lt nan d t = absurd t

@@ -1,4 +1,5 @@
--- Facts on the lists and tests of Basics and Graph. Assumes nothing.
+-- Laws of the lists and tests of specs/Lists, Region, Move and Search: members, filtered and selected lists, incidences, marks.
+-- Assumes nothing.
 use mathlib.Core.Logic.{_≢_}
 use mathlib.Core.Path.{_≡_, refl, sym, ap, subst, _∙_}
 use mathlib.Core.Bool.{Bool, true, false, not, _&&_, _||_, cond, Bool·beq}
@@ -18,7 +19,6 @@ use Rattle.counts.specs.Region.{Constraint, constraint, no-sides, holds,
 use Rattle.counts.specs.Search.{signed, partners, differs, is-used, free}
 use Rattle.counts.proofs.BoolLaws.{clash, eq→eqb, ne→differs, or-split, or-left, or-right}
 
--- ---- tests
 -- ---- membership
 pub member→in : (x : ℕ) (l : List ℕ) → T (member x l) → In x l
 member→in x [] t = t

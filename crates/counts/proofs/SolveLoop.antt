@@ -18,7 +18,7 @@ use Rattle.counts.specs.Round.{Found, find-move, Solved, solve-by, solve
 use Rattle.counts.specs.Accept.{regions-test}
 use Rattle.counts.specs.Solver.{made, round-of, round-made, round-by}
 use Rattle.counts.specs.Tables.{the-graph, path-of}
-use Rattle.counts.specs.RoundContract.{Buffers, Sized, Tested, CanApply, MoveFound, found-of, solved-of}
+use Rattle.counts.specs.RoundContract.{Buffers, TableSizes, RoundInput, CanApply, MoveFound, found-of, solved-of}
 use Rattle.counts.specs.declared.answer.RoundAnswer.the-variants.{Moved, Idle}
 use Rattle.counts.specs.declared.augment.FoundMove.{FoundMove}
 use Rattle.counts.proofs.Applying.{apply-length}
@@ -73,18 +73,18 @@ abbrev round-at : List ℕ → List Float → List ℕ → ℕ → Found
 round-at regions ideals counts limit = find-move (the-graph regions) (by-ideals ideals) counts limit
 
 -- what the loop keeps: the rest of the solve from here is the whole solve
-pub record Solving (regions : List ℕ) (ideals : List Float) (limit : ℕ) (start counts : List ℕ) (moves : ℕ) (costs : List Float) (may used : List Bool) (path best : List ℕ) (kept : List Float) (cut known : List Bool) : Type 0 where
+pub record Progress (regions : List ℕ) (ideals : List Float) (limit : ℕ) (start counts : List ℕ) (moves : ℕ) (costs : List Float) (may used : List Bool) (path best : List ℕ) (kept : List Float) (cut known : List Bool) : Type 0 where
   pub rest : solve-from (the-graph regions) (by-ideals ideals) limit (max-moves - moves) moves counts
       ≡ solve-from (the-graph regions) (by-ideals ideals) limit max-moves 0 start
   pub allowed-moves : moves ≤ max-moves
   pub bounded : (x : ℕ) → getD counts x 0 ≤ moves
   pub as-long : length counts ≡ length start
   pub buffers : Buffers used path best
-  pub sized : Sized costs may kept cut known
+  pub sized : TableSizes costs may kept cut known
 
 module _ (regions : List ℕ) (ideals : List Float) (limit : ℕ) (start counts : List ℕ) (moves : ℕ) (costs : List Float) (may used : List Bool) (path best : List ℕ) (kept : List Float) (cut known : List Bool)
-    (t : Tested regions start ideals) (s : Solving regions ideals limit start counts moves costs may used path best kept cut known) where
-  pub still-tested : Tested regions counts ideals
+    (t : RoundInput regions start ideals) (s : Progress regions ideals limit start counts moves costs may used path best kept cut known) where
+  pub still-tested : RoundInput regions counts ideals
   still-tested =
       record {
         as-many = t .as-many ∙ sym (s .as-long);
@@ -149,8 +149,8 @@ module _ (regions : List ℕ) (ideals : List Float) (limit : ℕ) (start counts 
 
   pub solve-goes-on : (z : Change) (l : List Change) → round-at regions ideals counts limit .best ≡ z ∷ l → moves ≢ max-moves
       → (after : List ℕ) (costs' : List Float) (may' used' : List Bool) (path' best' : List ℕ) (kept' : List Float) (cut' known' : List Bool)
-      → after ≡ apply-changes (round-at regions ideals counts limit .best) counts → Buffers used' path' best' → Sized costs' may' kept' cut' known'
-      → Solving regions ideals limit start after (moves + 1) costs' may' used' path' best' kept' cut' known'
+      → after ≡ apply-changes (round-at regions ideals counts limit .best) counts → Buffers used' path' best' → TableSizes costs' may' kept' cut' known'
+      → Progress regions ideals limit start after (moves + 1) costs' may' used' path' best' kept' cut' known'
   solve-goes-on z l e n after costs' may' used' path' best' kept' cut' known' a b z' =
       let h = s .allowed-moves in
       let q : suc (max-moves - (moves + 1)) ≡ max-moves - moves = omega arith in
@@ -169,8 +169,8 @@ module _ (regions : List ℕ) (ideals : List Float) (limit : ℕ) (start counts 
       }
 
 pub solving-starts : (regions : List ℕ) (ideals : List Float) (limit : ℕ) (start : List ℕ) (costs : List Float) (may used : List Bool) (path best : List ℕ) (kept : List Float) (cut known : List Bool)
-    → start ≡ replicate (length start) 0 → Buffers used path best → Sized costs may kept cut known
-    → Solving regions ideals limit start start 0 costs may used path best kept cut known
+    → start ≡ replicate (length start) 0 → Buffers used path best → TableSizes costs may kept cut known
+    → Progress regions ideals limit start start 0 costs may used path best kept cut known
 solving-starts regions ideals limit start costs may used path best kept cut known e b z =
     record {
       rest = refl;
@@ -183,7 +183,7 @@ solving-starts regions ideals limit start costs may used path best kept cut know
 
 -- ---- the move found, handed to apply_changes
 
-pub move-can : (regions : List ℕ) (ideals : List Float) (counts : List ℕ) (limit : ℕ) (r : FoundMove) (best : List ℕ) (len : ℕ) → Tested regions counts ideals
+pub move-can : (regions : List ℕ) (ideals : List Float) (counts : List ℕ) (limit : ℕ) (r : FoundMove) (best : List ℕ) (len : ℕ) → RoundInput regions counts ideals
     → found-of r best ≡ round-at regions ideals counts limit → len ≡ r .len → r .len ≤ 257 → length best ≡ 257
     → CanApply counts (path-of len best) × (len ≤ 257) × (length best ≡ 257)
 move-can regions ideals counts limit r best len t is same h l = (

@@ -21,7 +21,8 @@ use Rattle.counts.specs.declared.measure.SideSum.the-variants as side-to
 use Rattle.counts.specs.declared.refusal.Check.{Check}
 use Rattle.counts.specs.declared.refusal.Check.the-variants.{Passed, Refused}
 use Rattle.counts.specs.declared.refusal.Refusal.{Refusal}
-use Rattle.counts.proofs.AcceptLaws.{limits-passed, was-refused, was-passed, then-passed, then-test-assoc, count-down, next-record}
+use Rattle.counts.proofs.AcceptLaws.{limits-passed, count-down, next-record}
+use Rattle.counts.proofs.RefusalLaws.{was-refused, was-passed, then-passed, then-test-assoc}
 
 -- ---- round and solve: the code makes 6 on its tables, after the rest
 pub round-test-chain : (p : ℕ) (regions : List ℕ) (ideals : List Float) (counts : List ℕ) (limit : ℕ) → round-test p regions ideals counts limit ≡ then-test (round-test-head p regions ideals counts limit) (overused-test (graph p regions) 0 (length ideals))

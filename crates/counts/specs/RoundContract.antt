@@ -123,14 +123,14 @@ pub record CanApply (counts : List ℕ) (r : List Change) : Type 0 where
   pub small : (x : ℕ) → getD counts x 0 ≤ 1000000
 
 -- the input of a round that passed its tests: as many ideals as counts, no count too large, regions accepted
-pub record Tested (regions counts : List ℕ) (ideals : List Float) : Type 0 where
+pub record RoundInput (regions counts : List ℕ) (ideals : List Float) : Type 0 where
   pub as-many : length ideals ≡ length counts
   pub few : length counts ≤ 256
   pub small : (x : ℕ) → getD counts x 0 ≤ 1000000
   pub regions-pass : T (is-passed (regions-test places (length counts) regions))
 
 -- buffers and tables that hold nothing yet worth knowing
-pub record Sized (costs : List Float) (may : List Bool) (kept : List Float) (cut known : List Bool) : Type 0 where
+pub record TableSizes (costs : List Float) (may : List Bool) (kept : List Float) (cut known : List Bool) : Type 0 where
   pub costs-long : length costs ≡ 512
   pub may-long : length may ≡ 512
   pub kept-long : length kept ≡ 512
@@ -141,7 +141,7 @@ pub record MoveFound (regions : List ℕ) (ideals : List Float) (counts : List �
   pub answer : found-of r best ≡ find-move (the-graph regions) (by-ideals ideals) counts limit
   pub len-fits : r .len ≤ 257
   pub buffers : Buffers used path best
-  pub sized : Sized costs may kept cut known
+  pub sized : TableSizes costs may kept cut known
 
 -- a solve's moves, with the counts that it leaves
 abbrev pub solved-of : MovesMade → List ℕ → Solved

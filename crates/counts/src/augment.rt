@@ -13,7 +13,7 @@ ghost use lib.ListN.{length, getD, replicate};
 ghost use Rattle.counts.specs.Move.{changed, apply-changes as changed-counts};
 ghost use Rattle.counts.specs.Round.{improves as improves-on, find-augmentation as found-by};
 ghost use Rattle.counts.specs.Tables.{Tables, the-graph, cost-in, allowed-in, path-of};
-ghost use Rattle.counts.specs.RoundContract.{Buffers, SearchedFrom, Remembered, Recalled, AllKnown, FoundIn, Tested, Sized, MoveFound, CanApply, start-at, weighed as weighed-of, chosen, found-of};
+ghost use Rattle.counts.specs.RoundContract.{Buffers, SearchedFrom, Remembered, Recalled, AllKnown, FoundIn, RoundInput, TableSizes, MoveFound, CanApply, start-at, weighed as weighed-of, chosen, found-of};
 
 const NO_START: usize = 512;
 
@@ -227,7 +227,7 @@ fn forget(known: &mut [bool; 512])
 }
 
 // The best move over all starts of n edges, its changes in `best`. The winner is searched once more, for its changes.
-pub fn find_augmentation(
+pub(crate) fn find_augmentation(
     regions: &[u16],
     incident: &[u16; 512],
     own: &[u16; 512],
@@ -302,7 +302,7 @@ fn changed_count(s: u32, plus: bool) -> u32
 }
 
 // The first `len` changes, made.
-pub fn apply_changes(counts: &mut [u32], best: &[u16; 257], len: usize)
+pub(crate) fn apply_changes(counts: &mut [u32], best: &[u16; 257], len: usize)
     requires { ⌜ CanApply (now counts) (path-of len (now best)) × (len ≤ 257) × (length (now best) ≡ 257) ⌝ }
     ensures { λ _. ⌜ now (counts .exit) ≡ changed-counts (path-of len (now (best .entry))) (now (counts .entry)) ⌝ }
 {
@@ -317,7 +317,7 @@ pub fn apply_changes(counts: &mut [u32], best: &[u16; 257], len: usize)
 }
 
 // The best move on these counts, its changes in `best`. Edge costs are worked out once, here, and not in the search.
-pub fn find_move(
+pub(crate) fn find_move(
     regions: &[u16],
     incident: &[u16; 512],
     own: &[u16; 512],
@@ -333,8 +333,8 @@ pub fn find_move(
     cut: &mut [bool; 512],
     known: &mut [bool; 512],
 ) -> FoundMove
-    requires { ⌜ Tables (now regions) (now incident) (now own) × Tested (now regions) (now counts) (now ideals) ⌝ }
-    requires { ⌜ Buffers (now used) (now path) (now best) × Sized (now costs) (now allowed) (now kept) (now cut) (now known) ⌝ }
+    requires { ⌜ Tables (now regions) (now incident) (now own) × RoundInput (now regions) (now counts) (now ideals) ⌝ }
+    requires { ⌜ Buffers (now used) (now path) (now best) × TableSizes (now costs) (now allowed) (now kept) (now cut) (now known) ⌝ }
     ensures { λ r. ⌜ MoveFound (now (regions .entry)) (now (ideals .entry)) (now (counts .entry)) limit (now (costs .exit)) (now (allowed .exit)) (now (used .exit)) (now (path .exit)) (now (best .exit)) (now (kept .exit)) (now (cut .exit)) (now (known .exit)) r ⌝ }
 {
     fill_costs(counts, ideals, costs, allowed);

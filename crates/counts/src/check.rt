@@ -22,7 +22,7 @@ const MAX_EDGES: usize = 256;
 
 const MAX_COUNT: u32 = 1_000_000;
 
-const MAX_LIMIT: u32 = 100_000;
+pub(crate) const MAX_LIMIT: u32 = 100_000;
 
 // No side has more edges than places.
 fn sides_fit(regions: &[u16]) -> bool
@@ -40,7 +40,7 @@ fn sides_fit(regions: &[u16]) -> bool
 }
 
 // 1: a limit exceeded, or a broken record or list; n is the length of a list with an entry for each edge.
-pub fn check_limits(regions: &[u16], n: usize) -> Check
+pub(crate) fn check_limits(regions: &[u16], n: usize) -> Check
     ensures { λ r. ⌜ outcome r ≡ limits-test places n (now (regions .entry)) ⌝ }
 {
     let broken = Check::Refused(Refusal::Malformed);
@@ -71,7 +71,7 @@ fn is_ideal_ok(ideal: f64) -> bool
 }
 
 // 2: an ideal that is not finite or not above 0.
-pub fn check_ideals(ideals: &[f64]) -> Check
+pub(crate) fn check_ideals(ideals: &[f64]) -> Check
     requires { ⌜ length (now ideals) ≤ 256 ⌝ }
     ensures { λ r. ⌜ outcome r ≡ ideals-test (now (ideals .entry)) ⌝ }
 {
@@ -89,7 +89,7 @@ pub fn check_ideals(ideals: &[f64]) -> Check
 }
 
 // 9: a count over 1,000,000.
-pub fn check_counts(counts: &[u32]) -> Check
+pub(crate) fn check_counts(counts: &[u32]) -> Check
     requires { ⌜ length (now counts) ≤ 256 ⌝ }
     ensures { λ r. ⌜ outcome r ≡ counts-test (now (counts .entry)) ⌝ }
 {
@@ -185,7 +185,7 @@ fn check_region(records: &[u16], n: usize, region: u32) -> Check
 }
 
 // 3, 4 and 5, region by region.
-pub fn check_pairs(regions: &[u16], n: usize) -> Check
+pub(crate) fn check_pairs(regions: &[u16], n: usize) -> Check
     requires { ⌜ T (records-whole places (now regions)) ⌝ }
     ensures { λ r. ⌜ outcome r ≡ pairs-test places n 0 (region-count places (now (regions .entry))) (now (regions .entry)) ⌝ }
 {
@@ -218,7 +218,7 @@ fn check_values(counts: &[u32], ideals: &[f64]) -> Check
 }
 
 // What a round tests before it builds its tables.
-pub fn check_round(regions: &[u16], ideals: &[f64], counts: &[u32], limit: u32) -> Check
+pub(crate) fn check_round(regions: &[u16], ideals: &[f64], counts: &[u32], limit: u32) -> Check
     ensures { λ r. ⌜ outcome r ≡ round-test-head places (now (regions .entry)) (now (ideals .entry)) (now (counts .entry)) limit ⌝ }
 {
     let n = ideals.len();
@@ -239,7 +239,7 @@ pub fn check_round(regions: &[u16], ideals: &[f64], counts: &[u32], limit: u32) 
 }
 
 // What solve tests before it builds its tables; room is the length of the lent counts.
-pub fn check_solve(regions: &[u16], ideals: &[f64], room: usize) -> Check
+pub(crate) fn check_solve(regions: &[u16], ideals: &[f64], room: usize) -> Check
     ensures { λ r. ⌜ outcome r ≡ solve-test-head places (now (regions .entry)) (now (ideals .entry)) room ⌝ }
 {
     let n = ideals.len();
@@ -266,7 +266,7 @@ fn check_edges(n: usize) -> Check
 }
 
 // What energy tests.
-pub fn check_energy(counts: &[u32], ideals: &[f64]) -> Check
+pub(crate) fn check_energy(counts: &[u32], ideals: &[f64]) -> Check
     ensures { λ r. ⌜ outcome r ≡ energy-test (now (counts .entry)) (now (ideals .entry)) ⌝ }
 {
     if let Check::Refused(r) = check_edges(ideals.len()) {

@@ -31,7 +31,7 @@ fn step(plus: bool) -> f64
 }
 
 // Change of the energy when an edge moves from s by +1 or -1.
-pub fn edge_delta(s: u32, ideal: f64, plus: bool) -> f64
+pub(crate) fn edge_delta(s: u32, ideal: f64, plus: bool) -> f64
     ensures { λ r. ⌜ r ≡ edge-delta s ideal plus ⌝ }
 {
     let from = s as f64;
@@ -40,7 +40,12 @@ pub fn edge_delta(s: u32, ideal: f64, plus: bool) -> f64
 }
 
 // For each edge e, entries 2e + 1 are those of +1 and 2e those of -1: what the change costs, and whether it is allowed.
-pub fn fill_costs(counts: &[u32], ideals: &[f64], costs: &mut [f64; 512], allowed: &mut [bool; 512])
+pub(crate) fn fill_costs(
+    counts: &[u32],
+    ideals: &[f64],
+    costs: &mut [f64; 512],
+    allowed: &mut [bool; 512],
+)
     requires { ⌜ length (now counts) ≤ 256 ⌝ }
     requires { ⌜ length (now ideals) ≡ length (now counts) ⌝ }
     requires { ⌜ (length (now costs) ≡ 512) × (length (now allowed) ≡ 512) ⌝ }
@@ -62,7 +67,7 @@ pub fn fill_costs(counts: &[u32], ideals: &[f64], costs: &mut [f64; 512], allowe
 }
 
 // The sum of the squared deviations, edge after edge.
-pub fn total_energy(counts: &[u32], ideals: &[f64]) -> f64
+pub(crate) fn total_energy(counts: &[u32], ideals: &[f64]) -> f64
     requires { ⌜ length (now counts) ≡ length (now ideals) ⌝ }
     ensures { λ r. ⌜ r ≡ energy-from (ofBits binary64 0) (now (counts .entry)) (now (ideals .entry)) ⌝ }
 {

@@ -14,6 +14,7 @@ use crate::answer::EnergyAnswer;
 use crate::answer::HoldAnswer;
 use crate::answer::RoundAnswer;
 use crate::answer::SolveAnswer;
+use crate::check::MAX_LIMIT;
 use crate::check::check_energy;
 use crate::check::check_limits;
 use crate::check::check_round;
@@ -26,8 +27,6 @@ use crate::solve::make_round;
 use crate::solve::solve_from_zeros;
 ghost use mathlib.Core.Path.{_≡_};
 ghost use Rattle.counts.specs.Solver.{energy-of, energy, hold-of, constraints-hold, round-of, round, solve-of, solve};
-
-const MAX_LIMIT: u32 = 100_000;
 
 // One round: the move that costs least, if any costs less than -E, is made on the counts.
 pub fn round(regions: &[u16], ideals: &[f64], counts: &mut [u32], limit: u32) -> RoundAnswer

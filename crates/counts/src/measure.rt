@@ -67,7 +67,7 @@ fn region_holds(records: &[u16], counts: &[u32]) -> bool
 }
 
 // Every constraint holds, region by region.
-pub fn regions_hold(regions: &[u16], counts: &[u32]) -> bool
+pub(crate) fn regions_hold(regions: &[u16], counts: &[u32]) -> bool
     requires { ⌜ T (records-whole places (now regions)) ⌝ }
     ensures { λ r. ⌜ r ≡ all (constraint-holds (now (counts .entry))) (graph places (now (regions .entry))) ⌝ }
 {

@@ -13,7 +13,7 @@ pub const SIDE_SIZE: usize = 17;
 pub const RECORD_SIZE: usize = 68;
 
 // The edges of side k of the record that stands first.
-pub fn side<'a>(records: &'a [u16], k: usize) -> &'a [u16]
+pub(crate) fn side<'a>(records: &'a [u16], k: usize) -> &'a [u16]
     requires { ⌜ k < 4 ⌝ }
     requires { ⌜ 68 ≤ length (now records) ⌝ }
     requires { ⌜ getD (now records) (k * 17) 0 ≤ 16 ⌝ }

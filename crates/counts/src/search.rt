@@ -609,7 +609,7 @@ pub(crate) fn infinity() -> f64
 
 // The whole search from one change. An edge without a constraint is a move by itself; else each of its constraints is crossed, while the
 // other one is `home`.
-pub fn run(
+pub(crate) fn run(
     regions: &[u16],
     incident: &[u16; 512],
     own: &[u16; 512],

@@ -15,7 +15,7 @@ ghost use Rattle.counts.specs.Cost.{by-ideals};
 ghost use Rattle.counts.specs.Round.{find-move, solve-from, solve-zeros, max-moves};
 ghost use Rattle.counts.specs.Solver.{round-of, round-by, solve-of, solve-part};
 ghost use Rattle.counts.specs.Tables.{Tables, the-graph};
-ghost use Rattle.counts.specs.RoundContract.{Buffers, Sized, Tested, solved-of};
+ghost use Rattle.counts.specs.RoundContract.{Buffers, TableSizes, RoundInput, solved-of};
 
 fn wide_len(x: u32) -> usize
     ensures { λ r. ⌜ r ≡ x ⌝ }
@@ -48,8 +48,8 @@ fn round_in(
     cut: &mut [bool; 512],
     known: &mut [bool; 512],
 ) -> RoundAnswer
-    requires { ⌜ Tables (now regions) (now incident) (now own) × Tested (now regions) (now counts) (now ideals) ⌝ }
-    requires { ⌜ Buffers (now used) (now path) (now best) × Sized (now costs) (now allowed) (now kept) (now cut) (now known) ⌝ }
+    requires { ⌜ Tables (now regions) (now incident) (now own) × RoundInput (now regions) (now counts) (now ideals) ⌝ }
+    requires { ⌜ Buffers (now used) (now path) (now best) × TableSizes (now costs) (now allowed) (now kept) (now cut) (now known) ⌝ }
     ensures { λ r. ⌜ round-of r (now (counts .exit)) ≡ round-by (find-move (the-graph (now (regions .entry))) (by-ideals (now (ideals .entry))) (now (counts .entry)) limit) (now (counts .entry)) ⌝ }
 {
     let found = find_move(
@@ -76,7 +76,7 @@ fn round_in(
     RoundAnswer::Moved(found.kept, found.cut)
 }
 
-pub fn make_round(
+pub(crate) fn make_round(
     regions: &[u16],
     incident: &[u16; 512],
     own: &[u16; 512],
@@ -84,7 +84,7 @@ pub fn make_round(
     counts: &mut [u32],
     limit: u32,
 ) -> RoundAnswer
-    requires { ⌜ Tables (now regions) (now incident) (now own) × Tested (now regions) (now counts) (now ideals) ⌝ }
+    requires { ⌜ Tables (now regions) (now incident) (now own) × RoundInput (now regions) (now counts) (now ideals) ⌝ }
     ensures { λ r. ⌜ round-of r (now (counts .exit)) ≡ round-by (find-move (the-graph (now (regions .entry))) (by-ideals (now (ideals .entry))) (now (counts .entry)) limit) (now (counts .entry)) ⌝ }
 {
     let mut costs = [0.0; 512];
@@ -131,8 +131,8 @@ fn moves_in(
     cut: &mut [bool; 512],
     known: &mut [bool; 512],
 ) -> MovesMade
-    requires { ⌜ Tables (now regions) (now incident) (now own) × Tested (now regions) (now counts) (now ideals) × (now counts ≡ replicate (length (now counts)) 0) ⌝ }
-    requires { ⌜ Buffers (now used) (now path) (now best) × Sized (now costs) (now allowed) (now kept) (now cut) (now known) ⌝ }
+    requires { ⌜ Tables (now regions) (now incident) (now own) × RoundInput (now regions) (now counts) (now ideals) × (now counts ≡ replicate (length (now counts)) 0) ⌝ }
+    requires { ⌜ Buffers (now used) (now path) (now best) × TableSizes (now costs) (now allowed) (now kept) (now cut) (now known) ⌝ }
     ensures { λ r. ⌜ solved-of r (now (counts .exit)) ≡ solve-from (the-graph (now (regions .entry))) (by-ideals (now (ideals .entry))) limit max-moves 0 (now (counts .entry)) ⌝ }
 {
     let mut moves = 0;
@@ -165,7 +165,7 @@ fn moves_in(
     }
 }
 
-pub fn make_moves(
+pub(crate) fn make_moves(
     regions: &[u16],
     incident: &[u16; 512],
     own: &[u16; 512],
@@ -173,7 +173,7 @@ pub fn make_moves(
     counts: &mut [u32],
     limit: u32,
 ) -> MovesMade
-    requires { ⌜ Tables (now regions) (now incident) (now own) × Tested (now regions) (now counts) (now ideals) × (now counts ≡ replicate (length (now counts)) 0) ⌝ }
+    requires { ⌜ Tables (now regions) (now incident) (now own) × RoundInput (now regions) (now counts) (now ideals) × (now counts ≡ replicate (length (now counts)) 0) ⌝ }
     ensures { λ r. ⌜ solved-of r (now (counts .exit)) ≡ solve-from (the-graph (now (regions .entry))) (by-ideals (now (ideals .entry))) limit max-moves 0 (now (counts .entry)) ⌝ }
 {
     let mut costs = [0.0; 512];
@@ -214,7 +214,7 @@ fn clear(counts: &mut [u32])
 }
 
 // The counts solved from zeros, or zeros where there is a move too many.
-pub fn solve_from_zeros(
+pub(crate) fn solve_from_zeros(
     regions: &[u16],
     incident: &[u16; 512],
     own: &[u16; 512],

@@ -9,57 +9,12 @@ use Rattle.counts.specs.Refusal.{Verdict, passed, verdict-of, outcome, is-passe
 use Rattle.counts.specs.declared.refusal.Check.{Check}
 use Rattle.counts.specs.declared.refusal.Check.the-variants.{Passed, Refused}
 use Rattle.counts.specs.declared.refusal.Refusal.{Refusal}
-use Rattle.counts.specs.declared.refusal.Refusal.the-variants as because
-use Rattle.counts.proofs.RefusalLaws.{then-left, then-right}
+use Rattle.counts.proofs.RefusalLaws.{then-left, then-right, refusal-number, chain-stops, chain-goes-on}
 use Rattle.curves.specs.Tests.{first-of}
-
--- no refusal has the number 0
-refusal-number : (r : Refusal) → is-passed (verdict-of r) ≡ false
-unfolding verdict-of
-refusal-number because.Malformed = refl
-refusal-number (because.BadIdeal e) = refl
-refusal-number (because.EdgeOutOfRange r s) = refl
-refusal-number (because.EdgeRepeated r s) = refl
-refusal-number (because.EdgeOnBothSides r s) = refl
-refusal-number (because.EdgeOverused e) = refl
-refusal-number because.TooManyMoves = refl
-refusal-number because.LengthsDiffer = refl
-refusal-number (because.CountTooLarge e) = refl
-refusal-number because.LimitTooLarge = refl
-refusal-number because.OutputTooShort = refl
-refusal-number because.BadLoop = refl
-refusal-number (because.CurveTooShort c) = refl
-refusal-number (because.PointNotFinite c) = refl
-refusal-number (because.BadCurveLength c) = refl
-refusal-number (because.CurvesApart c) = refl
-refusal-number because.CornersClockwise = refl
-refusal-number (because.SeamTooShort s) = refl
-refusal-number (because.SeamOutOfRange s i) = refl
-refusal-number (because.SeamFalling s i) = refl
-refusal-number (because.SeamEnds s) = refl
-refusal-number (because.SeamsUnequal p) = refl
-refusal-number (because.LinesParallel i j) = refl
-refusal-number (because.CrossingOutside i j) = refl
-refusal-number (because.BadQuadArea i j) = refl
-refusal-number because.NoCells = refl
-refusal-number (because.BreaksMismatch s) = refl
-refusal-number because.RootUndefined = refl
 
 pub refused-not-passed : (r : Refusal) → T (is-passed (outcome (Refused r))) → ⊥
 unfolding outcome
 refused-not-passed r t = subst T (refusal-number r) t
-
--- a test that refuses is the whole chain
-pub chain-stops : (c : Check) (r : Refusal) (v w : Verdict) → c ≡ Refused r → outcome c ≡ v → outcome (Refused r) ≡ then-test v w
-unfolding outcome
-chain-stops c r v w e o =
-    let q : verdict-of r ≡ v = sym (ap outcome e) ∙ o in
-    q ∙ ap (λ (b : Bool). cond b w v) (sym (sym (ap is-passed q) ∙ refusal-number r))
-
--- a test that is passed leaves the rest of the chain
-pub chain-goes-on : (c : Check) (v w : Verdict) → c ≡ Passed → outcome c ≡ v → w ≡ then-test v w
-unfolding outcome
-chain-goes-on c v w e o = ap (λ (u : Verdict). then-test u w) (sym (ap outcome e) ∙ o)
 
 -- both tests are those of the definition
 pub in-turn : (u v w a b : Verdict) → u ≡ then-test v w → v ≡ a → w ≡ b → u ≡ then-test a b
@@ -86,10 +41,10 @@ module _ (f : ℕ → Verdict) where
       ap (first-of f i) e ∙ ap (λ (k : ℕ). then-test (f i) (first-of f k (n - (i + 1)))) (sym (add-one i))
 
   pub first-next : (i n : ℕ) (c : Check) → i < n → c ≡ Passed → outcome c ≡ f i → first-of f i (n - i) ≡ first-of f (i + 1) (n - (i + 1))
-  first-next i n c h e o = turn i n h ∙ sym (chain-goes-on c (f i) _ e o)
+  first-next i n c h e o = turn i n h ∙ sym (chain-goes-on e o)
 
   pub first-stops : (i n : ℕ) (c : Check) (r : Refusal) → i < n → c ≡ Refused r → outcome c ≡ f i → outcome (Refused r) ≡ first-of f i (n - i)
-  first-stops i n c r h e o = chain-stops c r (f i) _ e o ∙ sym (turn i n h)
+  first-stops i n c r h e o = chain-stops _ e o ∙ sym (turn i n h)
 
   pub first-done : (i n : ℕ) → n ≤ i → passed ≡ first-of f i (n - i)
   unfolding first-of

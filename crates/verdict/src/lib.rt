@@ -1,5 +1,6 @@
 // The paper's number and two places of each refusal, for the programs that print or compare them. counts::specs::Refusal has the table.
 ghost use mathlib.Core.Path.{_≡_};
+ghost use Rattle.counts.specs.Refusal.{passed};
 ghost use Rattle.verdict.specs.Tells.{Tells};
 use counts::refusal::Refusal;
 
@@ -10,8 +11,9 @@ pub struct Verdict {
     pub second: u32,
 }
 
+// No refusal.
 pub fn accepted() -> Verdict
-    ensures { λ r. ⌜ (r .number ≡ 0) × (r .first ≡ 0) × (r .second ≡ 0) ⌝ }
+    ensures { λ r. ⌜ (r .number ≡ passed .number) × (r .first ≡ passed .first) × (r .second ≡ passed .second) ⌝ }
 {
     Verdict {
         number: 0,

@@ -11,7 +11,8 @@ use Rattle.counts.specs.declared.refusal.Refusal.{Refusal}
 use Rattle.curves.specs.Curve.{curve, cumulative-of, Sampled, curve-test}
 use Rattle.curves.specs.Boundary.{boundary, boundary-of, boundary-ends, ends-test, curves-test, checked-curves}
 use Rattle.curves.specs.declared.boundary.BoundaryEnds.{BoundaryEnds}
-use Rattle.curves.proofs.TestLaws.{chain-stops, chain-goes-on, in-turn, told-passed, both-passed}
+use Rattle.counts.proofs.RefusalLaws.{chain-stops, chain-goes-on}
+use Rattle.curves.proofs.TestLaws.{in-turn, told-passed, both-passed}
 use Rattle.curves.proofs.curve.Laws.{sampled}
 
 -- ---- the chain over the four curves, as the code makes it from its end
@@ -33,7 +34,7 @@ module _ (b r t l : List Float) where
 
   pub curve-refused : (c : Check) (cause : Refusal) → c ≡ Refused cause → outcome c ≡ curves-test b r t l → outcome (Refused cause) ≡ checked-curves b r t l
   unfolding checked-curves
-  curve-refused c cause e o = chain-stops c cause _ _ e o
+  curve-refused c cause e o = chain-stops _ e o
 
   -- ---- the tables, of which the code lends the part in front
 
@@ -50,7 +51,7 @@ module _ (b r t l : List Float) where
       → x0 ≡ cumulative-of b → x1 ≡ cumulative-of r → x2 ≡ cumulative-of t → x3 ≡ cumulative-of l → v ≡ checked-curves b r t l
   unfolding checked-curves
   ends-tested c v e x0 x1 x2 x3 p o f g e0 e1 e2 e3 =
-      f ∙ ap ends-test (g ∙ same-ends x0 x1 x2 x3 e0 e1 e2 e3) ∙ chain-goes-on c (curves-test b r t l) _ p o
+      f ∙ ap ends-test (g ∙ same-ends x0 x1 x2 x3 e0 e1 e2 e3) ∙ chain-goes-on p o
 
 -- the part of a buffer that holds the table of a curve that has passed
 pub part-sampled : (points : List Float) (side : ℕ) (v : Verdict) (xs : List Float) → v ≡ curve-test points side → T (is-passed v) → xs ≡ cumulative-of points → Sampled points xs

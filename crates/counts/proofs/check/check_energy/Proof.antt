@@ -8,7 +8,8 @@ use Rattle.counts.specs.Refusal.{then-test}
 use Rattle.counts.specs.Region.{places}
 use Rattle.counts.specs.Accept.{limits-test, values-test}
 use Rattle.counts.specs.Solver.{energy-test}
-use Rattle.counts.proofs.AcceptLaws.{chain-stops, chain-goes-on, was-passed, limits-passed}
+use Rattle.counts.proofs.AcceptLaws.{limits-passed}
+use Rattle.counts.proofs.RefusalLaws.{chain-stops, chain-goes-on, was-passed}
 use Rattle.counts.proofs.check.check_energy.Statement.{statement}
 use Rattle.counts.proofs.check.check_energy.Tie as tie
 

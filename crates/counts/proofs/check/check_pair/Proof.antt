@@ -7,7 +7,8 @@ use mathlib.Core.Bool.{Bool}
 use mathlib.Core.List.{[]}
 use Rattle.counts.specs.Refusal.{outcome, verdict-of, then-test, refuse-if, refused}
 use Rattle.counts.specs.Accept.{side-test, shared-edge}
-use Rattle.counts.proofs.AcceptLaws.{chain-stops, chain-goes-on, pair-chain}
+use Rattle.counts.proofs.AcceptLaws.{pair-chain}
+use Rattle.counts.proofs.RefusalLaws.{chain-stops, chain-goes-on}
 use Rattle.counts.proofs.check.check_pair.Statement.{statement}
 use Rattle.counts.proofs.check.check_pair.Tie as tie
 

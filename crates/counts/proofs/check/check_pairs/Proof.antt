@@ -10,7 +10,8 @@ use lib.Dec.{T}
 use Rattle.counts.specs.Refusal.{outcome}
 use Rattle.counts.specs.Region.{places}
 use Rattle.counts.specs.Accept.{sides-fit, region-test, pairs-test}
-use Rattle.counts.proofs.AcceptLaws.{chain-stops, chain-goes-on, whole-few, whole-sides, rest, sides-now, sides-after, pairs-turn, pairs-end}
+use Rattle.counts.proofs.AcceptLaws.{whole-few, whole-sides, rest, sides-now, sides-after, pairs-turn, pairs-end}
+use Rattle.counts.proofs.RefusalLaws.{chain-stops, chain-goes-on}
 use Rattle.counts.proofs.check.check_pairs.Statement.{statement}
 use Rattle.counts.proofs.check.check_pairs.Tie as tie
 

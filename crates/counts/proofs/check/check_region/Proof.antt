@@ -6,7 +6,8 @@ use denote.Ref.{now}
 use lib.Dec.{lit<}
 use Rattle.counts.specs.Region.{places, side}
 use Rattle.counts.specs.Accept.{pair-test}
-use Rattle.counts.proofs.AcceptLaws.{chain-stops, chain-goes-on, side-few}
+use Rattle.counts.proofs.AcceptLaws.{side-few}
+use Rattle.counts.proofs.RefusalLaws.{chain-stops, chain-goes-on}
 use Rattle.counts.proofs.check.check_region.Statement.{statement}
 use Rattle.counts.proofs.check.check_region.Tie as tie
 

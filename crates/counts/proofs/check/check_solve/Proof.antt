@@ -10,7 +10,8 @@ use Rattle.counts.specs.Refusal.{outcome, verdict-of, then-test, refuse-
 use Rattle.counts.specs.Region.{places, region-count}
 use Rattle.counts.specs.Accept.{ideals-test, pairs-test}
 use Rattle.counts.specs.Solver.{solve-test-head}
-use Rattle.counts.proofs.AcceptLaws.{chain-stops, chain-goes-on, was-passed, limits-passed}
+use Rattle.counts.proofs.AcceptLaws.{limits-passed}
+use Rattle.counts.proofs.RefusalLaws.{chain-stops, chain-goes-on, was-passed}
 use Rattle.counts.proofs.check.check_solve.Statement.{statement}
 use Rattle.counts.proofs.check.check_solve.Tie as tie
 

@@ -7,7 +7,7 @@ use denote.Ref.{now}
 use lib.ListN.{length}
 use Rattle.counts.specs.Refusal.{outcome, verdict-of, then-test, refuse-if, refused}
 use Rattle.counts.specs.Accept.{ideals-test, counts-test}
-use Rattle.counts.proofs.AcceptLaws.{chain-stops, chain-goes-on}
+use Rattle.counts.proofs.RefusalLaws.{chain-stops, chain-goes-on}
 use Rattle.counts.proofs.check.check_values.Statement.{statement}
 use Rattle.counts.proofs.check.check_values.Tie as tie
 

@@ -1,17 +1,17 @@
--- `solve::moves_in` meets its contract. Invariant: the rest of the solve from here is the whole solve (`Solving`). Measure: the moves that
+-- `solve::moves_in` meets its contract. Invariant: the rest of the solve from here is the whole solve (`Progress`). Measure: the moves that
 -- are still allowed. Assumes nothing.
 use Prim.Native.Nat.{_-_}
 use mathlib.Core.Path.{_≡_, refl}
 use native.Mathlib.Omega.{arith}
 use borrow.Author.Needs.{needs}
 use Rattle.counts.specs.Round.{max-moves}
-use Rattle.counts.proofs.SolveLoop.{Solving, solving-starts, still-tested, solve-ends, solve-stops, solve-goes-on, found-none, found-some, move-can, move-made}
+use Rattle.counts.proofs.SolveLoop.{Progress, solving-starts, still-tested, solve-ends, solve-stops, solve-goes-on, found-none, found-some, move-can, move-made}
 use Rattle.counts.proofs.solve.moves_in.Statement.{statement}
 use Rattle.counts.proofs.solve.moves_in.Tie as tie
 
 abbrev Inv-loop : tie.InvT-loop
 Inv-loop regions incident own ideals counts₀ limit costs₀ allowed₀ used₀ path₀ best₀ kept₀ cut₀ known₀ moves₀ counts costs allowed used path best kept cut known moves =
-    Solving regions ideals limit counts₀ counts moves costs allowed used path best kept cut known
+    Progress regions ideals limit counts₀ counts moves costs allowed used path best kept cut known
 
 abbrev μ-loop : tie.MeasureT-loop
 μ-loop regions incident own ideals counts₀ limit costs₀ allowed₀ used₀ path₀ best₀ kept₀ cut₀ known₀ moves₀ counts costs allowed used path best kept cut known moves = max-moves - moves

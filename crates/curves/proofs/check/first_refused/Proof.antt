@@ -1,6 +1,6 @@
 -- `check::first_refused` meets its contract. Assumes nothing.
 use mathlib.Core.Path.{refl}
-use Rattle.curves.proofs.TestLaws.{chain-stops, chain-goes-on}
+use Rattle.counts.proofs.RefusalLaws.{chain-stops, chain-goes-on}
 use borrow.Author.Needs.{needs}
 use Rattle.curves.proofs.check.first_refused.Statement.{statement}
 use Rattle.curves.proofs.check.first_refused.Tie as tie
@@ -9,13 +9,13 @@ enum-known-first : tie.Need-enum-known-first
 enum-known-first c = search needs
 
 returns : tie.Need-returns
-returns c = chain-stops _ _ _ _ (c .before .first .given .1) refl
+returns c = chain-stops _ (c .before .first .given .1) refl
 
 enum-told : tie.Need-enum-told
 enum-told c = search needs
 
 returns-2 : tie.Need-returns-2
-returns-2 c = chain-goes-on _ _ _ (c .enum-told .given .1) refl
+returns-2 c = chain-goes-on (c .enum-told .given .1) refl
 
 pub first-refused-spec : {M : Type 1} → statement M
 first-refused-spec = tie.close (tie.spec enum-known-first returns enum-told returns-2)
