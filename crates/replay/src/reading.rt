@@ -26,7 +26,7 @@ fn byte(case: &[u8], at: usize) -> u32
 }
 
 // The position `by` bytes further.
-pub fn past(at: usize, by: usize) -> usize {
+pub(crate) fn past(at: usize, by: usize) -> usize {
     if at > FAR {
         return at;
     }
@@ -49,7 +49,7 @@ fn place(case: &[u8], at: usize) -> u16 {
     pair(case, at) as u16
 }
 
-pub fn number(case: &[u8], at: usize) -> u32 {
+pub(crate) fn number(case: &[u8], at: usize) -> u32 {
     let low = pair(case, at);
     let high = pair(case, past(at, 2));
     low + 65536 * high
@@ -75,11 +75,11 @@ fn float_of(pattern: u64) -> f64 {
     f64::from_bits(pattern)
 }
 
-pub fn float(case: &[u8], at: usize) -> f64 {
+pub(crate) fn float(case: &[u8], at: usize) -> f64 {
     float_of(bits(case, at))
 }
 
-pub fn flag(case: &[u8], at: usize) -> bool {
+pub(crate) fn flag(case: &[u8], at: usize) -> bool {
     number(case, at) != 0
 }
 
@@ -91,27 +91,27 @@ fn list_length(case: &[u8], at: usize) -> usize
     if n > LONG { 0 } else { n as usize }
 }
 
-pub fn past_number(at: usize) -> usize {
+pub(crate) fn past_number(at: usize) -> usize {
     past(at, 4)
 }
 
-pub fn past_float(at: usize) -> usize {
+pub(crate) fn past_float(at: usize) -> usize {
     past(at, 8)
 }
 
-pub fn past_verdict(at: usize) -> usize {
+pub(crate) fn past_verdict(at: usize) -> usize {
     past(at, 12)
 }
 
-pub fn past_places(case: &[u8], at: usize) -> usize {
+pub(crate) fn past_places(case: &[u8], at: usize) -> usize {
     past(at, 4 + 2 * list_length(case, at))
 }
 
-pub fn past_numbers(case: &[u8], at: usize) -> usize {
+pub(crate) fn past_numbers(case: &[u8], at: usize) -> usize {
     past(at, 4 + 4 * list_length(case, at))
 }
 
-pub fn past_floats(case: &[u8], at: usize) -> usize {
+pub(crate) fn past_floats(case: &[u8], at: usize) -> usize {
     past(at, 4 + 8 * list_length(case, at))
 }
 
@@ -122,7 +122,7 @@ fn least(a: usize, b: usize) -> usize
 }
 
 // Puts the list of places at `at` to the start of `out`, and answers its length.
-pub fn places(case: &[u8], at: usize, out: &mut [u16]) -> usize
+pub(crate) fn places(case: &[u8], at: usize, out: &mut [u16]) -> usize
     ensures { λ r. ⌜ Counts r (now (out .exit)) ⌝ }
 {
     let n = least(list_length(case, at), out.len());
@@ -136,7 +136,7 @@ pub fn places(case: &[u8], at: usize, out: &mut [u16]) -> usize
     n
 }
 
-pub fn numbers(case: &[u8], at: usize, out: &mut [u32]) -> usize
+pub(crate) fn numbers(case: &[u8], at: usize, out: &mut [u32]) -> usize
     ensures { λ r. ⌜ Counts r (now (out .exit)) ⌝ }
 {
     let n = least(list_length(case, at), out.len());
@@ -150,7 +150,7 @@ pub fn numbers(case: &[u8], at: usize, out: &mut [u32]) -> usize
     n
 }
 
-pub fn floats(case: &[u8], at: usize, out: &mut [f64]) -> usize
+pub(crate) fn floats(case: &[u8], at: usize, out: &mut [f64]) -> usize
     ensures { λ r. ⌜ Counts r (now (out .exit)) ⌝ }
 {
     let n = least(list_length(case, at), out.len());
@@ -165,7 +165,7 @@ pub fn floats(case: &[u8], at: usize, out: &mut [f64]) -> usize
 }
 
 // Whether the list of numbers at `at` is just `values`.
-pub fn is_numbers(case: &[u8], at: usize, values: &[u32]) -> bool {
+pub(crate) fn is_numbers(case: &[u8], at: usize, values: &[u32]) -> bool {
     if list_length(case, at) != values.len() {
         return false;
     }
@@ -182,7 +182,7 @@ pub fn is_numbers(case: &[u8], at: usize, values: &[u32]) -> bool {
 }
 
 // Whether the verdict at `at` is this one.
-pub fn is_verdict(case: &[u8], at: usize, verdict: Verdict) -> bool {
+pub(crate) fn is_verdict(case: &[u8], at: usize, verdict: Verdict) -> bool {
     let first_at = past_number(at);
     let second_at = past_number(first_at);
     if number(case, at) != verdict.number {
@@ -195,7 +195,7 @@ pub fn is_verdict(case: &[u8], at: usize, verdict: Verdict) -> bool {
 }
 
 // Whether the f64 at `at` is x, to the bit: of equal numbers only the two zeros differ in their bits, and their inverses differ.
-pub fn is_float(case: &[u8], at: usize, x: f64) -> bool {
+pub(crate) fn is_float(case: &[u8], at: usize, x: f64) -> bool {
     let expected = float(case, at);
     if x != expected {
         return false;
@@ -204,6 +204,6 @@ pub fn is_float(case: &[u8], at: usize, x: f64) -> bool {
 }
 
 // Whether the case ends at `at`.
-pub fn is_end(case: &[u8], at: usize) -> bool {
+pub(crate) fn is_end(case: &[u8], at: usize) -> bool {
     at == case.len()
 }

@@ -62,7 +62,7 @@ fn solve_on(
     is_solved(case, answer_at, answer, counts)
 }
 
-pub fn solve(case: &[u8]) -> bool {
+pub(crate) fn solve(case: &[u8]) -> bool {
     let mut regions = [0u16; PLACES];
     let mut ideals = [0.0; EDGES];
     let mut counts = [0u32; EDGES];
@@ -176,7 +176,7 @@ fn rounds_from(case: &[u8], at: usize, regions: &[u16], counts: &mut [u32]) -> b
     reading::is_end(case, from)
 }
 
-pub fn rounds(case: &[u8]) -> bool {
+pub(crate) fn rounds(case: &[u8]) -> bool {
     let mut regions = [0u16; PLACES];
     let mut counts = [0u32; EDGES];
     let counts_at = reading::past_places(case, INPUT);
@@ -220,7 +220,7 @@ fn is_energy(case: &[u8], at: usize, answer: EnergyAnswer) -> bool {
     reading::is_end(case, reading::past_float(total_at))
 }
 
-pub fn energy(case: &[u8]) -> bool {
+pub(crate) fn energy(case: &[u8]) -> bool {
     let mut counts = [0u32; EDGES];
     let mut ideals = [0.0; EDGES];
     let ideals_at = reading::past_numbers(case, INPUT);
@@ -264,7 +264,7 @@ fn is_held(case: &[u8], at: usize, answer: HoldAnswer) -> bool {
     reading::is_end(case, reading::past_number(holds_at))
 }
 
-pub fn hold(case: &[u8]) -> bool {
+pub(crate) fn hold(case: &[u8]) -> bool {
     let mut regions = [0u16; PLACES];
     let mut counts = [0u32; EDGES];
     let counts_at = reading::past_places(case, INPUT);
