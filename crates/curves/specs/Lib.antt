@@ -12,3 +12,6 @@ pub mod Boundary
 pub mod Seam
 pub mod Patch
 pub mod Quad
+pub mod Grid
+pub mod Coons
+pub mod Lay

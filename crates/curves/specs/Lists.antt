@@ -9,6 +9,11 @@ module _ {A : Type 0} where
   tab f k zero = []
   tab f k (suc n) = f k ∷ tab f (suc k) n
 
+  -- f k ++ f (k + 1) ++ ..: n of them
+  abbrev pub cat : (ℕ → List A) → ℕ → ℕ → List A
+  cat f k zero = []
+  cat f k (suc n) = f k ++ cat f (suc k) n
+
   -- d with the values from the index `from` on replaced by vs
   abbrev pub splice : List A → ℕ → List A → List A
   splice d from vs = take from d ++ vs ++ drop (from + length vs) d

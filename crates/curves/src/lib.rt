@@ -2,8 +2,10 @@
 // them and its quads.
 mod boundary;
 mod check;
+pub mod coons;
 mod crossing;
 mod curve;
+mod grid;
 mod patch;
 mod point;
 mod quad;

@@ -1,0 +1,96 @@
+-- What the public functions of the grid answer, and what they leave in the lent output, refused calls included: a chain of tests in 01's order, then the grid. Definitions only.
+use mathlib.Core.Bool.{Bool, true, false, not, _||_, cond}
+use mathlib.Core.List.{List}
+use Prim.Native.Nat.{ℕ, _*_, _%_}
+use lib.ListN.{length}
+use lib.Dec.{ltb, eqb}
+use lib.Ieee.{Float}
+use Rattle.counts.specs.Refusal.{Verdict, passed, refused, verdict-of, is-passed, then-test, refuse-if}
+use Rattle.curves.specs.Lists.{splice}
+use Rattle.curves.specs.Boundary.{BoundaryCurves, boundary-of, checked-curves}
+use Rattle.curves.specs.Seam.{uniform-parameters, seams-test}
+use Rattle.curves.specs.Quad.{zeros}
+use Rattle.curves.specs.Grid.{Seams, seams, n-u, n-v, Grid, grid-of, grid-test, grid-values, needed}
+use Rattle.curves.specs.declared.grid.Layout.{Layout}
+use Rattle.curves.specs.declared.grid.Layout.the-variants.{Quads, Nodes}
+use Rattle.curves.specs.declared.coons.GridAnswer.{GridAnswer}
+use Rattle.curves.specs.declared.coons.GridAnswer.the-variants.{Made, Refused}
+
+-- "a grid, a lay and a mesh answer the number of quads", or the refusal; and the output that they leave
+pub record Outcome : Type 0 where
+  pub verdict : Verdict
+  pub quads : ℕ
+  pub out : List Float
+
+unfoldable pub outcome-of : GridAnswer → List Float → Outcome
+unfolding verdict-of
+outcome-of (Made quads) out = record { verdict = passed; quads = quads; out = out }
+outcome-of (Refused r) out = record { verdict = verdict-of r; quads = 0; out = out }
+
+-- a refusal that "leaves all", or what follows
+abbrev pub unless : Verdict → List Float → Outcome → Outcome
+unless v out rest = elim (is-passed v) [
+  | true ↦ rest
+  | false ↦ record { verdict = v; quads = 0; out = out }
+]
+
+-- ---- the grid
+
+-- "lines parallel; crossing outside" and "quad area": "needed output +0.0". "Output past the needed part is untouched."
+unfoldable pub filled : Layout → Grid → ℕ → ℕ → List Float → Outcome
+unfolding grid-test grid-values needed
+filled layout f n m out = elim (is-passed (grid-test f n m)) [
+  | true ↦ record { verdict = passed; quads = m * n; out = splice out 0 (grid-values layout f n m) }
+  | false ↦ record { verdict = grid-test f n m; quads = 0; out = splice out 0 (zeros (needed layout n m)) }
+]
+
+-- "curve by curve 13 to 15, 16, 17, seams (..), 22, 11": the tests before the grid
+unfoldable pub patch-test : Layout → List Float → List Float → List Float → List Float → Seams → ℕ → Verdict
+unfolding checked-curves seams-test needed
+patch-test layout bottom right top left s room =
+    then-test (checked-curves bottom right top left)
+    (then-test (seams-test (s .bottom) (s .top) (s .left) (s .right)) (refuse-if (ltb room (needed layout (n-u s) (n-v s))) (refused 11 0 0)))
+
+unfoldable pub patch : Layout → List Float → List Float → List Float → List Float → Seams → List Float → Outcome
+unfolding patch-test filled
+patch layout bottom right top left s out =
+    unless (patch-test layout bottom right top left s (length out)) out (filled layout (grid-of (boundary-of bottom right top left) s) (n-u s) (n-v s) out)
+
+-- ---- 1: "a limit above exceeded, or a broken record or list"
+
+-- "at most 1,024 points, lent as x, y in turn; an odd number of values is broken"
+unfoldable pub curve-limit : List Float → Verdict
+curve-limit points = refuse-if (ltb 2048 (length points) || not (eqb (length points % 2) 0)) (refused 1 0 0)
+
+unfoldable pub curves-limit : List Float → List Float → List Float → List Float → Verdict
+unfolding curve-limit
+curves-limit bottom right top left =
+    then-test (curve-limit bottom) (then-test (curve-limit right) (then-test (curve-limit top) (curve-limit left)))
+
+-- "Seams hold at most 1,025 values"
+unfoldable pub seam-limit : List Float → Verdict
+seam-limit values = refuse-if (ltb 1025 (length values)) (refused 1 0 0)
+
+unfoldable pub seams-limit : Seams → Verdict
+unfolding seam-limit
+seams-limit s = then-test (seam-limit (s .bottom)) (then-test (seam-limit (s .top)) (then-test (seam-limit (s .left)) (seam-limit (s .right))))
+
+-- ---- the public functions
+
+-- 000's `coons_from_parameters`
+unfoldable pub coons-from-parameters : Layout → List Float → List Float → List Float → List Float → Seams → List Float → Outcome
+unfolding curves-limit seams-limit patch
+coons-from-parameters layout bottom right top left s out =
+    unless (then-test (curves-limit bottom right top left) (seams-limit s)) out (patch layout bottom right top left s out)
+
+-- "n_u and n_v at most 1,024": 1; "n_u or n_v zero": 26
+unfoldable pub cells-limit : ℕ → ℕ → Verdict
+cells-limit n m =
+    then-test (refuse-if (ltb 1024 n || ltb 1024 m) (refused 1 0 0)) (refuse-if (eqb n 0 || eqb m 0) (refused 26 0 0))
+
+-- 000's `coons_curves`: `coons_from_parameters` on even seams
+unfoldable pub coons-curves : Layout → List Float → List Float → List Float → List Float → ℕ → ℕ → List Float → Outcome
+unfolding curves-limit cells-limit uniform-parameters coons-from-parameters
+coons-curves layout bottom right top left n m out =
+    unless (then-test (curves-limit bottom right top left) (cells-limit n m)) out
+    (coons-from-parameters layout bottom right top left (seams (uniform-parameters n) (uniform-parameters n) (uniform-parameters m) (uniform-parameters m)) out)

@@ -1,0 +1,128 @@
+-- 000's `coons_grid` after its tests of the seams: the points of a grid row by row, the tests of its points and quads, and what an output holds of it. Definitions only.
+use mathlib.Core.List.{List, [], _∷_}
+use Prim.Native.Nat.{ℕ, zero, suc, _+_, _-_, _*_}
+use lib.ListN.{length, getD}
+use lib.Ieee.{Float, nan}
+use Rattle.counts.specs.Refusal.{Verdict, then-test}
+use Rattle.curves.specs.Answers.{Answer, good, turned-away, verdict}
+use Rattle.curves.specs.Scalar.{nought}
+use Rattle.curves.specs.Lists.{cat}
+use Rattle.curves.specs.Tests.{first-of}
+use Rattle.curves.specs.Point.{point}
+use Rattle.curves.specs.Curve.{point-at}
+use Rattle.curves.specs.Crossing.{logical-intersection}
+use Rattle.curves.specs.Boundary.{BoundaryCurves}
+use Rattle.curves.specs.Patch.{coons-point}
+use Rattle.curves.specs.Quad.{quad-test}
+use Rattle.curves.specs.declared.point.Point.{Point}
+use Rattle.curves.specs.declared.grid.Layout.{Layout}
+use Rattle.curves.specs.declared.grid.Layout.the-variants.{Quads, Nodes}
+
+pub record Seams : Type 0 where
+  pub bottom : List Float
+  pub top : List Float
+  pub left : List Float
+  pub right : List Float
+
+abbrev pub seams : List Float → List Float → List Float → List Float → Seams
+seams bottom top left right = record { bottom = bottom; top = top; left = left; right = right }
+
+-- 000's `n_u` and `n_v`: how many cells lie along the bottom and along the left
+abbrev pub n-u : Seams → ℕ
+n-u s = length (s .bottom) - 1
+
+abbrev pub n-v : Seams → ℕ
+n-v s = length (s .left) - 1
+
+-- ---- the points
+
+-- the patch's point at a crossing, where there is one
+unfoldable pub mapped : BoundaryCurves → Answer Point → Answer Point
+unfolding coons-point
+mapped c (good p) = good (coons-point c (p .x) (p .y))
+mapped c (turned-away v) = turned-away v
+
+-- a row of points by their columns
+abbrev pub Row : Type 0
+Row = ℕ → Answer Point
+
+-- row j: the line from a on the left to b on the right meets the lines from bottom to top
+unfoldable pub row-of : BoundaryCurves → List Float → List Float → Float → Float → ℕ → Row
+unfolding logical-intersection mapped
+row-of c bottom top a b j i = mapped c (logical-intersection a b (getD bottom i nan) (getD top i nan) i j)
+
+-- its rows
+abbrev pub Grid : Type 0
+Grid = ℕ → Row
+
+abbrev pub grid-of : BoundaryCurves → Seams → Grid
+grid-of c s j = row-of c (s .bottom) (s .top) (getD (s .left) j nan) (getD (s .right) j nan) j
+
+-- the values of a point that is there
+abbrev pub coordinates : Answer Point → List Float
+coordinates (good p) = p .x ∷ p .y ∷ []
+coordinates (turned-away v) = nan ∷ nan ∷ []
+
+-- the n + 1 points of a row, as x, y in turn
+unfoldable pub row-points : Row → ℕ → List Float
+row-points f n = cat (λ (i : ℕ). coordinates (f i)) 0 (n + 1)
+
+-- ---- the tests
+
+-- "points 23 and 24 row by row"
+unfoldable pub row-test : Row → ℕ → Verdict
+unfolding first-of
+row-test f n = first-of (λ (i : ℕ). verdict (f i)) 0 (n + 1)
+
+unfoldable pub points-test : Grid → ℕ → ℕ → Verdict
+unfolding row-test
+points-test f n m = first-of (λ (j : ℕ). row-test (f j) n) 0 (m + 1)
+
+-- the quad i between two rows of points, which is that of row j
+unfoldable pub cell-test : List Float → List Float → ℕ → ℕ → Verdict
+unfolding quad-test
+cell-test low high j i = quad-test (point-at low i) (point-at low (i + 1)) (point-at high (i + 1)) (point-at high i) i j
+
+-- 25 along row j
+unfoldable pub cells-test : List Float → List Float → ℕ → ℕ → Verdict
+unfolding first-of cell-test
+cells-test low high n j = first-of (cell-test low high j) 0 n
+
+unfoldable pub quads-test : Grid → ℕ → ℕ → Verdict
+unfolding cells-test row-points
+quads-test f n m = first-of (λ (j : ℕ). cells-test (row-points (f j) n) (row-points (f (suc j)) n) n j) 0 m
+
+-- "points 23 and 24 row by row, 25": of n by m cells
+unfoldable pub grid-test : Grid → ℕ → ℕ → Verdict
+unfolding points-test quads-test
+grid-test f n m = then-test (points-test f n m) (quads-test f n m)
+
+-- ---- the output
+
+-- "each as four x, y pairs counter-clockwise from its lower left"
+abbrev pub quad-values : Point → Point → Point → Point → List Float
+quad-values a b c d = a .x ∷ a .y ∷ b .x ∷ b .y ∷ c .x ∷ c .y ∷ d .x ∷ d .y ∷ []
+
+-- the n quads between two rows of points
+unfoldable pub quads-between : List Float → List Float → ℕ → List Float
+quads-between low high n = cat (λ (i : ℕ). quad-values (point-at low i) (point-at low (i + 1)) (point-at high (i + 1)) (point-at high i)) 0 n
+
+-- "x, y, +0.0 for each grid point": the n + 1 points of a row
+unfoldable pub nodes-of : List Float → ℕ → List Float
+nodes-of row n = cat (λ (i : ℕ). point-at row i .x ∷ point-at row i .y ∷ nought ∷ []) 0 (n + 1)
+
+-- what is written once row j of the points is there, after the row below it: "Quads are written row by row"; a mesh's points, "rows from the bottom"
+unfoldable pub row-part : Layout → List Float → List Float → ℕ → ℕ → List Float
+unfolding quads-between nodes-of
+row-part Quads low high n zero = []
+row-part Quads low high n (suc j) = quads-between low high n
+row-part Nodes low high n j = nodes-of high n
+
+unfoldable pub grid-values : Layout → Grid → ℕ → ℕ → List Float
+unfolding row-points row-part
+grid-values layout f n m = cat (λ (j : ℕ). row-part layout (row-points (f (j - 1)) n) (row-points (f j) n) n j) 0 (m + 1)
+
+-- how many values that is
+unfoldable pub needed : Layout → ℕ → ℕ → ℕ
+needed Quads n m = m * (8 * n)
+needed Nodes n m = (m + 1) * (3 * (n + 1))

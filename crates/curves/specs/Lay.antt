@@ -1,0 +1,80 @@
+-- Lay, which "grids one region, given as just one record, from counts, breaks and curves, and answers and writes what `coons_from_parameters` does on its seams". Definitions only.
+use mathlib.Core.Bool.{Bool, not}
+use mathlib.Core.List.{List, [], _∷_}
+use Prim.Native.Nat.{ℕ, suc}
+use lib.ListN.{length, getD}
+use lib.Dec.{ltb, eqb}
+use lib.Ieee.{Float}
+use Rattle.counts.specs.Refusal.{Verdict, refused, then-test, refuse-if}
+use Rattle.counts.specs.Region.{places, record-size, side}
+use Rattle.counts.specs.Lists.{all}
+use Rattle.counts.specs.Accept.{limits-test}
+use Rattle.curves.specs.Seam.{side-seam}
+use Rattle.curves.specs.Grid.{Seams, seams}
+use Rattle.curves.specs.Coons.{Outcome, unless, curves-limit, coons-from-parameters}
+use Rattle.curves.specs.declared.grid.Layout.the-variants.{Quads}
+
+-- what lay is lent beside the record: the counts, the breaks of sides 0 to 3, and their curves
+pub record Field : Type 0 where
+  pub breaks0 : List Float
+  pub breaks1 : List Float
+  pub breaks2 : List Float
+  pub breaks3 : List Float
+  pub bottom : List Float
+  pub right : List Float
+  pub top : List Float
+  pub left : List Float
+
+-- ---- the seams
+
+-- the counts of the edges of a side
+abbrev pub counts-along : List ℕ → List ℕ → List ℕ
+counts-along counts [] = []
+counts-along counts (e ∷ es) = getD counts e 0 ∷ counts-along counts es
+
+-- "A side with k edges takes k+1 breaks": the seam of side k of a record
+unfoldable pub seam-of : List ℕ → List ℕ → ℕ → List Float → List Float
+unfolding side-seam
+seam-of region counts k breaks = side-seam breaks (counts-along counts (side places region k))
+
+-- "Sides 0 and 2 run left to right, 1 and 3 bottom to top"
+abbrev pub seams-of : List ℕ → List ℕ → Field → Seams
+seams-of region counts f =
+    seams (seam-of region counts 0 (f .breaks0)) (seam-of region counts 2 (f .breaks2)) (seam-of region counts 3 (f .breaks3)) (seam-of region counts 1 (f .breaks1))
+
+-- ---- the tests
+
+-- "just one record"
+unfoldable pub record-test : List ℕ → ℕ → Verdict
+unfolding limits-test
+record-test region n = then-test (refuse-if (not (eqb (length region) (record-size places))) (refused 1 0 0)) (limits-test places n region)
+
+-- "edge number not below the number of ideals (in lay, of counts)": 3 at region 0 and the side
+unfoldable pub edges-test : List ℕ → ℕ → ℕ → Verdict
+edges-test region n k = refuse-if (not (all (λ (e : ℕ). ltb e n) (side places region k))) (refused 3 0 k)
+
+-- "breaks not edges + 1": 27 at the side
+unfoldable pub breaks-test : List ℕ → List Float → ℕ → Verdict
+breaks-test region breaks k = refuse-if (not (eqb (length breaks) (suc (length (side places region k))))) (refused 27 k 0)
+
+-- "3, 27 (each over sides 0 to 3)"
+unfoldable pub sides-test : List ℕ → ℕ → Field → Verdict
+unfolding edges-test breaks-test
+sides-test region n f =
+    then-test
+    (then-test (edges-test region n 0) (then-test (edges-test region n 1) (then-test (edges-test region n 2) (edges-test region n 3))))
+    (then-test (breaks-test region (f .breaks0) 0)
+    (then-test (breaks-test region (f .breaks1) 1) (then-test (breaks-test region (f .breaks2) 2) (breaks-test region (f .breaks3) 3))))
+
+-- "Lay: 1 (record, counts, curves), 3, 27 (..)"; "1 for a seam too long, then geometry" are `coons_from_parameters`'s own
+unfoldable pub lay-test : List ℕ → ℕ → Field → Verdict
+unfolding record-test curves-limit sides-test
+lay-test region n f =
+    then-test (record-test region n) (then-test (curves-limit (f .bottom) (f .right) (f .top) (f .left)) (sides-test region n f))
+
+-- ---- lay
+
+unfoldable pub lay : List ℕ → List ℕ → Field → List Float → Outcome
+unfolding lay-test seam-of coons-from-parameters
+lay region counts f out =
+    unless (lay-test region (length counts) f) out (coons-from-parameters Quads (f .bottom) (f .right) (f .top) (f .left) (seams-of region counts f) out)

@@ -1,0 +1,8 @@
+// The public functions of the grid.
+use counts::refusal::Refusal;
+
+// How many quads the grid has, or why there is none.
+pub enum GridAnswer {
+    Made(u32),
+    Refused(Refusal),
+}
