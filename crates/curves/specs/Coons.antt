@@ -44,17 +44,21 @@ filled layout f n m out =
     if-passed (grid-test f n m) (record { verdict = passed; quads = m * n; out = splice out 0 (grid-values layout f n m) })
     (refusal (splice out 0 (zeros (needed layout n m))))
 
--- "curve by curve 13 to 15, 16, 17, seams (..), 22, 11": the tests before the grid
-unfoldable pub patch-test : Layout → List Float → List Float → List Float → List Float → Seams → ℕ → Verdict
-unfolding checked-curves seams-test needed
-patch-test layout bottom right top left s room =
-    then-test (checked-curves bottom right top left)
-    (then-test (seams-test (s .bottom) (s .top) (s .left) (s .right)) (refuse-if (ltb room (needed layout (n-u s) (n-v s))) (refused 11 0 0)))
+-- "seams (..), 22, 11": the tests between the curves' and the grid's
+unfoldable pub seams-and-room-test : Layout → Seams → ℕ → Verdict
+unfolding seams-test needed
+seams-and-room-test layout s room =
+    then-test (seams-test (s .bottom) (s .top) (s .left) (s .right)) (refuse-if (ltb room (needed layout (n-u s) (n-v s))) (refused 11 0 0))
 
+unfoldable pub grid-stage : Layout → BoundaryCurves → Seams → List Float → Outcome
+unfolding seams-and-room-test filled
+grid-stage layout c s out = unless (seams-and-room-test layout s (length out)) out (filled layout (grid-of c s) (n-u s) (n-v s) out)
+
+-- "curve by curve 13 to 15, 16, 17", then the rest
 unfoldable pub patch : Layout → List Float → List Float → List Float → List Float → Seams → List Float → Outcome
-unfolding patch-test filled
+unfolding checked-curves grid-stage
 patch layout bottom right top left s out =
-    unless (patch-test layout bottom right top left s (length out)) out (filled layout (grid-of (boundary-of bottom right top left) s) (n-u s) (n-v s) out)
+    unless (checked-curves bottom right top left) out (grid-stage layout (boundary-of bottom right top left) s out)
 
 -- ---- 1: "a limit above exceeded, or a broken record or list"
 

@@ -1,8 +1,398 @@
-// The public functions of the grid.
+// The public functions of the grid: tests in their order, then the grid. specs/Coons.antt defines what each answers and leaves.
+ghost use mathlib.Core.Path.{_≡_};
+ghost use Prim.Native.Nat.{_*_, _≤_, _<_};
+ghost use lib.ListN.{length};
+ghost use Rattle.counts.specs.Refusal.{outcome, then-test};
+ghost use Rattle.curves.specs.Curve.{curve, Sampled};
+ghost use Rattle.curves.specs.Boundary.{boundary, curve-ends};
+ghost use Rattle.curves.specs.Grid.{seams};
+ghost use Rattle.curves.specs.Coons.{outcome-of, grid-stage, patch, seam-limit, seams-limit, curve-limit, curves-limit, cells-limit, coons-from-parameters, coons-curves};
+use crate::boundary::BoundaryAnswer;
+use crate::boundary::Ends;
+use crate::boundary::checked_curves;
+use crate::check::first_refused;
+use crate::grid::Layout;
+use crate::grid::coons_grid;
+use crate::rows::needed;
+use crate::seam::check_seams;
+use crate::seam::uniform_parameters;
+use counts::refusal::Check;
 use counts::refusal::Refusal;
+
+const MAX_POINTS: usize = 1024;
+
+const MAX_SEAM: usize = 1025;
+
+const MAX_CELLS: u32 = 1024;
 
 // How many quads the grid has, or why there is none.
 pub enum GridAnswer {
     Made(u32),
     Refused(Refusal),
+}
+
+// 1, of a curve: at most 1,024 points, each an x and a y.
+fn check_curve_limit(points: &[f64]) -> Check
+    ensures { λ r. ⌜ outcome r ≡ curve-limit (now (points .entry)) ⌝ }
+{
+    if points.len() > 2 * MAX_POINTS {
+        return Check::Refused(Refusal::Malformed);
+    }
+    if points.len() % 2 != 0 {
+        return Check::Refused(Refusal::Malformed);
+    }
+    Check::Passed
+}
+
+pub(crate) fn check_curve_limits(bottom: &[f64], right: &[f64], top: &[f64], left: &[f64]) -> Check
+    ensures { λ r. ⌜ outcome r ≡ curves-limit (now (bottom .entry)) (now (right .entry)) (now (top .entry)) (now (left .entry)) ⌝ }
+{
+    let of_bottom = check_curve_limit(bottom);
+    let of_right = check_curve_limit(right);
+    let of_top = check_curve_limit(top);
+    let of_left = check_curve_limit(left);
+    let from_top = first_refused(of_top, of_left);
+    let from_right = first_refused(of_right, from_top);
+    first_refused(of_bottom, from_right)
+}
+
+// 1, of a seam.
+fn check_seam_limit(values: &[f64]) -> Check
+    ensures { λ r. ⌜ outcome r ≡ seam-limit (now (values .entry)) ⌝ }
+{
+    if values.len() > MAX_SEAM {
+        return Check::Refused(Refusal::Malformed);
+    }
+    Check::Passed
+}
+
+fn check_seam_limits(bottom: &[f64], top: &[f64], left: &[f64], right: &[f64]) -> Check
+    ensures { λ r. ⌜ outcome r ≡ seams-limit (seams (now (bottom .entry)) (now (top .entry)) (now (left .entry)) (now (right .entry))) ⌝ }
+{
+    let of_bottom = check_seam_limit(bottom);
+    let of_top = check_seam_limit(top);
+    let of_left = check_seam_limit(left);
+    let of_right = check_seam_limit(right);
+    let from_left = first_refused(of_left, of_right);
+    let from_top = first_refused(of_top, from_left);
+    first_refused(of_bottom, from_top)
+}
+
+// 1 and 26, of the numbers of cells.
+fn check_cell_limits(n_u: u32, n_v: u32) -> Check
+    ensures { λ r. ⌜ outcome r ≡ cells-limit «n_u» «n_v» ⌝ }
+{
+    if n_u > MAX_CELLS {
+        return Check::Refused(Refusal::Malformed);
+    }
+    if n_v > MAX_CELLS {
+        return Check::Refused(Refusal::Malformed);
+    }
+    if n_u == 0 {
+        return Check::Refused(Refusal::NoCells);
+    }
+    if n_v == 0 {
+        return Check::Refused(Refusal::NoCells);
+    }
+    Check::Passed
+}
+
+// The tests of the seams (18 to 22) and of the output's room (11), then the grid. The curves of sides 0 to 3, each with its table of
+// lengths, and the ends b and t of bottom and top.
+fn grid_stage(
+    bottom: &[f64],
+    lengths0: &[f64],
+    right: &[f64],
+    lengths1: &[f64],
+    top: &[f64],
+    lengths2: &[f64],
+    left: &[f64],
+    lengths3: &[f64],
+    b: Ends,
+    t: Ends,
+    bottom_u: &[f64],
+    top_u: &[f64],
+    left_v: &[f64],
+    right_v: &[f64],
+    layout: Layout,
+    out: &mut [f64],
+) -> GridAnswer
+    requires { ⌜ Sampled (now bottom) (now lengths0) × Sampled (now right) (now lengths1) × Sampled (now top) (now lengths2) × Sampled (now left) (now lengths3) ⌝ }
+    requires { ⌜ (b ≡ curve-ends (curve (now bottom) (now lengths0))) × (t ≡ curve-ends (curve (now top) (now lengths2))) ⌝ }
+    requires { ⌜ (length (now «bottom_u») ≤ 1025) × (length (now «top_u») ≤ 1025) × (length (now «left_v») ≤ 1025) × (length (now «right_v») ≤ 1025) ⌝ }
+    ensures { λ r. ⌜ outcome-of r (now (out .exit)) ≡ grid-stage layout (boundary (curve (now (bottom .entry)) (now (lengths0 .entry))) (curve (now (right .entry)) (now (lengths1 .entry))) (curve (now (top .entry)) (now (lengths2 .entry))) (curve (now (left .entry)) (now (lengths3 .entry)))) (seams (now («bottom_u» .entry)) (now («top_u» .entry)) (now («left_v» .entry)) (now («right_v» .entry))) (now (out .entry)) ⌝ }
+{
+    if let Check::Refused(cause) = check_seams(bottom_u, top_u, left_v, right_v) {
+        return GridAnswer::Refused(cause);
+    }
+    let n_u = bottom_u.len() - 1;
+    let n_v = left_v.len() - 1;
+    if out.len() < needed(layout, n_u, n_v) {
+        return GridAnswer::Refused(Refusal::OutputTooShort);
+    }
+    let made = coons_grid(
+        bottom,
+        lengths0,
+        right,
+        lengths1,
+        top,
+        lengths2,
+        left,
+        lengths3,
+        b,
+        t,
+        bottom_u,
+        top_u,
+        left_v,
+        right_v,
+        layout,
+        out,
+    );
+    if let Check::Refused(cause) = made {
+        return GridAnswer::Refused(cause);
+    }
+    let quads = n_v * n_u;
+    GridAnswer::Made(quads as u32)
+}
+
+// The tests of the curves (13 to 17), then the rest. The tables of lengths are lent.
+fn patch_in(
+    bottom: &[f64],
+    lengths0: &mut [f64],
+    right: &[f64],
+    lengths1: &mut [f64],
+    top: &[f64],
+    lengths2: &mut [f64],
+    left: &[f64],
+    lengths3: &mut [f64],
+    bottom_u: &[f64],
+    top_u: &[f64],
+    left_v: &[f64],
+    right_v: &[f64],
+    layout: Layout,
+    out: &mut [f64],
+) -> GridAnswer
+    requires { ⌜ (length (now bottom) ≤ 2 * length (now lengths0)) × (length (now right) ≤ 2 * length (now lengths1)) × (length (now top) ≤ 2 * length (now lengths2)) × (length (now left) ≤ 2 * length (now lengths3)) ⌝ }
+    requires { ⌜ (length (now «bottom_u») ≤ 1025) × (length (now «top_u») ≤ 1025) × (length (now «left_v») ≤ 1025) × (length (now «right_v») ≤ 1025) ⌝ }
+    ensures { λ r. ⌜ outcome-of r (now (out .exit)) ≡ patch layout (now (bottom .entry)) (now (right .entry)) (now (top .entry)) (now (left .entry)) (seams (now («bottom_u» .entry)) (now («top_u» .entry)) (now («left_v» .entry)) (now («right_v» .entry))) (now (out .entry)) ⌝ }
+{
+    let joined = checked_curves(
+        bottom,
+        lengths0,
+        right,
+        lengths1,
+        top,
+        lengths2,
+        left,
+        lengths3,
+    );
+    match joined {
+        BoundaryAnswer::Refused(cause) => GridAnswer::Refused(cause),
+        BoundaryAnswer::Joined(ends) => {
+            let n0 = bottom.len() / 2;
+            let n1 = right.len() / 2;
+            let n2 = top.len() / 2;
+            let n3 = left.len() / 2;
+            grid_stage(
+                bottom,
+                &lengths0[..n0],
+                right,
+                &lengths1[..n1],
+                top,
+                &lengths2[..n2],
+                left,
+                &lengths3[..n3],
+                ends.bottom,
+                ends.top,
+                bottom_u,
+                top_u,
+                left_v,
+                right_v,
+                layout,
+                out,
+            )
+        }
+    }
+}
+
+fn make_patch(
+    bottom: &[f64],
+    right: &[f64],
+    top: &[f64],
+    left: &[f64],
+    bottom_u: &[f64],
+    top_u: &[f64],
+    left_v: &[f64],
+    right_v: &[f64],
+    layout: Layout,
+    out: &mut [f64],
+) -> GridAnswer
+    requires { ⌜ (length (now bottom) ≤ 2048) × (length (now right) ≤ 2048) × (length (now top) ≤ 2048) × (length (now left) ≤ 2048) ⌝ }
+    requires { ⌜ (length (now «bottom_u») ≤ 1025) × (length (now «top_u») ≤ 1025) × (length (now «left_v») ≤ 1025) × (length (now «right_v») ≤ 1025) ⌝ }
+    ensures { λ r. ⌜ outcome-of r (now (out .exit)) ≡ patch layout (now (bottom .entry)) (now (right .entry)) (now (top .entry)) (now (left .entry)) (seams (now («bottom_u» .entry)) (now («top_u» .entry)) (now («left_v» .entry)) (now («right_v» .entry))) (now (out .entry)) ⌝ }
+{
+    let mut lengths0 = [0.0; 1024];
+    let mut lengths1 = [0.0; 1024];
+    let mut lengths2 = [0.0; 1024];
+    let mut lengths3 = [0.0; 1024];
+    patch_in(
+        bottom,
+        &mut lengths0,
+        right,
+        &mut lengths1,
+        top,
+        &mut lengths2,
+        left,
+        &mut lengths3,
+        bottom_u,
+        top_u,
+        left_v,
+        right_v,
+        layout,
+        out,
+    )
+}
+
+// A grid from four seams, in either layout.
+fn from_parameters(
+    bottom: &[f64],
+    right: &[f64],
+    top: &[f64],
+    left: &[f64],
+    bottom_u: &[f64],
+    top_u: &[f64],
+    left_v: &[f64],
+    right_v: &[f64],
+    layout: Layout,
+    out: &mut [f64],
+) -> GridAnswer
+    ensures { λ r. ⌜ outcome-of r (now (out .exit)) ≡ coons-from-parameters layout (now (bottom .entry)) (now (right .entry)) (now (top .entry)) (now (left .entry)) (seams (now («bottom_u» .entry)) (now («top_u» .entry)) (now («left_v» .entry)) (now («right_v» .entry))) (now (out .entry)) ⌝ }
+{
+    let of_curves = check_curve_limits(bottom, right, top, left);
+    let of_seams = check_seam_limits(bottom_u, top_u, left_v, right_v);
+    if let Check::Refused(cause) = first_refused(of_curves, of_seams) {
+        return GridAnswer::Refused(cause);
+    }
+    make_patch(
+        bottom,
+        right,
+        top,
+        left,
+        bottom_u,
+        top_u,
+        left_v,
+        right_v,
+        layout,
+        out,
+    )
+}
+
+// The same two seams on opposite sides.
+fn from_even_parameters(
+    bottom: &[f64],
+    right: &[f64],
+    top: &[f64],
+    left: &[f64],
+    us: &[f64],
+    vs: &[f64],
+    layout: Layout,
+    out: &mut [f64],
+) -> GridAnswer
+    ensures { λ r. ⌜ outcome-of r (now (out .exit)) ≡ coons-from-parameters layout (now (bottom .entry)) (now (right .entry)) (now (top .entry)) (now (left .entry)) (seams (now (us .entry)) (now (us .entry)) (now (vs .entry)) (now (vs .entry))) (now (out .entry)) ⌝ }
+{
+    from_parameters(bottom, right, top, left, us, us, vs, vs, layout, out)
+}
+
+// A grid of even seams, in either layout.
+fn from_cells(
+    bottom: &[f64],
+    right: &[f64],
+    top: &[f64],
+    left: &[f64],
+    n_u: u32,
+    n_v: u32,
+    layout: Layout,
+    out: &mut [f64],
+) -> GridAnswer
+    ensures { λ r. ⌜ outcome-of r (now (out .exit)) ≡ coons-curves layout (now (bottom .entry)) (now (right .entry)) (now (top .entry)) (now (left .entry)) «n_u» «n_v» (now (out .entry)) ⌝ }
+{
+    let of_curves = check_curve_limits(bottom, right, top, left);
+    let of_cells = check_cell_limits(n_u, n_v);
+    if let Check::Refused(cause) = first_refused(of_curves, of_cells) {
+        return GridAnswer::Refused(cause);
+    }
+    let mut us = [0.0; 1025];
+    let mut vs = [0.0; 1025];
+    uniform_parameters(n_u, &mut us);
+    uniform_parameters(n_v, &mut vs);
+    let along_u = n_u as usize + 1;
+    let along_v = n_v as usize + 1;
+    from_even_parameters(
+        bottom,
+        right,
+        top,
+        left,
+        &us[..along_u],
+        &vs[..along_v],
+        layout,
+        out,
+    )
+}
+
+// The quads between four boundary curves, by four seams.
+pub fn coons_from_parameters(
+    bottom: &[f64],
+    right: &[f64],
+    top: &[f64],
+    left: &[f64],
+    bottom_u: &[f64],
+    top_u: &[f64],
+    left_v: &[f64],
+    right_v: &[f64],
+    out: &mut [f64],
+) -> GridAnswer
+    ensures { λ r. ⌜ outcome-of r (now (out .exit)) ≡ coons-from-parameters Layout.Quads (now (bottom .entry)) (now (right .entry)) (now (top .entry)) (now (left .entry)) (seams (now («bottom_u» .entry)) (now («top_u» .entry)) (now («left_v» .entry)) (now («right_v» .entry))) (now (out .entry)) ⌝ }
+{
+    from_parameters(
+        bottom,
+        right,
+        top,
+        left,
+        bottom_u,
+        top_u,
+        left_v,
+        right_v,
+        Layout::Quads,
+        out,
+    )
+}
+
+// The n_u by n_v quads between four boundary curves.
+pub fn coons_curves(
+    bottom: &[f64],
+    right: &[f64],
+    top: &[f64],
+    left: &[f64],
+    n_u: u32,
+    n_v: u32,
+    out: &mut [f64],
+) -> GridAnswer
+    ensures { λ r. ⌜ outcome-of r (now (out .exit)) ≡ coons-curves Layout.Quads (now (bottom .entry)) (now (right .entry)) (now (top .entry)) (now (left .entry)) «n_u» «n_v» (now (out .entry)) ⌝ }
+{
+    from_cells(bottom, right, top, left, n_u, n_v, Layout::Quads, out)
+}
+
+// The points of the same grid, for a mesh: x, y and 0 each, rows from the bottom.
+pub fn coons_nodes(
+    bottom: &[f64],
+    right: &[f64],
+    top: &[f64],
+    left: &[f64],
+    n_u: u32,
+    n_v: u32,
+    out: &mut [f64],
+) -> GridAnswer
+    ensures { λ r. ⌜ outcome-of r (now (out .exit)) ≡ coons-curves Layout.Nodes (now (bottom .entry)) (now (right .entry)) (now (top .entry)) (now (left .entry)) «n_u» «n_v» (now (out .entry)) ⌝ }
+{
+    from_cells(bottom, right, top, left, n_u, n_v, Layout::Nodes, out)
 }

@@ -1,0 +1,2 @@
+-- Laws of the public functions of the grid.
+pub mod Laws

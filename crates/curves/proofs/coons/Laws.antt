@@ -1,0 +1,151 @@
+-- What the public functions of the grid answer and leave, by the outcomes of their tests; and what their limits let by. Assumes nothing.
+use mathlib.Core.Path.{_≡_, refl, sym, ap, subst, _∙_}
+use mathlib.Core.Bool.{Bool, true, false, not, _||_}
+use mathlib.Core.List.{List}
+use Prim.Native.Nat.{ℕ, _+_, _-_, _*_, _%_, _≤_, _<_}
+use native.Mathlib.Omega.{arith}
+use lib.ListN.{length, take}
+use lib.Dec.{T, T-not, ltb, eqb, ltb→lt, eqb→eq}
+use lib.Ieee.{Float}
+use borrow.Author.Tests.{lt-ltb, le-ltb, ltb-false}
+use Rattle.counts.specs.Refusal.{Verdict, passed, refused, verdict-of, outcome, is-passed, then-test, refuse-if}
+use Rattle.counts.specs.declared.refusal.Check.{Check}
+use Rattle.counts.specs.declared.refusal.Check.the-variants.{Passed, Refused}
+use Rattle.counts.specs.declared.refusal.Refusal.{Refusal}
+use Rattle.counts.specs.declared.refusal.Refusal.the-variants as because
+use Rattle.counts.proofs.RefusalLaws.{then-left, then-right, not-refused, was-passed, chain-stops, chain-goes-on}
+use Rattle.curves.specs.Lists.{splice}
+use Rattle.curves.specs.Boundary.{BoundaryCurves, boundary-of, checked-curves}
+use Rattle.curves.specs.Seam.{uniform-parameters, seam-test, pair-test, seams-test}
+use Rattle.curves.specs.Quad.{zeros}
+use Rattle.curves.specs.Grid.{Seams, seams, n-u, n-v, Grid, grid-of, grid-test, grid-values, needed}
+use Rattle.curves.specs.Coons.{Outcome, outcome-of, refusal, unless, filled, seams-and-room-test, grid-stage, patch, curve-limit, curves-limit, seam-limit, seams-limit, cells-limit, coons-from-parameters, coons-curves}
+use Rattle.curves.specs.declared.grid.Layout.{Layout}
+use Rattle.curves.specs.declared.coons.GridAnswer.the-variants as grid-answer
+use Rattle.curves.proofs.ListLaws.{length-tab, take-splice}
+use Rattle.curves.proofs.TestLaws.{follows, refuses}
+
+-- ---- an answer, by the tests before it
+
+pub turned-away : (out : List Float) (rest : Outcome) (c : Check) (cause : Refusal) (v : Verdict) → c ≡ Refused cause → outcome c ≡ v → outcome-of (grid-answer.Refused cause) out ≡ unless v out rest
+unfolding outcome-of
+turned-away out rest c cause v e o = refuses rest (refusal out) c cause v e o
+
+pub goes-on : (out : List Float) (rest : Outcome) (v : Verdict) → is-passed v ≡ true → rest ≡ unless v out rest
+goes-on out rest v e = ap (λ (b : Bool). elim b [
+  | true ↦ rest
+  | false ↦ refusal out v
+]) (sym e)
+
+-- ---- the grid
+
+module _ (layout : Layout) (f : Grid) (n m : ℕ) (out : List Float) where
+  abbrev good-grid : Outcome
+  good-grid = record { verdict = passed; quads = m * n; out = splice out 0 (grid-values layout f n m) }
+
+  abbrev no-grid : Verdict → Outcome
+  no-grid = refusal (splice out 0 (zeros (needed layout n m)))
+
+  pub made : (c : Check) (left : List Float) → c ≡ Passed → outcome c ≡ grid-test f n m → left ≡ filled layout f n m out .out → outcome-of (grid-answer.Made (m * n)) left ≡ filled layout f n m out
+  unfolding outcome-of filled
+  made c left e o h =
+      let q = follows good-grid no-grid c (grid-test f n m) e o in
+      ap (λ (l : List Float). record { verdict = passed; quads = m * n; out = l }) (h ∙ ap (λ (x : Outcome). x .out) (sym q)) ∙ q
+
+  pub not-made : (c : Check) (cause : Refusal) (left : List Float) → c ≡ Refused cause → outcome c ≡ grid-test f n m → left ≡ filled layout f n m out .out → outcome-of (grid-answer.Refused cause) left ≡ filled layout f n m out
+  unfolding outcome-of filled
+  not-made c cause left e o h =
+      let q = refuses good-grid no-grid c cause (grid-test f n m) e o in
+      ap (λ (l : List Float). refusal l (verdict-of cause)) (h ∙ ap (λ (x : Outcome). x .out) (sym q)) ∙ q
+
+-- ---- the seams and the room
+
+-- what seams that are let by are like
+pub seams-passed : (b t l r : List Float) → T (is-passed (seams-test b t l r)) → (2 ≤ length b) × (length b ≡ length t) × (2 ≤ length l) × (length l ≡ length r)
+unfolding seams-test
+seams-passed b t l r p =
+    let v1 = then-test (pair-test b t 0) (pair-test l r 1) in
+    let v2 = then-test (seam-test r 1) v1 in
+    let v3 = then-test (seam-test l 3) v2 in
+    let v4 = then-test (seam-test t 2) v3 in
+    let p3 = then-right (seam-test t 2) v3 (then-right (seam-test b 0) v4 p) in
+    let p1 = then-right (seam-test r 1) v1 (then-right (seam-test l 3) v2 p3) in
+    (long b 0 (then-left (seam-test b 0) v4 p), equal b t 0 (then-left (pair-test b t 0) (pair-test l r 1) p1), long l 3 (then-left (seam-test l 3) v2 p3), equal l r 1 (then-right (pair-test b t 0) (pair-test l r 1) p1))
+  where
+    long : (xs : List Float) (k : ℕ) → T (is-passed (seam-test xs k)) → 2 ≤ length xs
+    unfolding seam-test
+    long xs k q = ltb-false (length xs) 2 (T-not (not-refused (ltb (length xs) 2) 17 k 0 (then-left (refuse-if (ltb (length xs) 2) (refused 18 k 0)) _ q)))
+
+    equal : (xs ys : List Float) (k : ℕ) → T (is-passed (pair-test xs ys k)) → length xs ≡ length ys
+    unfolding pair-test
+    equal xs ys k q = go (eqb (length xs) (length ys)) refl q
+      where
+        go : (d : Bool) → eqb (length xs) (length ys) ≡ d → T (is-passed (refuse-if (not d) (refused 22 k 0))) → length xs ≡ length ys
+        go true e u = eqb→eq (length xs) (length ys) (subst T (sym e) tt)
+        go false e u = absurd u
+
+module _ (layout : Layout) (c : BoundaryCurves) (s : Seams) (out : List Float) where
+  abbrev rest : Outcome
+  rest = filled layout (grid-of c s) (n-u s) (n-v s) out
+
+  pub bad-seams : (k : Check) (cause : Refusal) → k ≡ Refused cause → outcome k ≡ seams-test (s .bottom) (s .top) (s .left) (s .right) → outcome-of (grid-answer.Refused cause) out ≡ grid-stage layout c s out
+  unfolding grid-stage seams-and-room-test
+  bad-seams k cause e o = turned-away out rest (Refused cause) cause _ refl (chain-stops (refuse-if (ltb (length out) (needed layout (n-u s) (n-v s))) (refused 11 0 0)) e o)
+
+  -- the chain, once the seams are let by
+  room-only : (k : Check) (d : Bool) → k ≡ Passed → outcome k ≡ seams-test (s .bottom) (s .top) (s .left) (s .right) → ltb (length out) (needed layout (n-u s) (n-v s)) ≡ d
+      → refuse-if d (refused 11 0 0) ≡ seams-and-room-test layout s (length out)
+  unfolding seams-and-room-test
+  room-only k d e o h = ap (λ (x : Bool). refuse-if x (refused 11 0 0)) (sym h) ∙ chain-goes-on e o
+
+  pub no-room : (k : Check) → k ≡ Passed → outcome k ≡ seams-test (s .bottom) (s .top) (s .left) (s .right) → length out < needed layout (n-u s) (n-v s)
+      → outcome-of (grid-answer.Refused because.OutputTooShort) out ≡ grid-stage layout c s out
+  unfolding grid-stage outcome verdict-of
+  no-room k e o h = turned-away out rest (Refused because.OutputTooShort) because.OutputTooShort _ refl (room-only k true e o (lt-ltb (length out) (needed layout (n-u s) (n-v s)) h))
+
+  pub to-the-grid : (k : Check) (x : Outcome) → k ≡ Passed → outcome k ≡ seams-test (s .bottom) (s .top) (s .left) (s .right) → needed layout (n-u s) (n-v s) ≤ length out
+      → x ≡ filled layout (grid-of c s) (n-u s) (n-v s) out → x ≡ grid-stage layout c s out
+  unfolding grid-stage
+  to-the-grid k x e o h q = q ∙ goes-on out rest _ (ap is-passed (sym (room-only k false e o (le-ltb (length out) (needed layout (n-u s) (n-v s)) h))))
+
+-- ---- limits
+
+pub curve-let-by : (points : List Float) → T (is-passed (curve-limit points)) → length points ≤ 2048
+unfolding curve-limit
+curve-let-by points p = go (ltb 2048 (length points)) refl p
+  where
+    go : (d : Bool) → ltb 2048 (length points) ≡ d → T (is-passed (refuse-if (d || not (eqb (length points % 2) 0)) (refused 1 0 0))) → length points ≤ 2048
+    go true e q = absurd q
+    go false e q = ltb-false 2048 (length points) e
+
+pub curves-let-by : (b r t l : List Float) → T (is-passed (curves-limit b r t l)) → (length b ≤ 2048) × (length r ≤ 2048) × (length t ≤ 2048) × (length l ≤ 2048)
+unfolding curves-limit
+curves-let-by b r t l p =
+    let v2 = then-test (curve-limit t) (curve-limit l) in
+    let v1 = then-test (curve-limit r) v2 in
+    let p1 = then-right (curve-limit b) v1 p in
+    let p2 = then-right (curve-limit r) v2 p1 in
+    (curve-let-by b (then-left (curve-limit b) v1 p), curve-let-by r (then-left (curve-limit r) v2 p1), curve-let-by t (then-left (curve-limit t) (curve-limit l) p2), curve-let-by l (then-right (curve-limit t) (curve-limit l) p2))
+
+pub seam-let-by : (values : List Float) → T (is-passed (seam-limit values)) → length values ≤ 1025
+unfolding seam-limit
+seam-let-by values p = ltb-false 1025 (length values) (T-not (not-refused (ltb 1025 (length values)) 0 0 0 p))
+
+pub seams-let-by : (b t l r : List Float) → T (is-passed (seams-limit (seams b t l r))) → (length b ≤ 1025) × (length t ≤ 1025) × (length l ≤ 1025) × (length r ≤ 1025)
+unfolding seams-limit
+seams-let-by b t l r p =
+    let v2 = then-test (seam-limit l) (seam-limit r) in
+    let v1 = then-test (seam-limit t) v2 in
+    let p1 = then-right (seam-limit b) v1 p in
+    let p2 = then-right (seam-limit t) v2 p1 in
+    (seam-let-by b (then-left (seam-limit b) v1 p), seam-let-by t (then-left (seam-limit t) v2 p1), seam-let-by l (then-left (seam-limit l) (seam-limit r) p2), seam-let-by r (then-right (seam-limit l) (seam-limit r) p2))
+
+-- ---- even seams
+
+pub length-even : (n : ℕ) → length (uniform-parameters n) ≡ n + 1
+unfolding uniform-parameters
+length-even n = length-tab _ 0 (n + 1)
+
+-- the front of the buffer that they were written to
+pub even-part : (n : ℕ) (d xs : List Float) → xs ≡ splice d 0 (uniform-parameters n) → take (n + 1) xs ≡ uniform-parameters n
+even-part n d xs e = ap (take (n + 1)) e ∙ take-splice d (uniform-parameters n) (n + 1) (length-even n)
