@@ -2,7 +2,8 @@
 -- rounded once; and what is refused of one curve. Definitions only.
 use mathlib.Core.Bool.{Bool, true, false, not, _&&_, cond}
 use mathlib.Core.List.{List, [], _∷_}
-use Prim.Native.Nat.{ℕ, zero, suc, _+_, _-_, _*_, _/_, _≤_}
+use mathlib.Core.Path.{_≡_}
+use Prim.Native.Nat.{ℕ, zero, suc, _+_, _-_, _*_, _/_, _<_, _≤_}
 use lib.ListN.{length, getD}
 use lib.Dec.{ltb}
 use lib.Ieee.{Float, nan, binary64, add, sub, mul, div, lt, le}
@@ -59,6 +60,10 @@ arc-curve points = curve points (cumulative-of points)
 -- a table of lengths for at least two points, and as many points: of such a curve every value that is asked for is there
 abbrev pub Sampled : List Float → List Float → Type 0
 Sampled points cumulative = (2 ≤ length cumulative) × (2 * length cumulative ≤ length points)
+
+-- no length is below the one before it
+abbrev pub Rising : List Float → Type 0
+Rising c = (i : ℕ) → i + 1 < length c → le (getD c i nan) (getD c (i + 1) nan) ≡ true
 
 -- ---- a segment, and the blend of its two ends
 

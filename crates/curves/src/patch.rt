@@ -1,7 +1,8 @@
 // One point of the Coons patch, split into what u decides (a column), what v decides (a row), and the rest, since the points of a grid
 // share columns and rows.
 ghost use mathlib.Core.Path.{_≡_};
-ghost use Rattle.curves.specs.Curve.{curve, Sampled};
+ghost use mathlib.Core.Bool.{true};
+ghost use Rattle.curves.specs.Curve.{curve, Sampled, Rising};
 ghost use Rattle.curves.specs.Patch.{lerp2, combined, column-at, row-at, patch-point};
 use crate::boundary::Ends;
 use crate::curve::curve_at;
@@ -47,8 +48,11 @@ pub(crate) fn column_at(
     b: Ends,
     t: Ends,
     u: f64,
+    steady: bool,
+    hints: &mut [usize; 4],
 ) -> Column
     requires { ⌜ Sampled (now bottom) (now lengths0) × Sampled (now top) (now lengths2) ⌝ }
+    requires { ⌜ (steady ≡ true → Rising (now lengths0) × Rising (now lengths2)) ⌝ }
     ensures { λ r. ⌜ r ≡ column-at (curve (now (bottom .entry)) (now (lengths0 .entry))) (curve (now (top .entry)) (now (lengths2 .entry))) b t u ⌝ }
 {
     let on_bottom = curve_at(bottom, lengths0, u);
@@ -65,8 +69,17 @@ pub(crate) fn column_at(
 }
 
 // The curves of sides 1 and 3 with their tables.
-pub(crate) fn row_at(right: &[f64], lengths1: &[f64], left: &[f64], lengths3: &[f64], v: f64) -> Row
+pub(crate) fn row_at(
+    right: &[f64],
+    lengths1: &[f64],
+    left: &[f64],
+    lengths3: &[f64],
+    v: f64,
+    steady: bool,
+    hints: &mut [usize; 4],
+) -> Row
     requires { ⌜ Sampled (now right) (now lengths1) × Sampled (now left) (now lengths3) ⌝ }
+    requires { ⌜ (steady ≡ true → Rising (now lengths1) × Rising (now lengths3)) ⌝ }
     ensures { λ r. ⌜ r ≡ row-at (curve (now (right .entry)) (now (lengths1 .entry))) (curve (now (left .entry)) (now (lengths3 .entry))) v ⌝ }
 {
     let on_right = curve_at(right, lengths1, v);

@@ -1,7 +1,8 @@
 // Rust's helpers on f64, bit for bit: `is_finite`, `abs`, `min`, `max`, `clamp(0.0, 1.0)`, and the tests that a length or an area is above
-// zero and that a parameter lies in 0..1.
+// zero and that a parameter lies in 0..1. Last, whether two values have the same bits.
 // specs/Scalar.antt says what each gives for a NaN and for zeros of either sign.
 ghost use mathlib.Core.Path.{_≡_};
+ghost use mathlib.Core.Bool.{true};
 ghost use Rattle.curves.specs.Scalar.{is-finite, is-positive, float-abs, float-min, float-max, clamp-unit, in-unit};
 
 pub(crate) fn is_finite(x: f64) -> bool
@@ -91,6 +92,16 @@ pub(crate) fn in_unit(x: f64) -> bool
             return false;
         }
         return true;
+    }
+    false
+}
+
+// Whether x and y are the same to the last bit; a NaN is the same as nothing.
+pub(crate) fn same_bits(x: f64, y: f64) -> bool
+    ensures { λ r. ⌜ (r ≡ true → x ≡ y) ⌝ }
+{
+    if x == y {
+        return f64::to_bits(x) == f64::to_bits(y);
     }
     false
 }
