@@ -165,8 +165,8 @@ fn segment_at(lengths: &[f64], target: f64) -> usize
     lo
 }
 
-// Tested instead of proved: the lengths of a real curve rise, since a sum rounded to nearest never falls below its larger part, but that law
-// of addition is not at hand.
+// Whether no length is above the next. In a real curve none is, since a sum of lengths rounded to nearest never falls; it is tested instead of
+// proved, as that law of addition is not at hand.
 pub(crate) fn is_rising(lengths: &[f64]) -> bool
     ensures { λ r. ⌜ (r ≡ true → Rising (now (lengths .entry))) ⌝ }
 {

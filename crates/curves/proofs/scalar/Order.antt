@@ -2,9 +2,9 @@
 use mathlib.Core.Path.{_≡_, refl, sym, ap, _∙_}
 use mathlib.Core.Bool.{Bool, true, false, not, _&&_, _||_, true≢false}
 use Prim.Native.Nat.{ℕ, zero, suc, _*_, _+_, _<_, _≤_}
-use native.Mathlib.Nat.{mul-pos, zero-mul}
+use native.Mathlib.Nat.{mul-pos, zero-mul, add-comm}
 use native.Mathlib.Omega.{arith}
-use borrow.Author.Tests.{ltb-true, ltb-false, lt-ltb, le-ltb, eq-eqb, ne-eqb, eqb-true, not-true}
+use borrow.Author.Tests.{ltb-true, ltb-false, le-ltb, eq-eqb, ne-eqb, eqb-true, not-true}
 use lib.Dec.{ltb, eqb}
 use lib.Ieee.{Float, nan, inf, fin, binary64, ofBits, add, neg, lt, le, below, level, isNan, up, down}
 use lib.Ieee.Fits.{down-pos}
@@ -14,16 +14,16 @@ use Rattle.curves.proofs.scalar.Laws.{impossible}
 
 -- ---- `le` against `lt`
 
-at-most : (a b : ℕ) → ltb a b || (eqb a b && true) ≡ not (ltb b a)
-at-most a b = go (ltb b a) (ltb a b) refl refl
+-- `same` tells whether the two are equal
+at-most : (a b : ℕ) (same : Bool) → (a ≡ b → same ≡ true) → ((a ≡ b → ⊥) → same ≡ false) → ltb a b || (same && true) ≡ not (ltb b a)
+at-most a b same yes-same no-same = go (ltb b a) (ltb a b) refl refl
   where
-    go : (x y : Bool) → ltb b a ≡ x → ltb a b ≡ y → y || (eqb a b && true) ≡ not x
+    go : (x y : Bool) → ltb b a ≡ x → ltb a b ≡ y → y || (same && true) ≡ not x
     go true true e f = let h = ltb-true b a e in let k = ltb-true a b f in absurd (omega arith)
-    go true false e f = let h = ltb-true b a e in simp (ne-eqb a b (λ z. omega arith))
+    go true false e f = let h = ltb-true b a e in ap (λ (z : Bool). z && true) (no-same (λ z. omega arith))
     go false true e f = refl
-    go false false e f = let h = ltb-false b a e in let k = ltb-false a b f in simp (eq-eqb a b (omega arith))
+    go false false e f = let h = ltb-false b a e in let k = ltb-false a b f in ap (λ (z : Bool). z && true) (yes-same (omega arith))
 
--- both are zero, or one is not
 both-zero : (a b : ℕ) → eqb a b && eqb a 0 ≡ not (ltb 0 (b + a))
 both-zero a b = go (ltb 0 (b + a)) (eqb a b) refl refl
   where
@@ -32,21 +32,15 @@ both-zero a b = go (ltb 0 (b + a)) (eqb a b) refl refl
     go true false e f = refl
     go false y e f = let h = ltb-false 0 (b + a) e in simp (sym f, eq-eqb a b (omega arith), eq-eqb a 0 (omega arith))
 
+either : (p : Bool) → p || not p ≡ true
+either true = refl
+either false = refl
+
 with-signs : (s t : Bool) (a b : ℕ) → below s a t b || level s a t b ≡ not (below t b s a)
-with-signs false false a b = at-most a b
+with-signs false false a b = at-most a b (eqb a b) (eq-eqb a b) (ne-eqb a b)
 with-signs false true a b = both-zero a b
-with-signs true false a b = go (ltb 0 (a + b)) refl
-  where
-    go : (x : Bool) → ltb 0 (a + b) ≡ x → x || (eqb a b && eqb a 0) ≡ true
-    go true e = refl
-    go false e = let h = ltb-false 0 (a + b) e in simp (eq-eqb a b (omega arith), eq-eqb a 0 (omega arith))
-with-signs true true a b = go (ltb a b) (ltb b a) refl refl
-  where
-    go : (x y : Bool) → ltb a b ≡ x → ltb b a ≡ y → y || (eqb a b && true) ≡ not x
-    go true true e f = let h = ltb-true a b e in let k = ltb-true b a f in absurd (omega arith)
-    go true false e f = let h = ltb-true a b e in simp (ne-eqb a b (λ z. omega arith))
-    go false true e f = refl
-    go false false e f = let h = ltb-false a b e in let k = ltb-false b a f in simp (eq-eqb a b (omega arith))
+with-signs true false a b = ap (λ (p : Bool). ltb 0 (a + b) || p) (both-zero a b ∙ ap (λ (n : ℕ). not (ltb 0 n)) (add-comm b a)) ∙ either (ltb 0 (a + b))
+with-signs true true a b = at-most b a (eqb a b) (λ e. eq-eqb a b (sym e)) (λ n. ne-eqb a b (λ e. n (sym e)))
 
 order : (x y : Float) → isNan x ≡ false → isNan y ≡ false → le x y ≡ not (lt y x)
 unfolding le isNan
