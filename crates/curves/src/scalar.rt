@@ -15,16 +15,13 @@ pub(crate) fn is_finite(x: f64) -> bool
     false
 }
 
-// Finite and above zero.
+// Finite and above zero: a NaN fails by itself.
 pub(crate) fn is_positive(x: f64) -> bool
     ensures { λ r. ⌜ r ≡ is-positive x ⌝ }
 {
-    let finite = is_finite(x);
-    if finite {
-        if x <= 0.0 {
-            return false;
-        }
-        return true;
+    let infinity = f64::from_bits(0x7ff0_0000_0000_0000);
+    if 0.0 < x {
+        return x < infinity;
     }
     false
 }
@@ -79,19 +76,12 @@ pub(crate) fn clamp_unit(x: f64) -> f64
     x
 }
 
-// Finite, and in 0..1 or at most 1e-9 outside.
+// In 0..1 or at most 1e-9 outside: a NaN and the infinities fail by themselves.
 pub(crate) fn in_unit(x: f64) -> bool
     ensures { λ r. ⌜ r ≡ in-unit x ⌝ }
 {
-    let finite = is_finite(x);
-    if finite {
-        if x < -1e-9 {
-            return false;
-        }
-        if x > 1.0 + 1e-9 {
-            return false;
-        }
-        return true;
+    if -1e-9 <= x {
+        return x <= 1.0 + 1e-9;
     }
     false
 }

@@ -30,7 +30,7 @@ outside (fin s m e) h = sym h
 
 -- ---- the absolute value
 
-impossible : {A : Type 0} → false ≡ true → A
+pub impossible : {A : Type 0} → false ≡ true → A
 impossible h = absurd (true≢false (sym h))
 
 and-true-l : (a b : Bool) → a && b ≡ true → a ≡ true
