@@ -67,14 +67,14 @@ module _ (bottom top : ArcCurve) (b t : Ends) (seam : List Float) where
   pub next-column : (d table next : List Float) (i from : ℕ) (u : Float) (c : Column) → table ≡ splice d 0 (cat (seam-column bottom top b t seam) 0 i) → from ≡ 9 * i → from ≤ length d
       → u ≡ clamp-unit (getD seam i nan) → c ≡ column-at bottom top b t u → next ≡ splice table from (column-values u c) → next ≡ splice d 0 (cat (seam-column bottom top b t seam) 0 (i + 1))
   next-column d table next i from u c o k h e f w =
-      let l : length (cat (seam-column bottom top b t seam) 0 i) ≡ i * 9 = length-cat (seam-column bottom top b t seam) 9 0 i length-column in
+      let l : length (cat (seam-column bottom top b t seam) 0 i) ≡ i * 9 = length-cat (seam-column bottom top b t seam) 9 0 i (λ j l. length-column j) in
       cat-step d 0 (seam-column bottom top b t seam) table i from next o (omega arith) h (w ∙ ap (splice table from) (worked-out i u c e f))
 
   module _ (d table : List Float) (n : ℕ) (o : table ≡ splice d 0 (cat (seam-column bottom top b t seam) 0 n)) where
     value-at : (i r : ℕ) → i < n → r < 9 → getD table (9 * i + r) nan ≡ getD (seam-column bottom top b t seam i) r nan
     value-at i r h q =
         let g = seam-column bottom top b t seam in
-        let l : length (cat g 0 n) ≡ n * 9 = length-cat g 9 0 n length-column in
+        let l : length (cat g 0 n) ≡ n * 9 = length-cat g 9 0 n (λ j l. length-column j) in
         ap (λ (x : List Float). getD x (9 * i + r) nan) o
         ∙ List·getD-append (cat g 0 n) _ nan (9 * i + r) (omega arith)
         ∙ getD-nines g 0 n i r nan length-column h q

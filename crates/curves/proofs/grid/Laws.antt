@@ -89,7 +89,7 @@ module _ (f : Row) (n : ℕ) (d : List Float) where
       let g : ℕ → List Float = λ (k : ℕ). coordinates (f k) in
       let vs : List Float = cat g 0 i in
       let m : f i ≡ good (point x y) = sym q ∙ ap point-of w in
-      let l : length vs ≡ i * 2 = length-cat g 2 0 i (λ j. length-coordinates (f j)) in
+      let l : length vs ≡ i * 2 = length-cat g 2 0 i (λ j l. length-coordinates (f j)) in
       let s0 = store-next d 0 vs row k x (s .0) (omega arith) (omega arith) in
       let l1 : k + 1 ≡ 0 + length (vs ++ (x ∷ [])) = simp length-append (omega arith) in
       let s1 = store-next d 0 (vs ++ (x ∷ [])) (set row k x) (k + 1) y s0 l1 (omega arith) in
