@@ -190,7 +190,7 @@ pub(crate) fn fill_row(
     seam0: &[f64],
     seam2: &[f64],
     n: usize,
-    j: u32,
+    j: usize,
     row: &mut [f64],
 ) -> Check
     requires { ⌜ Sampled (now bottom) (now lengths0) × Sampled (now top) (now lengths2) ⌝ }
@@ -199,13 +199,14 @@ pub(crate) fn fill_row(
     requires { ⌜ (steady ≡ true → Rising (now lengths1) × Rising (now lengths3)) ⌝ }
     requires { ⌜ (b ≡ curve-ends (curve (now bottom) (now lengths0))) × (t ≡ curve-ends (curve (now top) (now lengths2))) ⌝ }
     requires { ⌜ Table (curve (now bottom) (now lengths0)) (curve (now top) (now lengths2)) b t (n + 1) (now table) ⌝ }
-    requires { ⌜ (n ≤ 1024) × (n + 1 ≤ length (now seam0)) × (n + 1 ≤ length (now seam2)) × (2 * (n + 1) ≤ length (now row)) ⌝ }
+    requires { ⌜ (n ≤ 1024) × (j ≤ 1024) × (n + 1 ≤ length (now seam0)) × (n + 1 ≤ length (now seam2)) × (2 * (n + 1) ≤ length (now row)) ⌝ }
     ensures { λ r. ⌜ outcome r ≡ row-test (row-of (boundary (curve (now (bottom .entry)) (now (lengths0 .entry))) (curve (now (right .entry)) (now (lengths1 .entry))) (curve (now (top .entry)) (now (lengths2 .entry))) (curve (now (left .entry)) (now (lengths3 .entry)))) (now (seam0 .entry)) (now (seam2 .entry)) v0 v1 j) n ⌝ }
     ensures { λ r. ⌜ (T (is-passed (outcome r)) → now (row .exit) ≡ splice (now (row .entry)) 0 (row-points (row-of (boundary (curve (now (bottom .entry)) (now (lengths0 .entry))) (curve (now (right .entry)) (now (lengths1 .entry))) (curve (now (top .entry)) (now (lengths2 .entry))) (curve (now (left .entry)) (now (lengths3 .entry)))) (now (seam0 .entry)) (now (seam2 .entry)) v0 v1 j) n)) ⌝ }
 {
     // where the line is level, all its points have this parameter
     let v = clamp_unit(v0);
     let kept = row_at(right, lengths1, left, lengths3, v, steady, hints);
+    let index = j as u32;
     fill_points(
         bottom,
         lengths0,
@@ -227,7 +228,7 @@ pub(crate) fn fill_row(
         seam0,
         seam2,
         n,
-        j,
+        index,
         row,
     )
 }

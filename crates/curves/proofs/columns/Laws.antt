@@ -88,3 +88,7 @@ module _ (bottom top : ArcCurve) (b t : Ends) (seam : List Float) where
         let k : 9 * i ≡ 9 * i + 0 = omega arith in
         let e : getD table (9 * i) nan ≡ u = ap (λ (x : ℕ). getD table x nan) k ∙ value-at i 0 g (omega arith) in
         (omega arith, stored table (9 * i) u (column-at bottom top b t u) (λ r q. value-at i r g q) ∙ ap (column-at bottom top b t) (sym e))
+
+-- a table of more columns serves
+pub fewer : (bottom top : ArcCurve) (b t : Ends) (n m : ℕ) (table : List Float) → n ≤ m → Table bottom top b t m table → Table bottom top b t n table
+fewer bottom top b t n m table h w i g = w i (omega arith)
