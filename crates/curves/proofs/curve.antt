@@ -1,4 +1,5 @@
 -- The laws of the curves. Assumes nothing.
 pub mod Halving
 pub mod Laws
+pub mod Near
 pub mod Cases

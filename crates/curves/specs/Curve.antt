@@ -1,8 +1,9 @@
 -- 000's `ArcCurve`: "`ArcCurve::new` holds each point with the length run so far", "`at` clamps, halves down to a segment (equal goes right) and blends as in 000", each operation
 -- rounded once; and what is refused of one curve. Definitions only.
+use mathlib.Core.Path.{_≡_}
 use mathlib.Core.Bool.{Bool, true, false, not, _&&_, cond}
 use mathlib.Core.List.{List, [], _∷_}
-use Prim.Native.Nat.{ℕ, zero, suc, _+_, _-_, _*_, _/_, _≤_}
+use Prim.Native.Nat.{ℕ, zero, suc, _+_, _-_, _*_, _/_, _<_, _≤_}
 use lib.ListN.{length, getD}
 use lib.Dec.{ltb}
 use lib.Ieee.{Float, nan, binary64, add, sub, mul, div, lt, le}
@@ -102,6 +103,14 @@ halve lengths target (suc k) true lo hi =
 unfoldable pub segment-at : List Float → Float → ℕ
 unfolding halve
 segment-at lengths target = let last = length lengths - 1 in halve lengths target (last - 0) (ltb 1 (last - 0)) 0 last
+
+-- no length is above the next
+abbrev pub Rising : List Float → Type 0
+Rising c = (i : ℕ) → i + 1 < length c → le (getD c i nan) (getD c (i + 1) nan) ≡ true
+
+-- the target lies in the segment k: no other one is found by halving, if the lengths rise
+abbrev pub InSegment : List Float → ℕ → Float → Type 0
+InSegment c k target = (k + 1 < length c) × (le (getD c k nan) target ≡ true) × (lt target (getD c (k + 1) nan) ≡ true)
 
 -- where the clamped parameter t lies on the curve
 unfoldable pub along : ArcCurve → Float → Point

@@ -11,6 +11,7 @@ pub mod Tests
 pub mod Boundary
 pub mod Seam
 pub mod Patch
+pub mod Columns
 pub mod Quad
 pub mod Grid
 pub mod Coons

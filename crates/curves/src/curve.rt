@@ -1,12 +1,13 @@
 // A boundary curve: a polyline, sampled by the length run along it. Its points are lent as x, y in turn, at most 1,024 of them, and the
 // length run up to each one stands in a table beside.
 ghost use mathlib.Core.Path.{_≡_};
+ghost use mathlib.Core.Bool.{true};
 ghost use Prim.Native.Nat.{_+_, _*_, _<_, _≤_};
 ghost use lib.ListN.{length};
 ghost use lib.Dec.{T};
 ghost use Rattle.counts.specs.Refusal.{outcome, is-passed};
 ghost use Rattle.curves.specs.Lists.{splice};
-ghost use Rattle.curves.specs.Curve.{point-count, point-at, distance, total-length, curve, cumulative-of, Sampled, knot, toward, span, fraction, blend, segment-at, curve-at, all-finite, total-test, curve-test};
+ghost use Rattle.curves.specs.Curve.{point-count, point-at, distance, total-length, curve, cumulative-of, Sampled, knot, toward, span, fraction, blend, segment-at, Rising, InSegment, curve-at, all-finite, total-test, curve-test};
 use crate::point::Point;
 use crate::root::sqrt;
 use crate::scalar::clamp_unit;
@@ -164,6 +165,66 @@ fn segment_at(lengths: &[f64], target: f64) -> usize
     lo
 }
 
+// Whether no length is above the next. In a real curve none is, since a sum of lengths rounded to nearest never falls; it is tested instead of
+// proved, as that law of addition is not at hand.
+pub(crate) fn is_rising(lengths: &[f64]) -> bool
+    ensures { λ r. ⌜ (r ≡ true → Rising (now (lengths .entry))) ⌝ }
+{
+    let mut i = 0usize;
+    while i + 1 < lengths.len() {
+        let rises = lengths[i] <= lengths[i + 1];
+        if !rises {
+            return false;
+        }
+        i += 1;
+    }
+    true
+}
+
+fn in_segment(lengths: &[f64], k: usize, target: f64) -> bool
+    requires { ⌜ 2 ≤ length (now lengths) ⌝ }
+    ensures { λ r. ⌜ (r ≡ true → InSegment (now (lengths .entry)) k target) ⌝ }
+{
+    let last = lengths.len() - 1;
+    if k < last {
+        if lengths[k] <= target {
+            if target < lengths[k + 1] {
+                return true;
+            }
+        }
+    }
+    false
+}
+
+// The same segment, looked for at the hint `near` and on either side of it before halving: along a seam the next target lies close by.
+fn segment_near(lengths: &[f64], target: f64, steady: bool, near: usize) -> usize
+    requires { ⌜ 2 ≤ length (now lengths) ⌝ }
+    requires { ⌜ (steady ≡ true → Rising (now lengths)) ⌝ }
+    ensures { λ r. ⌜ r ≡ segment-at (now (lengths .entry)) target ⌝ }
+    ensures { λ r. ⌜ r + 1 < length (now (lengths .entry)) ⌝ }
+{
+    if steady {
+        // any number may be lent as a hint, also one that has no next
+        if near < lengths.len() {
+            let here = in_segment(lengths, near, target);
+            if here {
+                return near;
+            }
+            let after = in_segment(lengths, near + 1, target);
+            if after {
+                return near + 1;
+            }
+            if near > 0 {
+                let before = in_segment(lengths, near - 1, target);
+                if before {
+                    return near - 1;
+                }
+            }
+        }
+    }
+    segment_at(lengths, target)
+}
+
 fn knot_at(points: &[f64], cumulative: &[f64], k: usize) -> Knot
     requires { ⌜ (k < length (now cumulative)) × (2 * length (now cumulative) ≤ length (now points)) ⌝ }
     ensures { λ r. ⌜ r ≡ knot (curve (now (points .entry)) (now (cumulative .entry))) k ⌝ }
@@ -177,18 +238,42 @@ fn knot_at(points: &[f64], cumulative: &[f64], k: usize) -> Knot
     }
 }
 
-// The point at the fraction t of the curve's length, t clamped to 0..1.
-pub(crate) fn curve_at(points: &[f64], cumulative: &[f64], t: f64) -> Point
+// A point of the curve, with the number of its segment: a hint for the next one.
+pub(crate) struct Located {
+    pub(crate) point: Point,
+    pub(crate) segment: usize,
+}
+
+// The point at the fraction t of the curve's length, t clamped to 0..1. Where the lengths are known to rise (`steady`), the hint `near` spares
+// the halving.
+pub(crate) fn curve_near(
+    points: &[f64],
+    cumulative: &[f64],
+    t: f64,
+    steady: bool,
+    near: usize,
+) -> Located
     requires { ⌜ Sampled (now points) (now cumulative) ⌝ }
-    ensures { λ r. ⌜ r ≡ curve-at (curve (now (points .entry)) (now (cumulative .entry))) t ⌝ }
+    requires { ⌜ (steady ≡ true → Rising (now cumulative)) ⌝ }
+    ensures { λ r. ⌜ r .point ≡ curve-at (curve (now (points .entry)) (now (cumulative .entry))) t ⌝ }
 {
     let clamped = clamp_unit(t);
     let last = cumulative.len() - 1;
     let total = cumulative[last];
     let target = clamped * total;
-    let k = segment_at(cumulative, target);
+    let k = segment_near(cumulative, target, steady, near);
     let start = knot_at(points, cumulative, k);
     let end = knot_at(points, cumulative, k + 1);
     let segment = Segment { start, end };
-    segment.blend(target)
+    let point = segment.blend(target);
+    Located { point, segment: k }
+}
+
+// The same without a hint.
+pub(crate) fn curve_at(points: &[f64], cumulative: &[f64], t: f64) -> Point
+    requires { ⌜ Sampled (now points) (now cumulative) ⌝ }
+    ensures { λ r. ⌜ r ≡ curve-at (curve (now (points .entry)) (now (cumulative .entry))) t ⌝ }
+{
+    let located = curve_near(points, cumulative, t, false, 0);
+    located.point
 }

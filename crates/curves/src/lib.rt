@@ -2,6 +2,7 @@
 // them and its quads.
 mod boundary;
 mod check;
+mod columns;
 pub mod coons;
 mod crossing;
 mod curve;

@@ -1,10 +1,11 @@
 // One point of the Coons patch, split into what u decides (a column), what v decides (a row), and the rest, since the points of a grid
 // share columns and rows.
 ghost use mathlib.Core.Path.{_≡_};
-ghost use Rattle.curves.specs.Curve.{curve, Sampled};
+ghost use mathlib.Core.Bool.{true};
+ghost use Rattle.curves.specs.Curve.{curve, Sampled, Rising};
 ghost use Rattle.curves.specs.Patch.{lerp2, combined, column-at, row-at, patch-point};
 use crate::boundary::Ends;
-use crate::curve::curve_at;
+use crate::curve::curve_near;
 use crate::point::Point;
 
 pub(crate) struct Column {
@@ -38,7 +39,8 @@ fn combined(p: Point, q: Point, r: Point) -> Point
     }
 }
 
-// The curves of sides 0 and 2 with their tables and ends b and t.
+// The curves of sides 0 and 2 with their tables and ends b and t. A hint for each side is lent, and its segment left there: it may be any
+// number, and is used only where the lengths are known to rise.
 pub(crate) fn column_at(
     bottom: &[f64],
     lengths0: &[f64],
@@ -47,34 +49,58 @@ pub(crate) fn column_at(
     b: Ends,
     t: Ends,
     u: f64,
+    steady: bool,
+    hints: &mut [usize; 4],
 ) -> Column
     requires { ⌜ Sampled (now bottom) (now lengths0) × Sampled (now top) (now lengths2) ⌝ }
+    requires { ⌜ (steady ≡ true → Rising (now lengths0) × Rising (now lengths2)) ⌝ }
     ensures { λ r. ⌜ r ≡ column-at (curve (now (bottom .entry)) (now (lengths0 .entry))) (curve (now (top .entry)) (now (lengths2 .entry))) b t u ⌝ }
 {
-    let on_bottom = curve_at(bottom, lengths0, u);
+    let near_bottom = hints[0];
+    let on_bottom = curve_near(bottom, lengths0, u, steady, near_bottom);
+    hints[0] = on_bottom.segment;
     // the top runs right to left
-    let on_top = curve_at(top, lengths2, 1.0 - u);
+    let near_top = hints[2];
+    let on_top = curve_near(top, lengths2, 1.0 - u, steady, near_top);
+    hints[2] = on_top.segment;
+    let bottom_point = on_bottom.point;
+    let top_point = on_top.point;
     let low = lerp2(u, b.start, b.end);
     let high = lerp2(u, t.end, t.start);
     Column {
-        bottom: on_bottom,
-        top: on_top,
+        bottom: bottom_point,
+        top: top_point,
         low,
         high,
     }
 }
 
-// The curves of sides 1 and 3 with their tables.
-pub(crate) fn row_at(right: &[f64], lengths1: &[f64], left: &[f64], lengths3: &[f64], v: f64) -> Row
+// The curves of sides 1 and 3 with their tables, and hints as above.
+pub(crate) fn row_at(
+    right: &[f64],
+    lengths1: &[f64],
+    left: &[f64],
+    lengths3: &[f64],
+    v: f64,
+    steady: bool,
+    hints: &mut [usize; 4],
+) -> Row
     requires { ⌜ Sampled (now right) (now lengths1) × Sampled (now left) (now lengths3) ⌝ }
+    requires { ⌜ (steady ≡ true → Rising (now lengths1) × Rising (now lengths3)) ⌝ }
     ensures { λ r. ⌜ r ≡ row-at (curve (now (right .entry)) (now (lengths1 .entry))) (curve (now (left .entry)) (now (lengths3 .entry))) v ⌝ }
 {
-    let on_right = curve_at(right, lengths1, v);
+    let near_right = hints[1];
+    let on_right = curve_near(right, lengths1, v, steady, near_right);
+    hints[1] = on_right.segment;
     // the left runs top to bottom
-    let on_left = curve_at(left, lengths3, 1.0 - v);
+    let near_left = hints[3];
+    let on_left = curve_near(left, lengths3, 1.0 - v, steady, near_left);
+    hints[3] = on_left.segment;
+    let right_point = on_right.point;
+    let left_point = on_left.point;
     Row {
-        right: on_right,
-        left: on_left,
+        right: right_point,
+        left: left_point,
     }
 }
 

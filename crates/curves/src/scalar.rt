@@ -1,7 +1,8 @@
 // Rust's helpers on f64, bit for bit: `is_finite`, `abs`, `min`, `max`, `clamp(0.0, 1.0)`, and the tests that a length or an area is above
-// zero and that a parameter lies in 0..1.
+// zero and that a parameter lies in 0..1. Last, whether two values have the same bits.
 // specs/Scalar.antt says what each gives for a NaN and for zeros of either sign.
 ghost use mathlib.Core.Path.{_≡_};
+ghost use mathlib.Core.Bool.{true};
 ghost use Rattle.curves.specs.Scalar.{is-finite, is-positive, float-abs, float-min, float-max, clamp-unit, in-unit};
 
 pub(crate) fn is_finite(x: f64) -> bool
@@ -14,16 +15,13 @@ pub(crate) fn is_finite(x: f64) -> bool
     false
 }
 
-// Finite and above zero.
+// Finite and above zero: a NaN fails by itself.
 pub(crate) fn is_positive(x: f64) -> bool
     ensures { λ r. ⌜ r ≡ is-positive x ⌝ }
 {
-    let finite = is_finite(x);
-    if finite {
-        if x <= 0.0 {
-            return false;
-        }
-        return true;
+    let infinity = f64::from_bits(0x7ff0_0000_0000_0000);
+    if 0.0 < x {
+        return x < infinity;
     }
     false
 }
@@ -78,19 +76,22 @@ pub(crate) fn clamp_unit(x: f64) -> f64
     x
 }
 
-// Finite, and in 0..1 or at most 1e-9 outside.
+// In 0..1 or at most 1e-9 outside: a NaN and the infinities fail by themselves.
 pub(crate) fn in_unit(x: f64) -> bool
     ensures { λ r. ⌜ r ≡ in-unit x ⌝ }
 {
-    let finite = is_finite(x);
-    if finite {
-        if x < -1e-9 {
-            return false;
-        }
-        if x > 1.0 + 1e-9 {
-            return false;
-        }
-        return true;
+    if -1e-9 <= x {
+        return x <= 1.0 + 1e-9;
+    }
+    false
+}
+
+// Whether x and y are the same to the last bit; a NaN is the same as nothing.
+pub(crate) fn same_bits(x: f64, y: f64) -> bool
+    ensures { λ r. ⌜ (r ≡ true → x ≡ y) ⌝ }
+{
+    if x == y {
+        return f64::to_bits(x) == f64::to_bits(y);
     }
     false
 }

@@ -1,6 +1,6 @@
--- What the tests of `is_finite` and `abs` say of a value. Assumes nothing.
+-- What the tests of `is_finite`, `abs` and `same_bits` say of a value. Assumes nothing.
 use mathlib.Core.Path.{_≡_, refl, sym, _∙_, ap}
-use mathlib.Core.Bool.{Bool, true, false, true≢false, _&&_}
+use mathlib.Core.Bool.{Bool, true, false, true≢false, not, _&&_}
 use Prim.Native.Nat.{ℕ, zero, suc, _*_, _+_, _^_, _<_, _≤_}
 use native.Mathlib.Nat.{mul-pos, pow-suc, one-mul, mul-one, zero-mul}
 use native.Mathlib.Omega.{arith}
@@ -8,7 +8,8 @@ use borrow.Author.Tests.{ltb-true, ltb-false, eqb-true}
 use lib.Dec.{T, eqb, eqb→eq}
 use lib.IntN.{ℤ, pos, negsuc}
 use lib.Pow.{pow-pos}
-use lib.Ieee.{Float, nan, inf, fin, binary64, ofBits, neg, lt, eq, up, down, fits}
+use lib.Ieee.{Float, nan, inf, fin, binary64, ofBits, toBits, neg, lt, eq, isNan, up, down, fits}
+use lib.Ieee.Bits.{ofBits-toBits}
 use lib.Ieee.Fits.{up-pos}
 use Rattle.curves.specs.Scalar.{nought, is-finite, float-abs}
 
@@ -29,7 +30,7 @@ outside (fin s m e) h = sym h
 
 -- ---- the absolute value
 
-impossible : {A : Type 0} → false ≡ true → A
+pub impossible : {A : Type 0} → false ≡ true → A
 impossible h = absurd (true≢false (sym h))
 
 and-true-l : (a b : Bool) → a && b ≡ true → a ≡ true
@@ -93,3 +94,23 @@ abs-above (fin true zero e) h k = impossible (sym k ∙ at-zero e)
 abs-above (fin true (suc m) e) h k =
     let p : suc m * up e * 1 + 0 * down e ≤ 0 = ltb-false 0 (suc m * up e * 1 + 0 * down e) h in
     absurd (no-zero m e (omega arith))
+
+-- ---- the same bits
+
+-- a NaN equals nothing
+pub left-not-nan : (x y : Float) → eq x y ≡ true → T (not (isNan x))
+unfolding eq isNan
+left-not-nan nan y h = impossible h
+left-not-nan (inf s) y h = tt
+left-not-nan (fin s m e) y h = tt
+
+pub right-not-nan : (x y : Float) → eq x y ≡ true → T (not (isNan y))
+unfolding eq isNan
+right-not-nan nan nan h = impossible h
+right-not-nan (inf s) nan h = impossible h
+right-not-nan (fin s m e) nan h = impossible h
+right-not-nan x (inf s) h = tt
+right-not-nan x (fin s m e) h = tt
+
+pub by-bits : (x y : Float) → T (fits binary64 x) → T (fits binary64 y) → toBits binary64 x ≡ toBits binary64 y → x ≡ y
+by-bits x y f g e = sym (ofBits-toBits binary64 x f) ∙ ap (ofBits binary64) e ∙ ofBits-toBits binary64 y g

@@ -1,51 +1,14 @@
 -- `curve::curve_at` meets its contract. Assumes nothing.
-use Rattle.curves.specs.Curve.{along, curve-at}
+use Rattle.curves.proofs.scalar.Laws.{impossible}
 use borrow.Author.Needs.{needs}
 use Rattle.curves.proofs.curve.curve_at.Statement.{statement}
 use Rattle.curves.proofs.curve.curve_at.Tie as tie
 
-clamp-unit-requires : tie.Need-clamp-unit-requires
-clamp-unit-requires c κs = search needs
-
-sub-last : tie.Need-sub-last
-sub-last c = search needs
-
-mul-total : tie.Need-mul-total
-mul-total c = search needs
-
-shared-slice-read-total : tie.Need-shared-slice-read-total
-shared-slice-read-total c = search needs
-
-segment-at-requires : tie.Need-segment-at-requires
-segment-at-requires c κs = search needs
-
-knot-at-requires : tie.Need-knot-at-requires
-knot-at-requires c κs = search needs
-
-add-knot-at : tie.Need-add-knot-at
-add-knot-at c = search needs
-
-knot-at-requires-2 : tie.Need-knot-at-requires-2
-knot-at-requires-2 c κs = search needs
-
-blend-requires : tie.Need-blend-requires
-blend-requires c κs = search needs
+curve-near-requires : tie.Need-curve-near-requires
+curve-near-requires c κs = (c .before .before .pre, impossible)
 
 returns : tie.Need-returns
-unfolding along curve-at
-returns c = simp (c .blend .ensures, c .before .before .knot-at .ensures, c .before .knot-at2 .ensures, c .before .before .before .segment-at .ensures .0, c .before .before .before .before .before .clamp-unit .ensures)
+returns c = search needs
 
 pub curve-at-spec : {M : Type 1} → statement M
-curve-at-spec =
-    tie.close
-    (tie.spec
-    clamp-unit-requires
-    sub-last
-    mul-total
-    shared-slice-read-total
-    segment-at-requires
-    knot-at-requires
-    add-knot-at
-    knot-at-requires-2
-    blend-requires
-    returns)
+curve-at-spec = tie.close (tie.spec curve-near-requires returns)

@@ -4,15 +4,36 @@ use borrow.Author.Needs.{needs}
 use Rattle.curves.proofs.patch.row_at.Statement.{statement}
 use Rattle.curves.proofs.patch.row_at.Tie as tie
 
-curve-at-requires : tie.Need-curve-at-requires
-curve-at-requires c κs = search needs
+element-copy-out-near-right : tie.Need-element-copy-out-near-right
+element-copy-out-near-right c = search needs
 
-curve-at-requires-2 : tie.Need-curve-at-requires-2
-curve-at-requires-2 c κs = search needs
+curve-near-requires : tie.Need-curve-near-requires
+curve-near-requires c κs = let s = c .before .before .before .before .before in (s .pre .0 .0, λ e. s .pre .1 e .0)
+
+element-write-hints : tie.Need-element-write-hints
+element-write-hints c = search needs
+
+element-copy-out-near-left : tie.Need-element-copy-out-near-left
+element-copy-out-near-left c = search needs
+
+curve-near-requires-2 : tie.Need-curve-near-requires-2
+curve-near-requires-2 c κs = let s = c .before .before .before .before .before .before .before in (s .pre .0 .1, λ e. s .pre .1 e .1)
+
+element-write-hints-2 : tie.Need-element-write-hints-2
+element-write-hints-2 c = search needs
 
 returns : tie.Need-returns
 unfolding row-at
-returns c = simp (c .before .curve-at .ensures, c .curve-at2 .ensures)
+returns c = simp (c .before .before .before .before .curve-near .ensures, c .before .before .curve-near2 .ensures)
 
 pub row-at-spec : {M : Type 1} → statement M
-row-at-spec = tie.close (tie.spec curve-at-requires curve-at-requires-2 returns)
+row-at-spec =
+    tie.close
+    (tie.spec
+    element-copy-out-near-right
+    curve-near-requires
+    element-write-hints
+    element-copy-out-near-left
+    curve-near-requires-2
+    element-write-hints-2
+    returns)

@@ -1,23 +1,19 @@
 -- `scalar::is_positive` meets its contract. Assumes nothing.
-use Rattle.curves.specs.Scalar.{is-positive}
-use borrow.Author.Needs.{needs}
+use mathlib.Core.Bool.{true, false}
+use lib.Ieee.{nanBits}
+use Rattle.curves.proofs.scalar.Order.{positive-by}
 use Rattle.curves.proofs.scalar.is_positive.Statement.{statement}
 use Rattle.curves.proofs.scalar.is_positive.Tie as tie
 
-is-finite-requires : tie.Need-is-finite-requires
-is-finite-requires c κs = search needs
+float-from-bits-infinity : tie.Need-float-from-bits-infinity
+unfolding nanBits
+float-from-bits-infinity c = tt
 
 returns : tie.Need-returns
-unfolding is-positive
-returns c = simp (← c .before .before .is-finite .ensures, c .before .if1 .taken, c .if2 .taken)
+returns c = positive-by _ true (c .if1 .taken)
 
 returns-2 : tie.Need-returns-2
-unfolding is-positive
-returns-2 c = simp (← c .before .before .is-finite .ensures, c .before .if1 .taken, c .if2 .left)
-
-returns-3 : tie.Need-returns-3
-unfolding is-positive
-returns-3 c = simp (← c .before .is-finite .ensures, c .if1 .left)
+returns-2 c = positive-by _ false (c .if1 .left)
 
 pub is-positive-spec : {M : Type 1} → statement M
-is-positive-spec = tie.close (tie.spec is-finite-requires returns returns-2 returns-3)
+is-positive-spec = tie.close (tie.spec float-from-bits-infinity returns returns-2)

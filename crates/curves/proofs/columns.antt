@@ -1,0 +1,2 @@
+-- The laws of the table of columns. Assumes nothing.
+pub mod Laws

@@ -1,0 +1,84 @@
+-- In lengths that rise, the halving finds the one segment that holds the target, so that a hint which is that segment spares the halving. Assumes nothing.
+use mathlib.Core.Path.{_≡_, refl, sym, subst, _∙_}
+use mathlib.Core.Bool.{Bool, true, false}
+use mathlib.Core.List.{List}
+use Prim.Native.Nat.{ℕ, zero, suc, _+_, _-_, _/_, _<_, _≤_}
+use native.Mathlib.Omega.{arith}
+use borrow.Author.Tests.{ltb-true, ltb-false}
+use lib.Dec.{ltb}
+use lib.ListN.{length, getD}
+use lib.Ieee.{Float, nan, lt, le}
+use Rattle.curves.specs.Curve.{segment-at, Rising, InSegment}
+use Rattle.curves.proofs.scalar.Order.{le-le, lt-le, lt-not-le}
+use Rattle.curves.proofs.curve.Halving.{halved, step-right, step-left, stop}
+
+-- ---- lengths that rise up to the index i
+
+unfoldable pub RisingTo : List Float → ℕ → Type 0
+RisingTo c i = (k : ℕ) → k < i → le (getD c k nan) (getD c (k + 1) nan) ≡ true
+
+pub rising-none : (c : List Float) → RisingTo c 0
+unfolding RisingTo
+rising-none c k h = absurd (omega arith)
+
+pub rising-more : (c : List Float) (i : ℕ) → RisingTo c i → le (getD c i nan) (getD c (i + 1) nan) ≡ true → RisingTo c (i + 1)
+unfolding RisingTo
+rising-more c i f e k h = go (ltb k i) refl
+  where
+    go : (b : Bool) → ltb k i ≡ b → le (getD c k nan) (getD c (k + 1) nan) ≡ true
+    go true q = f k (ltb-true k i q)
+    go false q = let p = ltb-false k i q in let z : i ≡ k = omega arith in subst (λ (n : ℕ). le (getD c n nan) (getD c (n + 1) nan) ≡ true) z e
+
+pub rising-all : (c : List Float) (i : ℕ) → length c ≤ i + 1 → RisingTo c i → Rising c
+unfolding RisingTo
+rising-all c i h f k l = f k (omega arith)
+
+-- ---- the halving ends in the segment that holds the target
+
+module _ (c : List Float) (target : Float) (rises : Rising c) where
+  -- before a length that is not above the target none is
+  before : (i j : ℕ) → i + j < length c → le (getD c (i + j) nan) target ≡ true → le (getD c i nan) target ≡ true
+  before i zero h k = let e : i + 0 ≡ i = omega arith in subst (λ (n : ℕ). le (getD c n nan) target ≡ true) e k
+  before i (suc j) h k =
+      let e : i + suc j ≡ i + j + 1 = omega arith in
+      before i j (omega arith) (le-le (getD c (i + j) nan) (getD c (i + j + 1) nan) target (rises (i + j) (omega arith)) (subst (λ (n : ℕ). le (getD c n nan) target ≡ true) e k))
+
+  -- after a length above the target each is
+  after : (i j : ℕ) → i + j < length c → lt target (getD c i nan) ≡ true → lt target (getD c (i + j) nan) ≡ true
+  after i zero h k = let e : i ≡ i + 0 = omega arith in subst (λ (n : ℕ). lt target (getD c n nan) ≡ true) e k
+  after i (suc j) h k =
+      let e : i + j + 1 ≡ i + suc j = omega arith in
+      subst (λ (n : ℕ). lt target (getD c n nan) ≡ true) e (lt-le target (getD c (i + j) nan) (getD c (i + j + 1) nan) (after i j (omega arith) k) (rises (i + j) (omega arith)))
+
+  module _ (k : ℕ) (inside : InSegment c k target) where
+    to-left : (m : ℕ) → m ≤ k → le (getD c m nan) target ≡ true
+    to-left m h =
+        let e : k ≡ m + (k - m) = omega arith in
+        before m (k - m) (omega (arith, inside .0)) (subst (λ (n : ℕ). le (getD c n nan) target ≡ true) e (inside .1))
+
+    to-right : (m : ℕ) → k < m → m < length c → le (getD c m nan) target ≡ false
+    to-right m h l =
+        let e : k + 1 + (m - (k + 1)) ≡ m = omega arith in
+        lt-not-le target (getD c m nan) (subst (λ (n : ℕ). lt target (getD c n nan) ≡ true) e (after (k + 1) (m - (k + 1)) (omega arith) (inside .2)))
+
+    -- from any lo and hi around k; n bounds their distance
+    found : (n lo hi : ℕ) → hi - lo ≤ n → lo ≤ k → k < hi → hi < length c → halved c target lo hi ≡ k
+    found zero lo hi h p q l = absurd (omega arith)
+    found (suc n) lo hi h p q l = go (ltb 1 (hi - lo)) (ltb k ((lo + hi) / 2)) refl refl (found n)
+      where
+        go : (far left : Bool) → ltb 1 (hi - lo) ≡ far → ltb k ((lo + hi) / 2) ≡ left
+            → ((lo' hi' : ℕ) → hi' - lo' ≤ n → lo' ≤ k → k < hi' → hi' < length c → halved c target lo' hi' ≡ k)
+            → halved c target lo hi ≡ k
+        go false left e f next = let s = ltb-false 1 (hi - lo) e in let z : lo ≡ k = omega arith in stop c target lo hi s ∙ z
+        go true true e f next =
+            let s = ltb-true 1 (hi - lo) e in
+            let u = ltb-true k ((lo + hi) / 2) f in
+            step-left c target lo hi s (to-right ((lo + hi) / 2) u (omega arith)) ∙ next lo ((lo + hi) / 2) (omega arith) p u (omega arith)
+        go true false e f next =
+            let s = ltb-true 1 (hi - lo) e in
+            let u = ltb-false k ((lo + hi) / 2) f in
+            step-right c target lo hi s (to-left ((lo + hi) / 2) u) ∙ next ((lo + hi) / 2) hi (omega arith) u q l
+
+    pub hinted : k ≡ segment-at c target
+    unfolding segment-at
+    hinted = let h = inside .0 in sym (found (length c - 1) 0 (length c - 1) (omega arith) (omega arith) (omega arith) (omega arith))

@@ -1,0 +1,2 @@
+-- The laws of the grid. Assumes nothing.
+pub mod Laws

@@ -1,0 +1,37 @@
+-- A table of columns of the patch, which the rows of a grid share. How the code goes fast, and no more: no public promise cites these. Definitions only.
+use mathlib.Core.Path.{_≡_}
+use mathlib.Core.List.{List, [], _∷_}
+use Prim.Native.Nat.{ℕ, _+_, _*_, _<_, _≤_}
+use lib.ListN.{length, getD}
+use lib.Ieee.{Float, nan}
+use Rattle.curves.specs.Scalar.{clamp-unit}
+use Rattle.curves.specs.Point.{point}
+use Rattle.curves.specs.Curve.{ArcCurve}
+use Rattle.curves.specs.Patch.{column-at}
+use Rattle.curves.specs.declared.boundary.Ends.{Ends}
+use Rattle.curves.specs.declared.patch.Column.{Column}
+
+-- a column takes nine values: its parameter u, and then its four points
+abbrev pub column-values : Float → Column → List Float
+column-values u c = u ∷ c .bottom .x ∷ c .bottom .y ∷ c .top .x ∷ c .top .y ∷ c .low .x ∷ c .low .y ∷ c .high .x ∷ c .high .y ∷ []
+
+-- the column whose nine values begin at the index `from`
+abbrev pub stored-column : List Float → ℕ → Column
+stored-column table from = record {
+  bottom = point (getD table (from + 1) nan) (getD table (from + 2) nan);
+  top = point (getD table (from + 3) nan) (getD table (from + 4) nan);
+  low = point (getD table (from + 5) nan) (getD table (from + 6) nan);
+  high = point (getD table (from + 7) nan) (getD table (from + 8) nan);
+}
+
+-- the values that stand for the value i of a seam
+unfoldable pub seam-column : ArcCurve → ArcCurve → Ends → Ends → List Float → ℕ → List Float
+seam-column bottom top b t seam i = let u = clamp-unit (getD seam i nan) in column-values u (column-at bottom top b t u)
+
+-- there is a column from the index `from` on, and it is the one of the parameter before it, whatever that is
+abbrev pub Holds : ArcCurve → ArcCurve → Ends → Ends → List Float → ℕ → Type 0
+Holds bottom top b t table from = (from + 9 ≤ length table) × (stored-column table from ≡ column-at bottom top b t (getD table from nan))
+
+-- n columns, each of its own parameter
+abbrev pub Table : ArcCurve → ArcCurve → Ends → Ends → ℕ → List Float → Type 0
+Table bottom top b t n table = (i : ℕ) → i < n → Holds bottom top b t table (9 * i)
