@@ -1,13 +1,13 @@
--- Laws of `tab` and `splice`: a list by its index function, and a buffer that is written from some index on. Assumes nothing.
+-- Laws of `tab`, `cat` and `splice`: a list by its index function, and a buffer that is written from some index on. Assumes nothing.
 use mathlib.Core.Path.{_≡_, refl, sym, ap, _∙_}
 use mathlib.Core.List.{List, [], _∷_, _++_, append-assoc, append-nil}
-use Prim.Native.Nat.{ℕ, zero, suc, _+_, _-_, _<_, _≤_}
-use native.Mathlib.Nat.{add-zero, zero-add, add-suc, suc-add, add-assoc}
+use Prim.Native.Nat.{ℕ, zero, suc, _+_, _-_, _*_, _<_, _≤_}
+use native.Mathlib.Nat.{add-zero, zero-add, add-suc, suc-add, add-assoc, add-comm, zero-mul, suc-mul}
 use native.Mathlib.Numerals.{add-one}
 use native.Mathlib.Omega.{arith}
 use lib.ListN.{length, getD, set, take, drop, length-append, length-drop, take-append-drop}
 use lib.Seq.{drop-cons, set-at, append-snoc, set-split, length-take-le, take-at, drop-at, drop-drop, take-add, take-append-seam, drop-append-seam}
-use Rattle.curves.specs.Lists.{tab, splice}
+use Rattle.curves.specs.Lists.{tab, cat, splice}
 
 module _ {A : Type 0} where
   -- ---- tab
@@ -23,6 +23,44 @@ module _ {A : Type 0} where
   -- one more at the end, as a loop's counter has it
   pub tab-more : (f : ℕ → A) (n : ℕ) → tab f 0 (n + 1) ≡ tab f 0 n ++ (f n ∷ [])
   tab-more f n = rw (add-one, tab-snoc f 0 n, zero-add n)
+
+  -- ---- cat
+
+  cat-snoc : (f : ℕ → List A) (k n : ℕ) → cat f k (suc n) ≡ cat f k n ++ f (k + n)
+  cat-snoc f k zero = append-nil (f k) ∙ ap f (sym (add-zero k))
+  cat-snoc f k (suc n) =
+      ap (λ (r : List A). f k ++ r) (cat-snoc f (suc k) n ∙ ap (λ (j : ℕ). cat f (suc k) n ++ f j) (suc-add k n ∙ sym (add-suc k n)))
+      ∙ sym (append-assoc (f k) (cat f (suc k) n) (f (k + suc n)))
+
+  -- one more at the end, as a loop's counter has it
+  pub cat-more : (f : ℕ → List A) (n : ℕ) → cat f 0 (n + 1) ≡ cat f 0 n ++ f n
+  cat-more f n = rw (add-one, cat-snoc f 0 n, zero-add n)
+
+  -- parts of one length
+  pub length-cat : (f : ℕ → List A) (w k n : ℕ) → ((i : ℕ) → k ≤ i → length (f i) ≡ w) → length (cat f k n) ≡ n * w
+  length-cat f w k zero h = sym (zero-mul w)
+  length-cat f w k (suc n) h =
+      length-append (f k) (cat f (suc k) n)
+      ∙ ap (λ (x : ℕ). x + length (cat f (suc k) n)) (h k (omega arith))
+      ∙ ap (λ (x : ℕ). w + x) (length-cat f w (suc k) n (λ i l. h i (omega arith)))
+      ∙ add-comm w (n * w)
+      ∙ sym (suc-mul n w)
+
+  pub length-cat-more : (f : ℕ → List A) (n : ℕ) → length (cat f 0 (n + 1)) ≡ length (cat f 0 n) + length (f n)
+  length-cat-more f n = ap length (cat-more f n) ∙ length-append (cat f 0 n) (f n)
+
+  cat-add : (f : ℕ → List A) (k n m : ℕ) → cat f k (n + m) ≡ cat f k n ++ cat f (k + n) m
+  cat-add f k zero m = ap (cat f k) (zero-add m) ∙ ap (λ (j : ℕ). cat f j m) (sym (add-zero k))
+  cat-add f k (suc n) m =
+      ap (cat f k) (suc-add n m)
+      ∙ ap (λ (r : List A). f k ++ r) (cat-add f (suc k) n m ∙ ap (λ (j : ℕ). cat f (suc k) n ++ cat f j m) (suc-add k n ∙ sym (add-suc k n)))
+      ∙ sym (append-assoc (f k) (cat f (suc k) n) (cat f (k + suc n) m))
+
+  pub cat-grows : (f : ℕ → List A) (i k : ℕ) → i ≤ k → length (cat f 0 i) ≤ length (cat f 0 k)
+  cat-grows f i k h =
+      let e : k ≡ i + (k - i) = omega arith in
+      let g : length (cat f 0 k) ≡ length (cat f 0 i) + length (cat f (0 + i) (k - i)) = ap (λ (n : ℕ). length (cat f 0 n)) e ∙ ap length (cat-add f 0 i (k - i)) ∙ length-append (cat f 0 i) (cat f (0 + i) (k - i)) in
+      omega arith
 
   -- ---- splice
 
@@ -44,6 +82,10 @@ module _ {A : Type 0} where
       ∙ ap (λ (r : List A). r ++ drop (suc i) d) (append-assoc (take from d) vs (v ∷ []))
       ∙ ap (λ (k : ℕ). take from d ++ (vs ++ (v ∷ [])) ++ drop k d) q
 
+  -- one more of several stores in a row
+  pub store-next : (d : List A) (from : ℕ) (vs out : List A) (i : ℕ) (v : A) → out ≡ splice d from vs → i ≡ from + length vs → i < length d → set out i v ≡ splice d from (vs ++ (v ∷ []))
+  store-next d from vs out i v o e h = ap (λ (l : List A). set l i v) o ∙ splice-snoc d from vs v i e h
+
   -- a turn of a loop that writes f 0, f 1, .. from an index on
   pub fill-step : (d : List A) (from : ℕ) (f : ℕ → A) (out : List A) (j k : ℕ) (v : A)
       → out ≡ splice d from (tab f 0 j) → k ≡ from + j → k < length d → v ≡ f j → set out k v ≡ splice d from (tab f 0 (j + 1))
@@ -63,6 +105,26 @@ module _ {A : Type 0} where
       ∙ ap (λ (x : List A). p ++ ws ++ x) (sym (drop-drop (length ws) i (p ++ r)) ∙ ap (drop (length ws)) (drop-at p r i l) ∙ drop-drop (length ws) (from + length vs) d)
       ∙ ap (λ (x : List A). x ++ drop (from + length vs + length ws) d) (append-assoc (take from d) vs ws)
       ∙ ap (λ (k : ℕ). take from d ++ (vs ++ ws) ++ drop k d) (add-assoc from (length vs) (length ws) ∙ ap (λ (k : ℕ). from + k) (sym (length-append vs ws)))
+
+  -- a turn of a loop that writes the parts f 0, f 1, .. one after the other
+  pub cat-step : (d : List A) (from : ℕ) (f : ℕ → List A) (out : List A) (j k : ℕ) (next : List A)
+      → out ≡ splice d from (cat f 0 j) → k ≡ from + length (cat f 0 j) → k ≤ length d → next ≡ splice out k (f j) → next ≡ splice d from (cat f 0 (j + 1))
+  cat-step d from f out j k next o e h w =
+      w ∙ ap (λ (l : List A). splice l k (f j)) o ∙ splice-next d from (cat f 0 j) (f j) k e h ∙ ap (splice d from) (sym (cat-more f j))
+
+  -- what was written is written over by a part that is as long or longer
+  pub splice-over : (d : List A) (from : ℕ) (vs ws : List A) → length vs ≤ length ws → from + length ws ≤ length d → splice (splice d from vs) from ws ≡ splice d from ws
+  splice-over d from vs ws h r =
+      let p : List A = take from d in
+      let q : List A = drop (from + length vs) d in
+      let k : from + length ws ≡ (from + length vs) + (length ws - length vs) = omega arith in
+      ap (λ (x : List A). x ++ ws ++ drop (from + length ws) ((p ++ vs) ++ q)) (ap (take from) (append-assoc p vs q) ∙ take-at p (vs ++ q) from (length-take-le from d (omega arith)))
+      ∙ ap (λ (x : List A). p ++ ws ++ x)
+      (ap (λ (n : ℕ). drop n ((p ++ vs) ++ q)) k
+      ∙ sym (drop-drop (length ws - length vs) (from + length vs) ((p ++ vs) ++ q))
+      ∙ ap (drop (length ws - length vs)) (drop-at (p ++ vs) q (from + length vs) (head-length d from vs (omega arith)))
+      ∙ drop-drop (length ws - length vs) (from + length vs) d
+      ∙ ap (λ (n : ℕ). drop n d) (sym k))
 
   -- ---- a list s that is written part by part: k values stand in the buffer, and what is still to come begins with the next part vs
 

@@ -10,5 +10,6 @@ mod patch;
 mod point;
 mod quad;
 pub mod root;
+mod rows;
 mod scalar;
 mod seam;
