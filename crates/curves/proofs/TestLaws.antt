@@ -1,7 +1,8 @@
 -- Laws of tests that are made one after the other. Assumes nothing.
 use mathlib.Core.Path.{_≡_, refl, sym, ap, subst, _∙_}
 use mathlib.Core.Bool.{Bool, true, false, cond}
-use Prim.Native.Nat.{ℕ, suc, _+_, _-_, _<_, _≤_}
+use Prim.Native.Nat.{ℕ, zero, suc, _+_, _-_, _<_, _≤_}
+use native.Mathlib.Nat.{add-zero, zero-add, add-suc, suc-add}
 use native.Mathlib.Numerals.{add-one}
 use native.Mathlib.Omega.{arith}
 use lib.Dec.{T}
@@ -9,7 +10,7 @@ use Rattle.counts.specs.Refusal.{Verdict, passed, verdict-of, outcome, is-passe
 use Rattle.counts.specs.declared.refusal.Check.{Check}
 use Rattle.counts.specs.declared.refusal.Check.the-variants.{Passed, Refused}
 use Rattle.counts.specs.declared.refusal.Refusal.{Refusal}
-use Rattle.counts.proofs.RefusalLaws.{then-left, then-right, refusal-number, was-refused, was-passed, chain-stops, chain-goes-on}
+use Rattle.counts.proofs.RefusalLaws.{then-left, then-right, refusal-number, was-refused, was-passed, chain-stops, chain-goes-on, then-test-assoc}
 use Rattle.curves.specs.Tests.{first-of, if-passed}
 
 pub refused-not-passed : (r : Refusal) → T (is-passed (outcome (Refused r))) → ⊥
@@ -53,6 +54,12 @@ module _ {A : Type 0} (x : A) (refusal : Verdict → A) where
         | false ↦ refusal v
       ]) (sym (q .1))
 
+-- the outcome of a test, with no test after it
+nothing-after : (c : Check) → then-test (outcome c) passed ≡ outcome c
+unfolding outcome
+nothing-after Passed = refl
+nothing-after (Refused r) = ap (λ (b : Bool). cond b passed (verdict-of r)) (refusal-number r)
+
 -- ---- tests by an index, turn by turn
 
 module _ (f : ℕ → Verdict) where
@@ -74,3 +81,26 @@ module _ (f : ℕ → Verdict) where
   pub first-done : (i n : ℕ) → n ≤ i → passed ≡ first-of f i (n - i)
   unfolding first-of
   first-done i n h = let e : n - i ≡ 0 = omega arith in sym (ap (first-of f i) e)
+
+  -- ---- all the tests are made, and the first refusal is kept
+
+  first-snoc : (k n : ℕ) → first-of f k (suc n) ≡ then-test (first-of f k n) (then-test (f (k + n)) passed)
+  unfolding first-of
+  first-snoc k zero = ap (λ (j : ℕ). then-test (f j) passed) (sym (add-zero k))
+  first-snoc k (suc n) =
+      ap (then-test (f k)) (first-snoc (suc k) n ∙ ap (λ (j : ℕ). then-test (first-of f (suc k) n) (then-test (f j) passed)) (suc-add k n ∙ sym (add-suc k n)))
+      ∙ sym (then-test-assoc (f k) (first-of f (suc k) n) (then-test (f (k + suc n)) passed))
+
+  pub first-more : (n : ℕ) (kept c next : Check) → outcome kept ≡ first-of f 0 n → outcome c ≡ f n → outcome next ≡ then-test (outcome kept) (outcome c) → outcome next ≡ first-of f 0 (n + 1)
+  first-more n kept c next o e w =
+      w
+      ∙ ap (λ (v : Verdict). then-test v (outcome c)) o
+      ∙ ap (then-test (first-of f 0 n)) (sym (nothing-after c) ∙ ap (λ (v : Verdict). then-test v passed) (e ∙ ap f (sym (zero-add n))))
+      ∙ sym (first-snoc 0 n)
+      ∙ ap (first-of f 0) (sym (add-one n))
+
+-- the tests from the second on
+pub first-shifted : (f g : ℕ → Verdict) → ((j : ℕ) → f (suc j) ≡ g j) → (k n : ℕ) → first-of f (suc k) n ≡ first-of g k n
+unfolding first-of
+first-shifted f g h k zero = refl
+first-shifted f g h k (suc n) = ap (λ (v : Verdict). then-test v (first-of f (suc (suc k)) n)) (h k) ∙ ap (then-test (g k)) (first-shifted f g h (suc k) n)

@@ -3,7 +3,7 @@ use mathlib.Core.List.{List, [], _∷_}
 use Prim.Native.Nat.{ℕ, zero, suc, _+_, _-_, _*_}
 use lib.ListN.{length, getD}
 use lib.Ieee.{Float, nan}
-use Rattle.counts.specs.Refusal.{Verdict, then-test}
+use Rattle.counts.specs.Refusal.{Verdict, passed, then-test}
 use Rattle.curves.specs.Answers.{Answer, good, turned-away, verdict}
 use Rattle.curves.specs.Scalar.{nought}
 use Rattle.curves.specs.Lists.{cat}
@@ -88,6 +88,12 @@ unfoldable pub cells-test : List Float → List Float → ℕ → ℕ → Verdic
 unfolding first-of cell-test
 cells-test low high n j = first-of (cell-test low high j) 0 n
 
+-- once row j of the points is there: 25 of the cells below it
+unfoldable pub below-test : List Float → List Float → ℕ → ℕ → Verdict
+unfolding cells-test
+below-test low high n zero = passed
+below-test low high n (suc j) = cells-test low high n j
+
 unfoldable pub quads-test : Grid → ℕ → ℕ → Verdict
 unfolding cells-test row-points
 quads-test f n m = first-of (λ (j : ℕ). cells-test (row-points (f j) n) (row-points (f (suc j)) n) n j) 0 m
@@ -107,9 +113,13 @@ quad-values a b c d = a .x ∷ a .y ∷ b .x ∷ b .y ∷ c .x ∷ c .y ∷ d .x
 unfoldable pub quads-between : List Float → List Float → ℕ → List Float
 quads-between low high n = cat (λ (i : ℕ). quad-values (point-at low i) (point-at low (i + 1)) (point-at high (i + 1)) (point-at high i)) 0 n
 
--- "x, y, +0.0 for each grid point": the n + 1 points of a row
+-- "x, y, +0.0 for each grid point"
+abbrev pub node-values : Point → List Float
+node-values p = p .x ∷ p .y ∷ nought ∷ []
+
+-- the n + 1 points of a row
 unfoldable pub nodes-of : List Float → ℕ → List Float
-nodes-of row n = cat (λ (i : ℕ). point-at row i .x ∷ point-at row i .y ∷ nought ∷ []) 0 (n + 1)
+nodes-of row n = cat (λ (i : ℕ). node-values (point-at row i)) 0 (n + 1)
 
 -- what is written once row j of the points is there, after the row below it: "Quads are written row by row"; a mesh's points, "rows from the bottom"
 unfoldable pub row-part : Layout → List Float → List Float → ℕ → ℕ → List Float
@@ -118,9 +128,12 @@ row-part Quads low high n zero = []
 row-part Quads low high n (suc j) = quads-between low high n
 row-part Nodes low high n j = nodes-of high n
 
+abbrev pub grid-part : Layout → Grid → ℕ → ℕ → List Float
+grid-part layout f n j = row-part layout (row-points (f (j - 1)) n) (row-points (f j) n) n j
+
 unfoldable pub grid-values : Layout → Grid → ℕ → ℕ → List Float
 unfolding row-points row-part
-grid-values layout f n m = cat (λ (j : ℕ). row-part layout (row-points (f (j - 1)) n) (row-points (f j) n) n j) 0 (m + 1)
+grid-values layout f n m = cat (grid-part layout f n) 0 (m + 1)
 
 -- how many values that is
 unfoldable pub needed : Layout → ℕ → ℕ → ℕ

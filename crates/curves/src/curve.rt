@@ -66,7 +66,7 @@ impl Segment {
     }
 }
 
-fn point_at(points: &[f64], k: usize) -> Point
+pub(crate) fn point_at(points: &[f64], k: usize) -> Point
     requires { ⌜ 2 * k + 1 < length (now points) ⌝ }
     ensures { λ r. ⌜ r ≡ point-at (now (points .entry)) k ⌝ }
 {

@@ -1,12 +1,150 @@
-// stub
+// What is tested and written once two rows of grid points are there: the cells between them (25), and the part of the output that the upper
+// row adds. A row of n + 1 points is lent as x, y in turn.
 ghost use mathlib.Core.Path.{_≡_};
-ghost use Prim.Native.Nat.{_≤_};
-ghost use Rattle.curves.specs.Grid.{needed};
+ghost use Prim.Native.Nat.{_+_, _*_, _<_, _≤_};
+ghost use lib.ListN.{length};
+ghost use Rattle.counts.specs.Refusal.{outcome};
+ghost use Rattle.curves.specs.Lists.{splice};
+ghost use Rattle.curves.specs.Curve.{point-at};
+ghost use Rattle.curves.specs.Grid.{cell-test, cells-test, below-test, quad-values, quads-between, node-values, nodes-of, row-part, needed};
+use crate::curve::point_at;
 use crate::grid::Layout;
+use crate::point::Point;
+use crate::quad::check_quad;
+use counts::refusal::Check;
 
+// 25 at the cell i of row j.
+fn check_cell(low: &[f64], high: &[f64], i: usize, j: u32) -> Check
+    requires { ⌜ (i ≤ 1024) × (2 * i + 3 < length (now low)) × (2 * i + 3 < length (now high)) ⌝ }
+    ensures { λ r. ⌜ outcome r ≡ cell-test (now (low .entry)) (now (high .entry)) j i ⌝ }
+{
+    let index = i as u32;
+    let a = point_at(low, i);
+    let b = point_at(low, i + 1);
+    let c = point_at(high, i + 1);
+    let d = point_at(high, i);
+    check_quad(a, b, c, d, index, j)
+}
+
+// 25 along row j of the cells.
+fn check_cells(low: &[f64], high: &[f64], n: usize, j: usize) -> Check
+    requires { ⌜ (n ≤ 1024) × (j ≤ 1024) × (2 * (n + 1) ≤ length (now low)) × (2 * (n + 1) ≤ length (now high)) ⌝ }
+    ensures { λ r. ⌜ outcome r ≡ cells-test (now (low .entry)) (now (high .entry)) n j ⌝ }
+{
+    let row = j as u32;
+    let mut i = 0usize;
+    while i < n {
+        if let Check::Refused(cause) = check_cell(low, high, i, row) {
+            return Check::Refused(cause);
+        }
+        i += 1;
+    }
+    Check::Passed
+}
+
+// 25 of the cells below row j of the points: the lowest row has none, and `low` is not read there.
+pub(crate) fn check_row(low: &[f64], high: &[f64], n: usize, j: usize) -> Check
+    requires { ⌜ (n ≤ 1024) × (j ≤ 1024) × (2 * (n + 1) ≤ length (now low)) × (2 * (n + 1) ≤ length (now high)) ⌝ }
+    ensures { λ r. ⌜ outcome r ≡ below-test (now (low .entry)) (now (high .entry)) n j ⌝ }
+{
+    if j == 0 {
+        return Check::Passed;
+    }
+    check_cells(low, high, n, j - 1)
+}
+
+fn write_quad(a: Point, b: Point, c: Point, d: Point, from: usize, out: &mut [f64])
+    requires { ⌜ from + 8 ≤ length (now out) ⌝ }
+    ensures { λ _. ⌜ now (out .exit) ≡ splice (now (out .entry)) from (quad-values a b c d) ⌝ }
+{
+    out[from] = a.x;
+    out[from + 1] = a.y;
+    out[from + 2] = b.x;
+    out[from + 3] = b.y;
+    out[from + 4] = c.x;
+    out[from + 5] = c.y;
+    out[from + 6] = d.x;
+    out[from + 7] = d.y;
+}
+
+// Writes the n quads between two rows, from an index on.
+fn write_quads(low: &[f64], high: &[f64], n: usize, from: usize, out: &mut [f64])
+    requires { ⌜ (2 * (n + 1) ≤ length (now low)) × (2 * (n + 1) ≤ length (now high)) × (from + 8 * n ≤ length (now out)) ⌝ }
+    ensures { λ _. ⌜ now (out .exit) ≡ splice (now (out .entry)) from (quads-between (now (low .entry)) (now (high .entry)) n) ⌝ }
+{
+    let mut i = 0usize;
+    let mut at = from;
+    while i < n {
+        let a = point_at(low, i);
+        let b = point_at(low, i + 1);
+        let c = point_at(high, i + 1);
+        let d = point_at(high, i);
+        write_quad(a, b, c, d, at, out);
+        i += 1;
+        at += 8;
+    }
+}
+
+fn write_node(p: Point, from: usize, out: &mut [f64])
+    requires { ⌜ from + 3 ≤ length (now out) ⌝ }
+    ensures { λ _. ⌜ now (out .exit) ≡ splice (now (out .entry)) from (node-values p) ⌝ }
+{
+    out[from] = p.x;
+    out[from + 1] = p.y;
+    out[from + 2] = 0.0;
+}
+
+// Writes the n + 1 points of a row, from an index on.
+fn write_nodes(row: &[f64], n: usize, from: usize, out: &mut [f64])
+    requires { ⌜ (2 * (n + 1) ≤ length (now row)) × (from + 3 * (n + 1) ≤ length (now out)) ⌝ }
+    ensures { λ _. ⌜ now (out .exit) ≡ splice (now (out .entry)) from (nodes-of (now (row .entry)) n) ⌝ }
+{
+    let mut i = 0usize;
+    let mut at = from;
+    while i < n + 1 {
+        let p = point_at(row, i);
+        write_node(p, at, out);
+        i += 1;
+        at += 3;
+    }
+}
+
+// Writes what row j of the points adds, from an index on, and returns the index after it. At the lowest row `low` is not read.
+pub(crate) fn write_row(
+    layout: Layout,
+    low: &[f64],
+    high: &[f64],
+    n: usize,
+    j: usize,
+    from: usize,
+    out: &mut [f64],
+) -> usize
+    requires { ⌜ (2 * (n + 1) ≤ length (now low)) × (2 * (n + 1) ≤ length (now high)) × (from + length (row-part layout (now low) (now high) n j) ≤ length (now out)) ⌝ }
+    ensures { λ r. ⌜ r ≡ from + length (row-part layout (now (low .entry)) (now (high .entry)) n j) ⌝ }
+    ensures { λ r. ⌜ now (out .exit) ≡ splice (now (out .entry)) from (row-part layout (now (low .entry)) (now (high .entry)) n j) ⌝ }
+{
+    match layout {
+        Layout::Quads => {
+            if j == 0 {
+                return from;
+            }
+            write_quads(low, high, n, from, out);
+            from + 8 * n
+        }
+        Layout::Nodes => {
+            write_nodes(high, n, from, out);
+            from + 3 * (n + 1)
+        }
+    }
+}
+
+// How many values a grid of n by m cells writes.
 pub(crate) fn needed(layout: Layout, n: usize, m: usize) -> usize
     requires { ⌜ (n ≤ 1024) × (m ≤ 1024) ⌝ }
     ensures { λ r. ⌜ r ≡ needed layout n m ⌝ }
 {
-    0
+    match layout {
+        Layout::Quads => m * (8 * n),
+        Layout::Nodes => (m + 1) * (3 * (n + 1)),
+    }
 }

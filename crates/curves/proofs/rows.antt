@@ -1,0 +1,2 @@
+-- The laws of the rows of a grid. Assumes nothing.
+pub mod Laws

@@ -1,0 +1,236 @@
+-- The rows of a grid: how long what each adds is, and a loop over rows 0 to m of the points that tests the cells below each one and writes what it adds. Assumes nothing.
+use mathlib.Core.Path.{_≡_, refl, sym, ap, _∙_}
+use mathlib.Core.List.{List, [], _∷_}
+use Prim.Native.Nat.{ℕ, zero, suc, _+_, _-_, _*_, _<_, _≤_}
+use native.Mathlib.Nat.{mul-comm, mul-le-mul-right}
+use native.Mathlib.Numerals.{add-one}
+use native.Mathlib.Omega.{arith}
+use lib.ListN.{length, set}
+use lib.Ieee.{Float}
+use Rattle.counts.specs.Refusal.{Verdict, passed, outcome, then-test}
+use Rattle.counts.specs.declared.refusal.Check.{Check}
+use Rattle.counts.specs.declared.refusal.Check.the-variants.{Passed}
+use Rattle.curves.specs.Lists.{cat, splice}
+use Rattle.curves.specs.Tests.{first-of}
+use Rattle.curves.specs.Scalar.{nought}
+use Rattle.curves.specs.Answers.{Answer, good, turned-away}
+use Rattle.curves.specs.Curve.{point-at}
+use Rattle.curves.specs.Quad.{zeros}
+use Rattle.curves.specs.Grid.{Row, Grid, coordinates, row-points, cells-test, below-test, quads-test, quad-values, quads-between, node-values, nodes-of, row-part, grid-part, grid-values, needed}
+use Rattle.curves.specs.declared.point.Point.{Point}
+use Rattle.curves.specs.declared.grid.Layout.{Layout}
+use Rattle.curves.specs.declared.grid.Layout.the-variants.{Quads, Nodes}
+use Rattle.curves.proofs.ListLaws.{length-tab, length-cat, length-cat-more, cat-grows, splice-none, store-next, cat-step, splice-over}
+use Rattle.curves.proofs.TestLaws.{first-more, first-shifted}
+
+-- ---- stores in a row
+
+pub quad-stored : (d : List Float) (k : ℕ) (a b c e : Point) → k + 8 ≤ length d
+    → set (set (set (set (set (set (set (set d k (a .x)) (k + 1) (a .y)) (k + 2) (b .x)) (k + 3) (b .y)) (k + 4) (c .x)) (k + 5) (c .y)) (k + 6) (e .x)) (k + 7) (e .y) ≡ splice d k (quad-values a b c e)
+quad-stored d k a b c e h =
+    let s0 = store-next d k [] d k (a .x) (splice-none d k) (omega arith) (omega arith) in
+    let s1 = store-next d k (a .x ∷ []) _ (k + 1) (a .y) s0 refl (omega arith) in
+    let s2 = store-next d k (a .x ∷ a .y ∷ []) _ (k + 2) (b .x) s1 refl (omega arith) in
+    let s3 = store-next d k (a .x ∷ a .y ∷ b .x ∷ []) _ (k + 3) (b .y) s2 refl (omega arith) in
+    let s4 = store-next d k (a .x ∷ a .y ∷ b .x ∷ b .y ∷ []) _ (k + 4) (c .x) s3 refl (omega arith) in
+    let s5 = store-next d k (a .x ∷ a .y ∷ b .x ∷ b .y ∷ c .x ∷ []) _ (k + 5) (c .y) s4 refl (omega arith) in
+    let s6 = store-next d k (a .x ∷ a .y ∷ b .x ∷ b .y ∷ c .x ∷ c .y ∷ []) _ (k + 6) (e .x) s5 refl (omega arith) in
+    store-next d k (a .x ∷ a .y ∷ b .x ∷ b .y ∷ c .x ∷ c .y ∷ e .x ∷ []) _ (k + 7) (e .y) s6 refl (omega arith)
+
+pub node-stored : (d : List Float) (k : ℕ) (p : Point) → k + 3 ≤ length d → set (set (set d k (p .x)) (k + 1) (p .y)) (k + 2) nought ≡ splice d k (node-values p)
+node-stored d k p h =
+    let s0 = store-next d k [] d k (p .x) (splice-none d k) (omega arith) (omega arith) in
+    let s1 = store-next d k (p .x ∷ []) _ (k + 1) (p .y) s0 refl (omega arith) in
+    store-next d k (p .x ∷ p .y ∷ []) _ (k + 2) nought s1 refl (omega arith)
+
+-- ---- what a row adds, and its length
+
+abbrev pub quad-at : List Float → List Float → ℕ → List Float
+quad-at low high i = quad-values (point-at low i) (point-at low (i + 1)) (point-at high (i + 1)) (point-at high i)
+
+abbrev pub node-at : List Float → ℕ → List Float
+node-at row i = node-values (point-at row i)
+
+pub quads-length : (low high : List Float) (n : ℕ) → length (cat (quad-at low high) 0 n) ≡ 8 * n
+quads-length low high n = length-cat (quad-at low high) 8 0 n (λ i h. refl) ∙ mul-comm n 8
+
+-- the quad that was written is the one of its four points
+pub quad-same : (low high : List Float) (i : ℕ) (out : List Float) (at : ℕ) (a b c d : Point) (next : List Float)
+    → a ≡ point-at low i → b ≡ point-at low (i + 1) → c ≡ point-at high (i + 1) → d ≡ point-at high i → next ≡ splice out at (quad-values a b c d)
+    → next ≡ splice out at (quad-at low high i)
+quad-same low high i out at a b c d next p q r s w =
+    w
+    ∙ ap (λ (x : Point). splice out at (quad-values x b c d)) p
+    ∙ ap (λ (x : Point). splice out at (quad-values (point-at low i) x c d)) q
+    ∙ ap (λ (x : Point). splice out at (quad-values (point-at low i) (point-at low (i + 1)) x d)) r
+    ∙ ap (λ (x : Point). splice out at (quad-values (point-at low i) (point-at low (i + 1)) (point-at high (i + 1)) x)) s
+
+pub nodes-length : (row : List Float) (n : ℕ) → length (cat (node-at row) 0 n) ≡ 3 * n
+nodes-length row n = length-cat (node-at row) 3 0 n (λ i h. refl) ∙ mul-comm n 3
+
+pub first-row : (layout : Layout) (low high : List Float) (n j : ℕ) → layout ≡ Quads → j ≡ 0 → row-part layout low high n j ≡ []
+unfolding row-part
+first-row layout low high n j e z = ap (λ (l : Layout). row-part l low high n j) e ∙ ap (row-part Quads low high n) z
+
+later-quads : (low high : List Float) (n j : ℕ) → 0 < j → row-part Quads low high n j ≡ quads-between low high n
+unfolding row-part
+later-quads low high n zero h = absurd (omega arith)
+later-quads low high n (suc j) h = refl
+
+pub later-row : (layout : Layout) (low high : List Float) (n j : ℕ) → layout ≡ Quads → 0 < j → row-part layout low high n j ≡ quads-between low high n
+later-row layout low high n j e h = ap (λ (l : Layout). row-part l low high n j) e ∙ later-quads low high n j h
+
+pub nodes-row : (layout : Layout) (low high : List Float) (n j : ℕ) → layout ≡ Nodes → row-part layout low high n j ≡ nodes-of high n
+unfolding row-part
+nodes-row layout low high n j e = ap (λ (l : Layout). row-part l low high n j) e
+
+pub length-quads : (low high : List Float) (n : ℕ) → length (quads-between low high n) ≡ 8 * n
+unfolding quads-between
+length-quads low high n = quads-length low high n
+
+pub length-nodes : (row : List Float) (n : ℕ) → length (nodes-of row n) ≡ 3 * (n + 1)
+unfolding nodes-of
+length-nodes row n = nodes-length row (n + 1)
+
+-- the part ws was written, from one index to the next, and it is the one to write
+pub part-told : (out : List Float) (from to k : ℕ) (vs ws next : List Float) → vs ≡ ws → length ws ≡ k → to ≡ from + k → next ≡ splice out from ws → (to ≡ from + length vs) × (next ≡ splice out from vs)
+part-told out from to k vs ws next e l t w = (t ∙ ap (λ (i : ℕ). from + i) (sym (ap length e ∙ l)), w ∙ ap (splice out from) (sym e))
+
+-- what stands below the lowest row does not matter
+pub part-first : (layout : Layout) (low low' high : List Float) (n : ℕ) → row-part layout low high n 0 ≡ row-part layout low' high n 0
+unfolding row-part
+part-first Quads low low' high n = refl
+part-first Nodes low low' high n = refl
+
+pub below-first : (low high : List Float) (n j : ℕ) → j ≡ 0 → below-test low high n j ≡ passed
+unfolding below-test
+below-first low high n j e = ap (below-test low high n) e
+
+pub below-later : (low high : List Float) (n j : ℕ) → 0 < j → below-test low high n j ≡ cells-test low high n (j - 1)
+unfolding below-test
+below-later low high n zero h = absurd (omega arith)
+below-later low high n (suc j) h = let e : j ≡ suc j - 1 = omega arith in ap (cells-test low high n) e
+
+-- ---- the whole grid
+
+coordinates-length : (a : Answer Point) → length (coordinates a) ≡ 2
+coordinates-length (good p) = refl
+coordinates-length (turned-away v) = refl
+
+pub length-row-points : (f : Row) (n : ℕ) → length (row-points f n) ≡ 2 * (n + 1)
+unfolding row-points
+length-row-points f n = length-cat (λ (i : ℕ). coordinates (f i)) 2 0 (n + 1) (λ i h. coordinates-length (f i)) ∙ mul-comm (n + 1) 2
+
+pub length-grid : (layout : Layout) (f : Grid) (n m : ℕ) → length (grid-values layout f n m) ≡ needed layout n m
+unfolding grid-values needed
+length-grid Quads f n m =
+    ap (λ (k : ℕ). length (cat (grid-part Quads f n) 0 k)) (add-one m)
+    ∙ length-cat (grid-part Quads f n) (8 * n) 1 m (λ j h. ap length (later-quads (row-points (f (j - 1)) n) (row-points (f j) n) n j h) ∙ length-quads (row-points (f (j - 1)) n) (row-points (f j) n) n)
+length-grid Nodes f n m = length-cat (grid-part Nodes f n) (3 * (n + 1)) 0 (m + 1) (λ j h. ap length (nodes-row Nodes (row-points (f (j - 1)) n) (row-points (f j) n) n j refl) ∙ length-nodes (row-points (f j) n) n)
+
+pub quads-fit : (n m : ℕ) → n ≤ 1024 → m ≤ 1024 → m * (8 * n) ≤ 8388608
+quads-fit n m h k = let e : m * (8 * n) ≤ 1024 * (8 * n) = mul-le-mul-right (8 * n) k in omega arith
+
+pub nodes-fit : (n m : ℕ) → n ≤ 1024 → m ≤ 1024 → (m + 1) * (3 * (n + 1)) ≤ 3151875
+nodes-fit n m h k =
+    let l : m + 1 ≤ 1025 = omega arith in
+    let e : (m + 1) * (3 * (n + 1)) ≤ 1025 * (3 * (n + 1)) = mul-le-mul-right (3 * (n + 1)) l in
+    omega arith
+
+-- ---- rows 0 to m of the points, one after the other: `low` is the row before, if there is one, and `high` is row j
+
+module _ (f : Grid) (n : ℕ) where
+  abbrev pub RowBefore : ℕ → List Float → Type 0
+  RowBefore j low = 0 < j → low ≡ row-points (f (j - 1)) n
+
+  pub none-before : (low : List Float) → RowBefore 0 low
+  none-before low h = absurd (omega arith)
+
+  pub row-passed : (j : ℕ) (row : List Float) → row ≡ row-points (f j) n → RowBefore (j + 1) row
+  row-passed j row e h = let k : j ≡ j + 1 - 1 = omega arith in e ∙ ap (λ (i : ℕ). row-points (f i) n) k
+
+  -- ---- the tests
+
+  abbrev pub cells-below : ℕ → Verdict
+  cells-below j = below-test (row-points (f (j - 1)) n) (row-points (f j) n) n j
+
+  below-same : (j : ℕ) (low high : List Float) → RowBefore j low → high ≡ row-points (f j) n → below-test low high n j ≡ cells-below j
+  unfolding below-test
+  below-same zero low high b e = refl
+  below-same (suc j) low high b e =
+      ap (λ (l : List Float). cells-test l high n j) (b (omega arith)) ∙ ap (λ (l : List Float). cells-test (row-points (f (suc j - 1)) n) l n j) e
+
+  pub cells-begin : outcome Passed ≡ first-of cells-below 0 0
+  unfolding outcome first-of
+  cells-begin = refl
+
+  pub cells-step : (j : ℕ) (low high : List Float) (kept below next : Check) → RowBefore j low → high ≡ row-points (f j) n
+      → outcome kept ≡ first-of cells-below 0 j → outcome below ≡ below-test low high n j → outcome next ≡ then-test (outcome kept) (outcome below)
+      → outcome next ≡ first-of cells-below 0 (j + 1)
+  cells-step j low high kept below next b e o t w = first-more cells-below j kept below next o (t ∙ below-same j low high b e) w
+
+  cells-at : (j : ℕ) → cells-below (suc j) ≡ cells-test (row-points (f j) n) (row-points (f (suc j)) n) n j
+  unfolding below-test
+  cells-at j = let e : suc j - 1 ≡ j = omega arith in ap (λ (i : ℕ). cells-test (row-points (f i) n) (row-points (f (suc j)) n) n j) e
+
+  pub all-cells : (m : ℕ) → first-of cells-below 0 (m + 1) ≡ quads-test f n m
+  unfolding first-of below-test quads-test
+  all-cells m = ap (first-of cells-below 0) (add-one m) ∙ first-shifted cells-below (λ (j : ℕ). cells-test (row-points (f j) n) (row-points (f (suc j)) n) n j) cells-at 0 m
+
+  pub cells-end : (m j : ℕ) (kept : Check) → outcome kept ≡ first-of cells-below 0 j → m < j → j ≤ m + 1 → outcome kept ≡ quads-test f n m
+  cells-end m j kept o h k = let e : j ≡ m + 1 = omega arith in o ∙ ap (first-of cells-below 0) e ∙ all-cells m
+
+  -- ---- the output
+
+  module _ (layout : Layout) where
+    part-same : (j : ℕ) (low high : List Float) → RowBefore j low → high ≡ row-points (f j) n → row-part layout low high n j ≡ grid-part layout f n j
+    part-same zero low high b e = part-first layout low (row-points (f (0 - 1)) n) high n ∙ ap (λ (l : List Float). row-part layout (row-points (f (0 - 1)) n) l n 0) e
+    part-same (suc j) low high b e =
+        ap (λ (l : List Float). row-part layout l high n (suc j)) (b (omega arith))
+        ∙ ap (λ (l : List Float). row-part layout (row-points (f (suc j - 1)) n) l n (suc j)) e
+
+    within : (m j : ℕ) → j ≤ m + 1 → length (cat (grid-part layout f n) 0 j) ≤ needed layout n m
+    unfolding grid-values
+    within m j h =
+        let g = cat-grows (grid-part layout f n) j (m + 1) h in
+        let e = length-grid layout f n m in
+        omega (arith, g, e)
+
+    -- what row j adds has room
+    pub row-fits : (d : List Float) (m j at : ℕ) (low high : List Float) → RowBefore j low → high ≡ row-points (f j) n
+        → at ≡ length (cat (grid-part layout f n) 0 j) → j ≤ m → needed layout n m ≤ length d
+        → at + length (row-part layout low high n j) ≤ length d
+    row-fits d m j at low high b e a h r =
+        let p = ap length (part-same j low high b e) in
+        let q = length-cat-more (grid-part layout f n) j in
+        let w = within m (j + 1) (omega arith) in
+        omega (arith, p, q, w, a, r)
+
+    pub row-end : (j at next : ℕ) (low high : List Float) → RowBefore j low → high ≡ row-points (f j) n
+        → at ≡ length (cat (grid-part layout f n) 0 j) → next ≡ at + length (row-part layout low high n j)
+        → next ≡ length (cat (grid-part layout f n) 0 (j + 1))
+    row-end j at next low high b e a w =
+        let p = ap length (part-same j low high b e) in
+        let q = length-cat-more (grid-part layout f n) j in
+        omega (arith, p, q, a, w)
+
+    pub row-written : (d out next : List Float) (m j at : ℕ) (low high : List Float) → RowBefore j low → high ≡ row-points (f j) n
+        → at ≡ length (cat (grid-part layout f n) 0 j) → j ≤ m → needed layout n m ≤ length d
+        → out ≡ splice d 0 (cat (grid-part layout f n) 0 j) → next ≡ splice out at (row-part layout low high n j)
+        → next ≡ splice d 0 (cat (grid-part layout f n) 0 (j + 1))
+    row-written d out next m j at low high b e a h r o w =
+        let i = within m j (omega arith) in
+        cat-step d 0 (grid-part layout f n) out j at next o (omega arith) (omega (arith, i, a, r)) (w ∙ ap (splice out at) (part-same j low high b e))
+
+    pub rows-written : (d out : List Float) (m j : ℕ) → out ≡ splice d 0 (cat (grid-part layout f n) 0 j) → m < j → j ≤ m + 1
+        → out ≡ splice d 0 (grid-values layout f n m)
+    unfolding grid-values
+    rows-written d out m j o h k = let e : j ≡ m + 1 = omega arith in o ∙ ap (λ (i : ℕ). splice d 0 (cat (grid-part layout f n) 0 i)) e
+
+    -- a refusal clears what was written
+    pub rows-cleared : (d out last : List Float) (m j : ℕ) → out ≡ splice d 0 (cat (grid-part layout f n) 0 j) → j ≤ m + 1 → needed layout n m ≤ length d
+        → last ≡ splice out 0 (zeros (needed layout n m)) → last ≡ splice d 0 (zeros (needed layout n m))
+    rows-cleared d out last m j o h r w =
+        let z = length-tab (λ (i : ℕ). nought) 0 (needed layout n m) in
+        let i = within m j h in
+        w ∙ ap (λ (l : List Float). splice l 0 (zeros (needed layout n m))) o ∙ splice-over d 0 (cat (grid-part layout f n) 0 j) (zeros (needed layout n m)) (omega (arith, z, i)) (omega (arith, z, r))

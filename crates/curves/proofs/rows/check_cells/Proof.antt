@@ -1,0 +1,66 @@
+-- `rows::check_cells` meets its contract. Before each turn the whole test is that of the cells from i on. Assumes nothing.
+use mathlib.Core.Path.{_≡_, sym, _∙_}
+use Prim.Native.Nat.{_-_}
+use native.Mathlib.Omega.{arith}
+use Rattle.counts.specs.Refusal.{outcome}
+use Rattle.curves.specs.Tests.{first-of}
+use Rattle.curves.specs.Grid.{cell-test, cells-test}
+use Rattle.curves.proofs.TestLaws.{first-start, first-next, first-stops, first-done}
+use borrow.Author.Needs.{needs}
+use Rattle.curves.proofs.rows.check_cells.Statement.{statement}
+use Rattle.curves.proofs.rows.check_cells.Tie as tie
+
+abbrev Inv-loop : tie.InvT-loop
+Inv-loop low high n j row i₀ i = first-of (cell-test low high j) 0 n ≡ first-of (cell-test low high j) i (n - i)
+
+abbrev μ-loop : tie.MeasureT-loop
+μ-loop low high n j row i₀ i = n - i
+
+cast-row : tie.Need-cast-row Inv-loop μ-loop
+cast-row c = omega arith
+
+loop-holds : tie.Need-loop-holds Inv-loop μ-loop
+loop-holds c = first-start _ _
+
+check-cell-requires : tie.Need-check-cell-requires Inv-loop μ-loop
+check-cell-requires c κs = omega arith
+
+enum-known-cause : tie.Need-enum-known-cause Inv-loop μ-loop
+enum-known-cause c = search needs
+
+returns : tie.Need-returns Inv-loop μ-loop
+unfolding cells-test
+returns c = first-stops _ _ _ _ _ (c .before .before .before .before .loop-test .taken) (c .before .cause .given .1) (c .before .before .before .check-cell .ensures) ∙ sym (c .before .before .before .before .before .loop .inv)
+
+enum-told : tie.Need-enum-told Inv-loop μ-loop
+enum-told c = search needs
+
+add-i : tie.Need-add-i Inv-loop μ-loop
+add-i c = omega arith
+
+loop-less : tie.Need-loop-less Inv-loop μ-loop
+loop-less c = omega arith
+
+loop-again : tie.Need-loop-again Inv-loop μ-loop
+loop-again c = c .before .before .before .before .loop .inv ∙ first-next _ _ _ _ (c .before .before .before .loop-test .taken) (c .enum-told .given .1) (c .before .before .check-cell .ensures)
+
+returns-2 : tie.Need-returns-2 Inv-loop μ-loop
+unfolding outcome cells-test
+returns-2 c = first-done _ _ _ (c .loop-test .left) ∙ sym (c .before .loop .inv)
+
+pub check-cells-spec : {M : Type 1} → statement M
+check-cells-spec =
+    tie.close
+    (tie.spec
+    Inv-loop
+    μ-loop
+    cast-row
+    loop-holds
+    check-cell-requires
+    enum-known-cause
+    returns
+    enum-told
+    add-i
+    loop-less
+    loop-again
+    returns-2)
