@@ -15,3 +15,4 @@ pub mod Quad
 pub mod Grid
 pub mod Coons
 pub mod Lay
+pub mod Demand
