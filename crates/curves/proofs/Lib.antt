@@ -2,3 +2,5 @@
 pub mod ListLaws
 pub mod TestLaws
 pub mod Clear
+pub mod Demand
+pub mod lay
