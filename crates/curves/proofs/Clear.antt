@@ -122,11 +122,11 @@ pair-clear a b pair e = go (eqb (length a) (length b)) (eq→eqb (length a) (len
     go false h = absurd h
 
 -- seams whose opposite ones are equally long
-pub record Level (s : Seams) : Type 0 where
+pub record EqualSeams (s : Seams) : Type 0 where
   pub bottom-top : length (s .bottom) ≡ length (s .top)
   pub left-right : length (s .left) ≡ length (s .right)
 
-seams-clear : (s : Seams) → Level s → Clear (seams-test (s .bottom) (s .top) (s .left) (s .right))
+seams-clear : (s : Seams) → EqualSeams s → Clear (seams-test (s .bottom) (s .top) (s .left) (s .right))
 unfolding seams-test
 seams-clear s e =
     then-clear (seam-clear (s .bottom) 0)
@@ -194,12 +194,12 @@ filled-clear layout f n m out h = go (is-passed (grid-test f n m))
 
 -- ---- the public functions, on seams whose opposite ones are equally long
 
-patch-test-clear : (layout : Layout) (bottom right top left : List Float) (s : Seams) (room : ℕ) → Level s → Clear (patch-test layout bottom right top left s room)
+patch-test-clear : (layout : Layout) (bottom right top left : List Float) (s : Seams) (room : ℕ) → EqualSeams s → Clear (patch-test layout bottom right top left s room)
 unfolding patch-test
 patch-test-clear layout bottom right top left s room e =
     then-clear (curves-clear bottom right top left) (then-clear (seams-clear s e) (if-clear (ltb room (needed layout (n-u s) (n-v s))) 11 0 0 tt))
 
-patch-clear : (layout : Layout) (bottom right top left : List Float) (s : Seams) (out : List Float) → Level s → Clear (patch layout bottom right top left s out .verdict)
+patch-clear : (layout : Layout) (bottom right top left : List Float) (s : Seams) (out : List Float) → EqualSeams s → Clear (patch layout bottom right top left s out .verdict)
 unfolding patch
 patch-clear layout bottom right top left s out e =
     let f = grid-of (boundary-of bottom right top left) s in
@@ -225,7 +225,7 @@ seams-limit-clear s =
     then-clear (seam-limit-clear (s .bottom))
     (then-clear (seam-limit-clear (s .top)) (then-clear (seam-limit-clear (s .left)) (seam-limit-clear (s .right))))
 
-from-parameters-clear : (layout : Layout) (bottom right top left : List Float) (s : Seams) (out : List Float) → Level s
+from-parameters-clear : (layout : Layout) (bottom right top left : List Float) (s : Seams) (out : List Float) → EqualSeams s
     → Clear (coons-from-parameters layout bottom right top left s out .verdict)
 unfolding coons-from-parameters
 from-parameters-clear layout bottom right top left s out e =
@@ -255,7 +255,7 @@ sides-clear region n f =
     (then-clear (breaks-clear region (f .breaks0) 0)
     (then-clear (breaks-clear region (f .breaks1) 1) (then-clear (breaks-clear region (f .breaks2) 2) (breaks-clear region (f .breaks3) 3))))
 
-pub lay-clear : (region counts : List ℕ) (f : Field) (out : List Float) → Level (seams-of region counts f) → Clear (lay region counts f out .verdict)
+pub lay-clear : (region counts : List ℕ) (f : Field) (out : List Float) → EqualSeams (seams-of region counts f) → Clear (lay region counts f out .verdict)
 unfolding lay
 lay-clear region counts f out e =
     let tested = then-clear (record-clear region (length counts)) (then-clear (curves-limit-clear (f .bottom) (f .right) (f .top) (f .left)) (sides-clear region (length counts) f)) in

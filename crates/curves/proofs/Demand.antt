@@ -26,7 +26,7 @@ use Rattle.counts.proofs.Rounds.{Steady, steady-all, constraint-at, demand-3-ro
 use Rattle.counts.proofs.Solving.{SolveIs, solve-is, solve-balanced, level-solved}
 use Rattle.curves.specs.Lay.{Field, seams-of, seam-of, lay}
 use Rattle.curves.specs.Demand.{record-of, Alike, Handed, Demand-3}
-use Rattle.curves.proofs.Clear.{Clear, Level, lay-clear}
+use Rattle.curves.proofs.Clear.{Clear, EqualSeams, lay-clear}
 use Rattle.curves.proofs.lay.Laws.{length-seam}
 
 -- ---- more counts than edges do no harm
@@ -156,11 +156,32 @@ same-sides n regions t r h k b =
     few (suc (suc (suc zero))) b = side-few (drop (r * 68) regions) fit .3
     few (suc (suc (suc (suc k)))) b = absurd (omega arith)
 
+-- ---- the two ways to hand on what an accepted solve wrote, each with any list of rounds: the whole lent buffer, or the part that was written
+
+pub whole-buffer : (regions : List ℕ) (ideals : List Float) (lent : List ℕ) (asks : List Ask) → T (is-passed (solve regions ideals lent .verdict))
+    → Handed regions (left-by-all regions (asked regions) costs-of (solve regions ideals lent .counts) asks)
+whole-buffer regions ideals lent asks t =
+    record { ideals = ideals; lent = lent; solved = t; begun = solve regions ideals lent .counts; wrote = refl; asks = asks; left = refl }
+
+pub written-part : (regions : List ℕ) (ideals : List Float) (lent : List ℕ) (asks : List Ask) → T (is-passed (solve regions ideals lent .verdict))
+    → Handed regions (left-by-all regions (asked regions) costs-of (take (length ideals) (solve regions ideals lent .counts)) asks)
+written-part regions ideals lent asks t =
+    let n = length ideals in
+    record {
+      ideals = ideals;
+      lent = lent;
+      solved = t;
+      begun = take n (solve regions ideals lent .counts);
+      wrote = take-take n n (solve regions ideals lent .counts) (omega arith);
+      asks = asks;
+      left = refl;
+    }
+
 -- ---- the theorem
 
 -- opposite seams of a tile are equally long
 tile-level : (regions counts : List ℕ) → Handed regions counts → (r : ℕ) → r < region-count places regions → (f : Field)
-    → Level (seams-of (record-of regions r) counts f)
+    → EqualSeams (seams-of (record-of regions r) counts f)
 tile-level regions counts h r l f =
     record { bottom-top = alike 0 2 (f .breaks0) (f .breaks2) (omega arith) (omega arith) (b .bottom-top r l); left-right = alike 3 1 (f .breaks3) (f .breaks1) (omega arith) (omega arith) (sym (b .right-left r l)) }
   where

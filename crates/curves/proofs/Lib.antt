@@ -4,3 +4,4 @@ pub mod TestLaws
 pub mod Clear
 pub mod Demand
 pub mod lay
+pub mod Cases

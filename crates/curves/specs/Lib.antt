@@ -16,3 +16,4 @@ pub mod Grid
 pub mod Coons
 pub mod Lay
 pub mod Demand
+pub mod Cases
