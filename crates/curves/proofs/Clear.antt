@@ -1,5 +1,5 @@
 -- Which tests of lay can refuse with 22, "opposite seams unequal": that of two seams of unequal length, and no other. Assumes nothing.
-use mathlib.Core.Path.{_≡_, sym, subst}
+use mathlib.Core.Path.{_≡_}
 use mathlib.Core.Bool.{Bool, true, false, not, _&&_, _||_, cond}
 use mathlib.Core.List.{List}
 use Prim.Native.Nat.{ℕ, zero, suc, _+_, _-_, _*_, _%_}
@@ -8,7 +8,7 @@ use lib.Dec.{T, leb, ltb, eqb}
 use lib.Ieee.{Float, nan, binary64, sub, lt, le}
 use Rattle.counts.specs.Refusal.{Verdict, passed, refused, is-passed, then-test, refuse-if}
 use Rattle.counts.specs.Region.{places, record-size, side}
-use Rattle.counts.specs.Accept.{limits-test, records-whole, max-edges}
+use Rattle.counts.specs.Accept.{records-whole, max-edges}
 use Rattle.counts.specs.Lists.{all}
 use Rattle.counts.proofs.BoolLaws.{eq→eqb}
 use Rattle.curves.specs.Answers.{Answer, good, turned-away, verdict}
@@ -16,14 +16,14 @@ use Rattle.curves.specs.Tests.{first-of}
 use Rattle.curves.specs.Scalar.{nought, one, e-9, e-12, float-abs, in-unit, clamp-unit, is-positive}
 use Rattle.curves.specs.Lists.{splice}
 use Rattle.curves.specs.Point.{point, signed-area}
-use Rattle.curves.specs.Curve.{point-count, point-at, all-finite, total-length, length-to, curve-test}
+use Rattle.curves.specs.Curve.{point-count, point-at, all-finite, total-length, curve-test}
 use Rattle.curves.specs.Boundary.{BoundaryCurves, boundary-of, boundary-ends, tolerance, apart, corner-test, winding-test, ends-test, checked-curves}
 use Rattle.curves.specs.Seam.{falls, value-test, seam-ends-test, seam-test, pair-test, seams-test}
 use Rattle.curves.specs.Crossing.{denominator, crossing-u, crossing-v, logical-intersection}
 use Rattle.curves.specs.Quad.{zeros}
 use Rattle.curves.specs.Grid.{Seams, Grid, grid-of, n-u, n-v, mapped, row-of, row-points, points-test, cell-test, quads-test, grid-test, grid-values, needed}
 use Rattle.curves.specs.Coons.{Outcome, unless, filled, patch-test, patch, curve-limit, curves-limit, seam-limit, seams-limit, coons-from-parameters}
-use Rattle.curves.specs.Lay.{Field, record-test, edges-test, breaks-test, sides-test, lay-test, seams-of, lay}
+use Rattle.curves.specs.Lay.{Field, record-test, edges-test, breaks-test, sides-test, seams-of, lay}
 use Rattle.curves.specs.declared.point.Point.{Point}
 use Rattle.curves.specs.declared.boundary.BoundaryEnds.{BoundaryEnds}
 use Rattle.curves.specs.declared.grid.Layout.{Layout}

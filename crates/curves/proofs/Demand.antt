@@ -1,23 +1,24 @@
 -- Demand 3, whole. The rounds are counts' `demand-3-rounds`. A tile's seams are one longer than its sides add up to; an accepted solve leaves opposite sides that add up to the same,
 -- and each round keeps their difference. So opposite seams are equally long, and no other test refuses with 22. Assumes nothing.
-use mathlib.Core.Logic.{_≢_, inl, inr}
+use mathlib.Core.Logic.{inl, inr}
 use mathlib.Core.Path.{_≡_, refl, sym, ap, subst, _∙_}
+use mathlib.Core.Bool.{_||_}
 use mathlib.Core.List.{List, [], _∷_}
-use Prim.Native.Nat.{ℕ, zero, suc, _+_, _-_, _*_, _/_, _≤_, _<_, min}
+use Prim.Native.Nat.{ℕ, zero, suc, _+_, _*_, _/_, _≤_, _<_, min}
 use native.Mathlib.Omega.{arith}
 use lib.ListN.{length, getD, take, drop, length-take}
-use lib.Seq.{getD-take, getD-drop, take-take, take-at, drop-drop}
-use lib.Dec.{T, eqb, ltb, lt→ltb, ltb→lt}
+use lib.Seq.{getD-take, take-take, take-at, drop-drop}
+use lib.Dec.{T, eqb, lt→ltb, ltb→lt}
 use lib.Ieee.{Float}
 use Rattle.counts.specs.Refusal.{is-passed}
 use Rattle.counts.specs.Lists.{In, member}
-use Rattle.counts.specs.Region.{Constraint, constraint, places, record-size, region-count, from-region, graph, side, side-sum, holds}
+use Rattle.counts.specs.Region.{Constraint, constraint, places, region-count, from-region, graph, side, side-sum}
 use Rattle.counts.specs.Cost.{by-ideals}
 use Rattle.counts.specs.Round.{solve-zeros}
 use Rattle.counts.specs.Accept.{accepted, sides-fit, limits-test, regions-test}
 use Rattle.counts.specs.Solver.{solve, round, round-test, max-limit}
 use Rattle.counts.specs.Demand.{Ask, asked, costs-of, left-by-all, Balanced, sum-of}
-use Rattle.counts.proofs.Accepted.{Accepted, ConstraintOk, accepted-ok}
+use Rattle.counts.proofs.Accepted.{Accepted, accepted-ok}
 use Rattle.counts.proofs.BoolLaws.{clash, eq→eqb, or-left, or-right, T-true}
 use Rattle.counts.proofs.RefusalLaws.{then-left}
 use Rattle.counts.proofs.AcceptLaws.{sides-first, sides-rest, side-few, limits-passed, whole-sides}
@@ -26,7 +27,7 @@ use Rattle.counts.proofs.Rounds.{Steady, steady-all, constraint-at, demand-3-ro
 use Rattle.counts.proofs.Solving.{SolveIs, solve-is, solve-balanced, level-solved}
 use Rattle.curves.specs.Lay.{Field, seams-of, seam-of, lay}
 use Rattle.curves.specs.Demand.{record-of, Alike, Handed, Demand-3}
-use Rattle.curves.proofs.Clear.{Clear, EqualSeams, lay-clear}
+use Rattle.curves.proofs.Clear.{EqualSeams, lay-clear}
 use Rattle.curves.proofs.lay.Laws.{length-seam}
 
 -- ---- more counts than edges do no harm
@@ -88,25 +89,32 @@ module _ (regions counts : List ℕ) (h : Handed regions counts) where
       steady-all regions (asked regions) costs-of (λ ask counts. round-test places regions (ask .ideals) counts (ask .limit)) (λ ask. ask .limit) (λ ask counts. refl)
       (h .asks) (h .begun) (wider n (length (h .begun)) g long ok)
 
+  below : (i x : ℕ) → T (member x (constraint g i .a) || member x (constraint g i .b)) → x < n
+  below i x t = ltb→lt x n (ok .constraint-ok i .inside x t)
+
   -- what the solve wrote balances, and so does what is left of it
   still-even : (i : ℕ) (c : Constraint) → constraint g i ≡ c → side-sum written (c .a) ≡ side-sum written (c .b) → side-sum counts (c .a) ≡ side-sum counts (c .b)
   still-even i c e =
       subst (λ (c : Constraint). side-sum written (c .a) ≡ side-sum written (c .b) → side-sum counts (c .a) ≡ side-sum counts (c .b)) e
       (λ even.
-      let w1 = sum-alike n (h .begun) written (constraint g i .a) (h .wrote) below-a in
-      let w2 = sum-alike n (h .begun) written (constraint g i .b) (h .wrote) below-b in
-      let l1 = sum-alike n counts after (constraint g i .a) (h .left) below-a in
-      let l2 = sum-alike n counts after (constraint g i .b) (h .left) below-b in
+      let w1 = sum-alike n (h .begun) written a (h .wrote) below-a in
+      let w2 = sum-alike n (h .begun) written b (h .wrote) below-b in
+      let l1 = sum-alike n counts after a (h .left) below-a in
+      let l2 = sum-alike n counts after b (h .left) below-b in
       let d = steady .difference i in
       omega arith)
     where
-      below-a : (x : ℕ) → In x (constraint g i .a) → x < n
-      below-a x m =
-          ltb→lt x n (ok .constraint-ok i .inside x (or-left (member x (constraint g i .a)) (member x (constraint g i .b)) (in→member x (constraint g i .a) m)))
+      a : List ℕ
+      a = constraint g i .a
 
-      below-b : (x : ℕ) → In x (constraint g i .b) → x < n
-      below-b x m =
-          ltb→lt x n (ok .constraint-ok i .inside x (or-right (member x (constraint g i .a)) (member x (constraint g i .b)) (in→member x (constraint g i .b) m)))
+      b : List ℕ
+      b = constraint g i .b
+
+      below-a : (x : ℕ) → In x a → x < n
+      below-a x m = below i x (or-left (member x a) (member x b) (in→member x a m))
+
+      below-b : (x : ℕ) → In x b → x < n
+      below-b x m = below i x (or-right (member x a) (member x b) (in→member x b m))
 
   pub handed-balanced : Balanced regions counts
   handed-balanced =
@@ -180,10 +188,13 @@ written-part regions ideals lent asks t =
 -- ---- the theorem
 
 -- opposite seams of a tile are equally long
-tile-level : (regions counts : List ℕ) → Handed regions counts → (r : ℕ) → r < region-count places regions → (f : Field)
+equal-seams : (regions counts : List ℕ) → Handed regions counts → (r : ℕ) → r < region-count places regions → (f : Field)
     → EqualSeams (seams-of (record-of regions r) counts f)
-tile-level regions counts h r l f =
-    record { bottom-top = alike 0 2 (f .breaks0) (f .breaks2) (omega arith) (omega arith) (b .bottom-top r l); left-right = alike 3 1 (f .breaks3) (f .breaks1) (omega arith) (omega arith) (sym (b .right-left r l)) }
+equal-seams regions counts h r l f =
+    record {
+      bottom-top = alike 0 2 (f .breaks0) (f .breaks2) (omega arith) (omega arith) (b .bottom-top r l);
+      left-right = alike 3 1 (f .breaks3) (f .breaks1) (omega arith) (omega arith) (sym (b .right-left r l));
+    }
   where
     b : Balanced regions counts
     b = handed-balanced regions counts h
@@ -206,5 +217,5 @@ demand-3 regions =
       rounds = λ counts asks t. demand-3-rounds regions counts asks t;
       tiles = λ counts h r l f out e.
           let v = lay (record-of regions r) counts f out .verdict .number in
-          clash (eqb v 22) (eq→eqb v 22 e) (lay-clear (record-of regions r) counts f out (tile-level regions counts h r l f) .other);
+          clash (eqb v 22) (eq→eqb v 22 e) (lay-clear (record-of regions r) counts f out (equal-seams regions counts h r l f) .other);
     }
