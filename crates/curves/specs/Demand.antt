@@ -29,7 +29,7 @@ pub record Handed (regions counts : List ℕ) : Type 0 where
   pub lent : List ℕ
   -- "an accepted solve"
   pub solved : T (is-passed (solve regions ideals lent .verdict))
-  -- "begun on these": as many counts as there are ideals
+  -- "begun on these": counts that begin with what was written, as many as there are ideals
   pub begun : List ℕ
   pub wrote : Alike (length ideals) begun (solve regions ideals lent .counts)
   pub asks : List Ask
