@@ -16,3 +16,5 @@ pub mod Quad
 pub mod Grid
 pub mod Coons
 pub mod Lay
+pub mod Demand
+pub mod Cases

@@ -1,0 +1,264 @@
+-- Which tests of lay can refuse with 22, "opposite seams unequal": that of two seams of unequal length, and no other. Assumes nothing.
+use mathlib.Core.Path.{_≡_}
+use mathlib.Core.Bool.{Bool, true, false, not, _&&_, _||_, cond}
+use mathlib.Core.List.{List}
+use Prim.Native.Nat.{ℕ, zero, suc, _+_, _-_, _*_, _%_}
+use lib.ListN.{length, getD}
+use lib.Dec.{T, leb, ltb, eqb}
+use lib.Ieee.{Float, nan, binary64, sub, lt, le}
+use Rattle.counts.specs.Refusal.{Verdict, passed, refused, is-passed, then-test, refuse-if}
+use Rattle.counts.specs.Region.{places, record-size, side}
+use Rattle.counts.specs.Accept.{records-whole, max-edges}
+use Rattle.counts.specs.Lists.{all}
+use Rattle.counts.proofs.BoolLaws.{eq→eqb}
+use Rattle.curves.specs.Answers.{Answer, good, turned-away, verdict}
+use Rattle.curves.specs.Tests.{first-of}
+use Rattle.curves.specs.Scalar.{nought, one, e-9, e-12, float-abs, in-unit, clamp-unit, is-positive}
+use Rattle.curves.specs.Lists.{splice}
+use Rattle.curves.specs.Point.{point, signed-area}
+use Rattle.curves.specs.Curve.{point-count, point-at, all-finite, total-length, curve-test}
+use Rattle.curves.specs.Boundary.{BoundaryCurves, boundary-of, boundary-ends, tolerance, apart, corner-test, winding-test, ends-test, checked-curves}
+use Rattle.curves.specs.Seam.{falls, value-test, seam-ends-test, seam-test, pair-test, seams-test}
+use Rattle.curves.specs.Crossing.{denominator, crossing-u, crossing-v, logical-intersection}
+use Rattle.curves.specs.Quad.{zeros}
+use Rattle.curves.specs.Grid.{Seams, Grid, grid-of, n-u, n-v, mapped, row-of, row-points, points-test, cell-test, quads-test, grid-test, grid-values, needed}
+use Rattle.curves.specs.Coons.{Outcome, unless, filled, patch-test, patch, curve-limit, curves-limit, seam-limit, seams-limit, coons-from-parameters}
+use Rattle.curves.specs.Lay.{Field, record-test, edges-test, breaks-test, sides-test, seams-of, lay}
+use Rattle.curves.specs.declared.point.Point.{Point}
+use Rattle.curves.specs.declared.boundary.BoundaryEnds.{BoundaryEnds}
+use Rattle.curves.specs.declared.grid.Layout.{Layout}
+use Rattle.curves.specs.declared.grid.Layout.the-variants.{Quads}
+
+-- ---- verdicts that are not 22, and how tests are put together
+
+pub record Clear (v : Verdict) : Type 0 where
+  pub other : T (not (eqb (v .number) 22))
+
+passed-clear : Clear passed
+passed-clear = record { other = tt }
+
+then-clear : {v w : Verdict} → Clear v → Clear w → Clear (then-test v w)
+then-clear {v} {w} p q = go (is-passed v)
+  where
+    go : (b : Bool) → Clear (cond b w v)
+    go true = q
+    go false = p
+
+if-clear : (b : Bool) (n p q : ℕ) → T (not (eqb n 22)) → Clear (refuse-if b (refused n p q))
+if-clear true n p q t = record { other = t }
+if-clear false n p q t = passed-clear
+
+first-clear : (f : ℕ → Verdict) → ((i : ℕ) → Clear (f i)) → (k n : ℕ) → Clear (first-of f k n)
+unfolding first-of
+first-clear f h k zero = passed-clear
+first-clear f h k (suc n) = then-clear (h k) (first-clear f h (suc k) n)
+
+unless-clear : {v : Verdict} (out : List Float) (rest : Outcome) → Clear v → Clear (rest .verdict) → Clear (unless v out rest .verdict)
+unless-clear {v} out rest p q = go (is-passed v)
+  where
+    either : Bool → Outcome
+    either b = elim b [ true ↦ rest | false ↦ record { verdict = v; quads = 0; out = out } ]
+
+    go : (b : Bool) → Clear (either b .verdict)
+    go true = q
+    go false = p
+
+-- ---- 13 to 17: the curves
+
+curve-clear : (points : List Float) (side : ℕ) → Clear (curve-test points side)
+unfolding curve-test
+curve-clear points side =
+    then-clear (if-clear (ltb (point-count points) 2) 13 side 0 tt)
+    (then-clear (if-clear (not (all-finite points)) 14 side 0 tt) (if-clear (not (is-positive (total-length points))) 15 side 0 tt))
+
+corner-clear : (allowed : Float) (got expected : Point) (corner : ℕ) → Clear (corner-test allowed got expected corner)
+unfolding corner-test
+corner-clear allowed got expected corner = if-clear (apart allowed got expected) 16 corner 0 tt
+
+winding-clear : (bl br tr tl : Point) → Clear (winding-test bl br tr tl)
+unfolding winding-test
+winding-clear bl br tr tl = if-clear (le (signed-area bl br tr tl) nought) 17 0 0 tt
+
+ends-clear : (e : BoundaryEnds) → Clear (ends-test e)
+unfolding ends-test
+ends-clear e =
+    let allowed = tolerance (e .bottom .start) (e .bottom .end) (e .right .end) (e .left .start) in
+    then-clear (corner-clear allowed (e .right .start) (e .bottom .end) 0)
+    (then-clear (corner-clear allowed (e .top .start) (e .right .end) 1)
+    (then-clear (corner-clear allowed (e .top .end) (e .left .start) 2)
+    (then-clear (corner-clear allowed (e .left .start) (e .left .start) 3)
+    (then-clear (corner-clear allowed (e .left .end) (e .bottom .start) 4)
+    (winding-clear (e .bottom .start) (e .bottom .end) (e .right .end) (e .left .start))))))
+
+curves-clear : (bottom right top left : List Float) → Clear (checked-curves bottom right top left)
+unfolding checked-curves
+curves-clear bottom right top left =
+    then-clear (then-clear (curve-clear bottom 0) (then-clear (curve-clear right 1) (then-clear (curve-clear top 2) (curve-clear left 3))))
+    (ends-clear (boundary-ends (boundary-of bottom right top left)))
+
+-- ---- 18 to 21: the seams, and 22, where opposite ones are not equally long
+
+value-clear : (values : List Float) (seam i : ℕ) → Clear (value-test values seam i)
+unfolding value-test
+value-clear values seam i = then-clear (if-clear (not (in-unit (getD values i nan))) 19 seam i tt) (if-clear (falls values i) 20 seam i tt)
+
+seam-ends-clear : (first last : Float) (seam : ℕ) → Clear (seam-ends-test first last seam)
+unfolding seam-ends-test
+seam-ends-clear first last seam = if-clear (lt e-9 (float-abs first) || lt e-9 (float-abs (sub binary64 last one))) 21 seam 0 tt
+
+seam-clear : (values : List Float) (seam : ℕ) → Clear (seam-test values seam)
+unfolding seam-test
+seam-clear values seam =
+    then-clear (if-clear (ltb (length values) 2) 18 seam 0 tt)
+    (then-clear (first-clear (value-test values seam) (value-clear values seam) 0 (length values))
+    (seam-ends-clear (getD values 0 nan) (getD values (length values - 1) nan) seam))
+
+pair-clear : (a b : List Float) (pair : ℕ) → length a ≡ length b → Clear (pair-test a b pair)
+unfolding pair-test
+pair-clear a b pair e = go (eqb (length a) (length b)) (eq→eqb (length a) (length b) e)
+  where
+    go : (t : Bool) → T t → Clear (refuse-if (not t) (refused 22 pair 0))
+    go true h = passed-clear
+    go false h = absurd h
+
+-- seams whose opposite ones are equally long
+pub record EqualSeams (s : Seams) : Type 0 where
+  pub bottom-top : length (s .bottom) ≡ length (s .top)
+  pub left-right : length (s .left) ≡ length (s .right)
+
+seams-clear : (s : Seams) → EqualSeams s → Clear (seams-test (s .bottom) (s .top) (s .left) (s .right))
+unfolding seams-test
+seams-clear s e =
+    then-clear (seam-clear (s .bottom) 0)
+    (then-clear (seam-clear (s .top) 2)
+    (then-clear (seam-clear (s .left) 3)
+    (then-clear (seam-clear (s .right) 1)
+    (then-clear (pair-clear (s .bottom) (s .top) 0 (e .bottom-top)) (pair-clear (s .left) (s .right) 1 (e .left-right))))))
+
+-- ---- 23 to 25: the grid
+
+crossing-clear : (a b c d : Float) (i j : ℕ) → Clear (verdict (logical-intersection a b c d i j))
+unfolding logical-intersection
+crossing-clear a b c d i j = go (lt (float-abs (denominator a b c d)) e-12) (in-unit (crossing-u a b c d) && in-unit (crossing-v a b c d))
+  where
+    go : (s t : Bool)
+        → Clear (verdict (cond s (turned-away (refused 23 i j)) (cond t (good (point (clamp-unit (crossing-u a b c d)) (clamp-unit (crossing-v a b c d)))) (turned-away (refused 24 i j)))))
+    go true t = record { other = tt }
+    go false true = passed-clear
+    go false false = record { other = tt }
+
+mapped-clear : (c : BoundaryCurves) (p : Answer Point) → Clear (verdict p) → Clear (verdict (mapped c p))
+unfolding mapped
+mapped-clear c (good p) t = passed-clear
+mapped-clear c (turned-away v) t = t
+
+point-clear : (c : BoundaryCurves) (s : Seams) (j i : ℕ) → Clear (verdict (grid-of c s j i))
+unfolding row-of
+point-clear c s j i =
+    let a = getD (s .left) j nan in
+    let b = getD (s .right) j nan in
+    let low = getD (s .bottom) i nan in
+    let high = getD (s .top) i nan in
+    mapped-clear c (logical-intersection a b low high i j) (crossing-clear a b low high i j)
+
+points-clear : (f : Grid) (n m : ℕ) → ((j i : ℕ) → Clear (verdict (f j i))) → Clear (points-test f n m)
+unfolding points-test
+points-clear f n m h = first-clear _ (λ j. first-clear _ (h j) 0 (n + 1)) 0 (m + 1)
+
+cell-clear : (low high : List Float) (j i : ℕ) → Clear (cell-test low high j i)
+unfolding cell-test
+cell-clear low high j i =
+    if-clear (not (is-positive (signed-area (point-at low i) (point-at low (i + 1)) (point-at high (i + 1)) (point-at high i)))) 25 i j tt
+
+quads-clear : (f : Grid) (n m : ℕ) → Clear (quads-test f n m)
+unfolding quads-test
+quads-clear f n m = first-clear _ (λ j. first-clear _ (cell-clear (row-points (f j) n) (row-points (f (suc j)) n) j) 0 n) 0 m
+
+grid-clear : (f : Grid) (n m : ℕ) → ((j i : ℕ) → Clear (verdict (f j i))) → Clear (grid-test f n m)
+unfolding grid-test
+grid-clear f n m h = then-clear (points-clear f n m h) (quads-clear f n m)
+
+filled-clear : (layout : Layout) (f : Grid) (n m : ℕ) (out : List Float) → Clear (grid-test f n m) → Clear (filled layout f n m out .verdict)
+unfolding filled
+filled-clear layout f n m out h = go (is-passed (grid-test f n m))
+  where
+    either : Bool → Outcome
+    either b = elim b [
+      | true ↦ record { verdict = passed; quads = m * n; out = splice out 0 (grid-values layout f n m) }
+      | false ↦ record { verdict = grid-test f n m; quads = 0; out = splice out 0 (zeros (needed layout n m)) }
+    ]
+
+    go : (b : Bool) → Clear (either b .verdict)
+    go true = passed-clear
+    go false = h
+
+-- ---- the public functions, on seams whose opposite ones are equally long
+
+patch-test-clear : (layout : Layout) (bottom right top left : List Float) (s : Seams) (room : ℕ) → EqualSeams s → Clear (patch-test layout bottom right top left s room)
+unfolding patch-test
+patch-test-clear layout bottom right top left s room e =
+    then-clear (curves-clear bottom right top left) (then-clear (seams-clear s e) (if-clear (ltb room (needed layout (n-u s) (n-v s))) 11 0 0 tt))
+
+patch-clear : (layout : Layout) (bottom right top left : List Float) (s : Seams) (out : List Float) → EqualSeams s → Clear (patch layout bottom right top left s out .verdict)
+unfolding patch
+patch-clear layout bottom right top left s out e =
+    let f = grid-of (boundary-of bottom right top left) s in
+    unless-clear out (filled layout f (n-u s) (n-v s) out) (patch-test-clear layout bottom right top left s (length out) e)
+    (filled-clear layout f (n-u s) (n-v s) out (grid-clear f (n-u s) (n-v s) (point-clear (boundary-of bottom right top left) s)))
+
+curve-limit-clear : (points : List Float) → Clear (curve-limit points)
+unfolding curve-limit
+curve-limit-clear points = if-clear (ltb 2048 (length points) || not (eqb (length points % 2) 0)) 1 0 0 tt
+
+curves-limit-clear : (bottom right top left : List Float) → Clear (curves-limit bottom right top left)
+unfolding curves-limit
+curves-limit-clear bottom right top left =
+    then-clear (curve-limit-clear bottom) (then-clear (curve-limit-clear right) (then-clear (curve-limit-clear top) (curve-limit-clear left)))
+
+seam-limit-clear : (values : List Float) → Clear (seam-limit values)
+unfolding seam-limit
+seam-limit-clear values = if-clear (ltb 1025 (length values)) 1 0 0 tt
+
+seams-limit-clear : (s : Seams) → Clear (seams-limit s)
+unfolding seams-limit
+seams-limit-clear s =
+    then-clear (seam-limit-clear (s .bottom))
+    (then-clear (seam-limit-clear (s .top)) (then-clear (seam-limit-clear (s .left)) (seam-limit-clear (s .right))))
+
+from-parameters-clear : (layout : Layout) (bottom right top left : List Float) (s : Seams) (out : List Float) → EqualSeams s
+    → Clear (coons-from-parameters layout bottom right top left s out .verdict)
+unfolding coons-from-parameters
+from-parameters-clear layout bottom right top left s out e =
+    unless-clear out (patch layout bottom right top left s out) (then-clear (curves-limit-clear bottom right top left) (seams-limit-clear s))
+    (patch-clear layout bottom right top left s out e)
+
+-- ---- 1, 3 and 27: lay's own tests
+
+record-clear : (region : List ℕ) (n : ℕ) → Clear (record-test region n)
+unfolding record-test
+record-clear region n =
+    then-clear (if-clear (not (eqb (length region) (record-size places))) 1 0 0 tt)
+    (if-clear (not (leb n max-edges && records-whole places region)) 1 0 0 tt)
+
+edges-clear : (region : List ℕ) (n k : ℕ) → Clear (edges-test region n k)
+unfolding edges-test
+edges-clear region n k = if-clear (not (all (λ (e : ℕ). ltb e n) (side places region k))) 3 0 k tt
+
+breaks-clear : (region : List ℕ) (breaks : List Float) (k : ℕ) → Clear (breaks-test region breaks k)
+unfolding breaks-test
+breaks-clear region breaks k = if-clear (not (eqb (length breaks) (suc (length (side places region k))))) 27 k 0 tt
+
+sides-clear : (region : List ℕ) (n : ℕ) (f : Field) → Clear (sides-test region n f)
+unfolding sides-test
+sides-clear region n f =
+    then-clear (then-clear (edges-clear region n 0) (then-clear (edges-clear region n 1) (then-clear (edges-clear region n 2) (edges-clear region n 3))))
+    (then-clear (breaks-clear region (f .breaks0) 0)
+    (then-clear (breaks-clear region (f .breaks1) 1) (then-clear (breaks-clear region (f .breaks2) 2) (breaks-clear region (f .breaks3) 3))))
+
+pub lay-clear : (region counts : List ℕ) (f : Field) (out : List Float) → EqualSeams (seams-of region counts f) → Clear (lay region counts f out .verdict)
+unfolding lay
+lay-clear region counts f out e =
+    let tested = then-clear (record-clear region (length counts)) (then-clear (curves-limit-clear (f .bottom) (f .right) (f .top) (f .left)) (sides-clear region (length counts) f)) in
+    let s = seams-of region counts f in
+    unless-clear out (coons-from-parameters Quads (f .bottom) (f .right) (f .top) (f .left) s out) tested
+    (from-parameters-clear Quads (f .bottom) (f .right) (f .top) (f .left) s out e)

@@ -1,0 +1,221 @@
+-- Demand 3, whole. The rounds are counts' `demand-3-rounds`. A tile's seams are one longer than its sides add up to; an accepted solve leaves opposite sides that add up to the same,
+-- and each round keeps their difference. So opposite seams are equally long, and no other test refuses with 22. Assumes nothing.
+use mathlib.Core.Logic.{inl, inr}
+use mathlib.Core.Path.{_≡_, refl, sym, ap, subst, _∙_}
+use mathlib.Core.Bool.{_||_}
+use mathlib.Core.List.{List, [], _∷_}
+use Prim.Native.Nat.{ℕ, zero, suc, _+_, _*_, _/_, _≤_, _<_, min}
+use native.Mathlib.Omega.{arith}
+use lib.ListN.{length, getD, take, drop, length-take}
+use lib.Seq.{getD-take, take-take, take-at, drop-drop}
+use lib.Dec.{T, eqb, lt→ltb, ltb→lt}
+use lib.Ieee.{Float}
+use Rattle.counts.specs.Refusal.{is-passed}
+use Rattle.counts.specs.Lists.{In, member}
+use Rattle.counts.specs.Region.{Constraint, constraint, places, region-count, from-region, graph, side, side-sum}
+use Rattle.counts.specs.Cost.{by-ideals}
+use Rattle.counts.specs.Round.{solve-zeros}
+use Rattle.counts.specs.Accept.{accepted, sides-fit, limits-test, regions-test}
+use Rattle.counts.specs.Solver.{solve, round, round-test, max-limit}
+use Rattle.counts.specs.Demand.{Ask, asked, costs-of, left-by-all, Balanced, sum-of}
+use Rattle.counts.proofs.Accepted.{Accepted, accepted-ok}
+use Rattle.counts.proofs.BoolLaws.{clash, eq→eqb, or-left, or-right, T-true}
+use Rattle.counts.proofs.RefusalLaws.{then-left}
+use Rattle.counts.proofs.AcceptLaws.{sides-first, sides-rest, side-few, limits-passed, whole-sides}
+use Rattle.counts.proofs.ListLaws.{in→member}
+use Rattle.counts.proofs.Rounds.{Steady, steady-all, constraint-at, demand-3-rounds}
+use Rattle.counts.proofs.Solving.{SolveIs, solve-is, solve-balanced, level-solved}
+use Rattle.curves.specs.Lay.{Field, seams-of, seam-of, lay}
+use Rattle.curves.specs.Demand.{record-of, Alike, Handed, Demand-3}
+use Rattle.curves.proofs.Clear.{EqualSeams, lay-clear}
+use Rattle.curves.proofs.lay.Laws.{length-seam}
+
+-- ---- more counts than edges do no harm
+
+wider : (n m : ℕ) (g : List Constraint) → n ≤ m → Accepted n g → Accepted m g
+wider n m g h ok =
+    record {
+      constraint-ok = λ i. record {
+        inside = λ x t. lt→ltb x m (let l = ltb→lt x n (ok .constraint-ok i .inside x t) in omega arith);
+        once-a = ok .constraint-ok i .once-a;
+        once-b = ok .constraint-ok i .once-b;
+        sided = ok .constraint-ok i .sided;
+      };
+      thin = ok .thin;
+    }
+
+-- counts that begin alike give a side of edges below n the same sum
+sum-alike : (n : ℕ) (counts others side : List ℕ) → Alike n counts others → ((x : ℕ) → In x side → x < n) → side-sum counts side ≡ side-sum others side
+sum-alike n counts others [] e h = refl
+sum-alike n counts others (x ∷ side) e h =
+    let b = h x (inl refl) in
+    let p : getD counts x 0 ≡ getD others x 0 = sym (getD-take n counts x 0 b) ∙ ap (λ (l : List ℕ). getD l x 0) e ∙ getD-take n others x 0 b in
+    let q = sum-alike n counts others side e (λ y i. h y (inr i)) in
+    omega arith
+
+-- ---- counts handed to lay balance in every region
+
+module _ (regions counts : List ℕ) (h : Handed regions counts) where
+  abbrev n : ℕ
+  n = length (h .ideals)
+
+  abbrev g : List Constraint
+  g = graph places regions
+
+  abbrev written : List ℕ
+  written = solve regions (h .ideals) (h .lent) .counts
+
+  abbrev after : List ℕ
+  after = left-by-all regions (asked regions) costs-of (h .begun) (h .asks)
+
+  is : SolveIs regions (h .ideals) (h .lent)
+  is = solve-is regions (h .ideals) (h .lent) (h .solved)
+
+  ok : Accepted n g
+  ok = accepted-ok places n regions (is .regions-accepted)
+
+  -- there are at least as many counts as the solve had ideals
+  long : n ≤ length (h .begun)
+  long =
+      let part = solve-zeros g (by-ideals (h .ideals)) max-limit n .counts in
+      let l = level-solved g n ok (by-ideals (h .ideals)) max-limit .long in
+      let w : take n written ≡ part = ap (take n) (is .counts-are) ∙ take-at part (drop n (h .lent)) n l in
+      let e : min n (length (h .begun)) ≡ n = sym (length-take n (h .begun)) ∙ ap length (h .wrote ∙ w) ∙ l in
+      omega arith
+
+  steady : Steady g (h .begun) after
+  unfolding round
+  steady =
+      steady-all regions (asked regions) costs-of (λ ask counts. round-test places regions (ask .ideals) counts (ask .limit)) (λ ask. ask .limit) (λ ask counts. refl)
+      (h .asks) (h .begun) (wider n (length (h .begun)) g long ok)
+
+  below : (i x : ℕ) → T (member x (constraint g i .a) || member x (constraint g i .b)) → x < n
+  below i x t = ltb→lt x n (ok .constraint-ok i .inside x t)
+
+  -- what the solve wrote balances, and so does what is left of it
+  still-even : (i : ℕ) (c : Constraint) → constraint g i ≡ c → side-sum written (c .a) ≡ side-sum written (c .b) → side-sum counts (c .a) ≡ side-sum counts (c .b)
+  still-even i c e =
+      subst (λ (c : Constraint). side-sum written (c .a) ≡ side-sum written (c .b) → side-sum counts (c .a) ≡ side-sum counts (c .b)) e
+      (λ even.
+      let w1 = sum-alike n (h .begun) written a (h .wrote) below-a in
+      let w2 = sum-alike n (h .begun) written b (h .wrote) below-b in
+      let l1 = sum-alike n counts after a (h .left) below-a in
+      let l2 = sum-alike n counts after b (h .left) below-b in
+      let d = steady .difference i in
+      omega arith)
+    where
+      a : List ℕ
+      a = constraint g i .a
+
+      b : List ℕ
+      b = constraint g i .b
+
+      below-a : (x : ℕ) → In x a → x < n
+      below-a x m = below i x (or-left (member x a) (member x b) (in→member x a m))
+
+      below-b : (x : ℕ) → In x b → x < n
+      below-b x m = below i x (or-right (member x a) (member x b) (in→member x b m))
+
+  pub handed-balanced : Balanced regions counts
+  handed-balanced =
+      let b = solve-balanced regions (h .ideals) (h .lent) (h .solved) in
+      record {
+        bottom-top = λ r l. still-even (r * 2) _ (constraint-at places (region-count places regions) regions r l .0) (b .bottom-top r l);
+        right-left = λ r l. still-even (suc (r * 2)) _ (constraint-at places (region-count places regions) regions r l .1) (b .right-left r l);
+      }
+
+-- ---- the record of a region has the sides that the region has in the list
+
+-- a part that lies in the first n values
+part-of-front : (i m n : ℕ) (l : List ℕ) → i + m ≤ n → take m (drop i (take n l)) ≡ take m (drop i l)
+part-of-front zero m n l h = take-take m n l (omega arith)
+part-of-front (suc i) m zero l h = absurd (omega arith)
+part-of-front (suc i) m (suc n) [] h = refl
+part-of-front (suc i) m (suc n) (x ∷ l) h = part-of-front i m n l (omega arith)
+
+side-of-record : (l : List ℕ) (k : ℕ) → k < 4 → getD l (k * 17) 0 ≤ 16 → side places (take 68 l) k ≡ side places l k
+side-of-record l k h f =
+    ap (λ (m : ℕ). take m (drop (suc (k * 17)) (take 68 l))) (getD-take 68 l (k * 17) 0 (omega arith))
+    ∙ part-of-front (suc (k * 17)) (getD l (k * 17) 0) 68 l (omega arith)
+
+sides-at : (m r : ℕ) (l : List ℕ) → r < m → T (sides-fit places m l) → T (sides-fit places 1 (drop (r * 68) l))
+sides-at zero r l h t = absurd (omega arith)
+sides-at (suc m) zero l h t = sides-first m l t
+sides-at (suc m) (suc r) l h t =
+    let e : 68 + r * 68 ≡ suc r * 68 = omega arith in
+    subst (λ (x : List ℕ). T (sides-fit places 1 x)) (drop-drop (r * 68) 68 l ∙ ap (λ (i : ℕ). drop i l) e)
+    (sides-at m r (drop 68 l) (omega arith) (sides-rest m l t))
+
+same-sides : (n : ℕ) (regions : List ℕ) → T (accepted places n regions) → (r : ℕ) → r < region-count places regions
+    → (k : ℕ) → k < 4 → side places (record-of regions r) k ≡ side places (from-region places regions r) k
+unfolding accepted
+same-sides n regions t r h k b =
+    side-of-record (from-region places regions r) k b (few k b)
+  where
+    fit : T (sides-fit places 1 (drop (r * 68) regions))
+    fit =
+        let l = limits-passed n regions (T-true _ (then-left (limits-test places n regions) (regions-test places n regions) t)) in
+        sides-at (length regions / 68) r regions h (whole-sides regions (l .1))
+
+    few : (k : ℕ) → k < 4 → getD (drop (r * 68) regions) (k * 17) 0 ≤ 16
+    few zero b = side-few (drop (r * 68) regions) fit .0
+    few (suc zero) b = side-few (drop (r * 68) regions) fit .1
+    few (suc (suc zero)) b = side-few (drop (r * 68) regions) fit .2
+    few (suc (suc (suc zero))) b = side-few (drop (r * 68) regions) fit .3
+    few (suc (suc (suc (suc k)))) b = absurd (omega arith)
+
+-- ---- the two ways to hand on what an accepted solve wrote, each with any list of rounds: the whole lent buffer, or the part that was written
+
+pub whole-buffer : (regions : List ℕ) (ideals : List Float) (lent : List ℕ) (asks : List Ask) → T (is-passed (solve regions ideals lent .verdict))
+    → Handed regions (left-by-all regions (asked regions) costs-of (solve regions ideals lent .counts) asks)
+whole-buffer regions ideals lent asks t =
+    record { ideals = ideals; lent = lent; solved = t; begun = solve regions ideals lent .counts; wrote = refl; asks = asks; left = refl }
+
+pub written-part : (regions : List ℕ) (ideals : List Float) (lent : List ℕ) (asks : List Ask) → T (is-passed (solve regions ideals lent .verdict))
+    → Handed regions (left-by-all regions (asked regions) costs-of (take (length ideals) (solve regions ideals lent .counts)) asks)
+written-part regions ideals lent asks t =
+    let n = length ideals in
+    record {
+      ideals = ideals;
+      lent = lent;
+      solved = t;
+      begun = take n (solve regions ideals lent .counts);
+      wrote = take-take n n (solve regions ideals lent .counts) (omega arith);
+      asks = asks;
+      left = refl;
+    }
+
+-- ---- the theorem
+
+-- opposite seams of a tile are equally long
+equal-seams : (regions counts : List ℕ) → Handed regions counts → (r : ℕ) → r < region-count places regions → (f : Field)
+    → EqualSeams (seams-of (record-of regions r) counts f)
+equal-seams regions counts h r l f =
+    record {
+      bottom-top = alike 0 2 (f .breaks0) (f .breaks2) (omega arith) (omega arith) (b .bottom-top r l);
+      left-right = alike 3 1 (f .breaks3) (f .breaks1) (omega arith) (omega arith) (sym (b .right-left r l));
+    }
+  where
+    b : Balanced regions counts
+    b = handed-balanced regions counts h
+
+    region : List ℕ
+    region = record-of regions r
+
+    seam-long : (k : ℕ) (breaks : List Float) → k < 4 → length (seam-of region counts k breaks) ≡ suc (sum-of regions counts r k)
+    seam-long k breaks j =
+        length-seam region counts k breaks
+        ∙ ap (λ (edges : List ℕ). suc (side-sum counts edges)) (same-sides (length (h .ideals)) regions (is regions counts h .regions-accepted) r l k j)
+
+    alike : (j k : ℕ) (breaks others : List Float) → j < 4 → k < 4 → sum-of regions counts r j ≡ sum-of regions counts r k
+        → length (seam-of region counts j breaks) ≡ length (seam-of region counts k others)
+    alike j k breaks others p q e = seam-long j breaks p ∙ ap suc e ∙ sym (seam-long k others q)
+
+pub demand-3 : (regions : List ℕ) → Demand-3 regions
+demand-3 regions =
+    record {
+      rounds = λ counts asks t. demand-3-rounds regions counts asks t;
+      tiles = λ counts h r l f out e.
+          let v = lay (record-of regions r) counts f out .verdict .number in
+          clash (eqb v 22) (eq→eqb v 22 e) (lay-clear (record-of regions r) counts f out (equal-seams regions counts h r l f) .other);
+    }
