@@ -1,0 +1,2 @@
+-- The laws of lay. Assumes nothing.
+pub mod Laws
