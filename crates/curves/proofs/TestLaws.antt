@@ -1,6 +1,6 @@
 -- Laws of tests that are made one after the other. Assumes nothing.
 use mathlib.Core.Path.{_≡_, refl, sym, ap, subst, _∙_}
-use mathlib.Core.Bool.{Bool, false, cond}
+use mathlib.Core.Bool.{Bool, true, false, cond}
 use Prim.Native.Nat.{ℕ, suc, _+_, _-_, _<_, _≤_}
 use native.Mathlib.Numerals.{add-one}
 use native.Mathlib.Omega.{arith}
@@ -9,12 +9,15 @@ use Rattle.counts.specs.Refusal.{Verdict, passed, verdict-of, outcome, is-passe
 use Rattle.counts.specs.declared.refusal.Check.{Check}
 use Rattle.counts.specs.declared.refusal.Check.the-variants.{Passed, Refused}
 use Rattle.counts.specs.declared.refusal.Refusal.{Refusal}
-use Rattle.counts.proofs.RefusalLaws.{then-left, then-right, refusal-number, chain-stops, chain-goes-on}
-use Rattle.curves.specs.Tests.{first-of}
+use Rattle.counts.proofs.RefusalLaws.{then-left, then-right, refusal-number, was-refused, was-passed, chain-stops, chain-goes-on}
+use Rattle.curves.specs.Tests.{first-of, if-passed}
 
 pub refused-not-passed : (r : Refusal) → T (is-passed (outcome (Refused r))) → ⊥
 unfolding outcome
 refused-not-passed r t = subst T (refusal-number r) t
+
+pub refusal-not-passed : (r : Refusal) (v : Verdict) → outcome (Refused r) ≡ v → T (is-passed v) → ⊥
+refusal-not-passed r v e t = refused-not-passed r (subst (λ (w : Verdict). T (is-passed w)) (sym e) t)
 
 -- both tests are those of the definition
 pub in-turn : (u v w a b : Verdict) → u ≡ then-test v w → v ≡ a → w ≡ b → u ≡ then-test a b
@@ -27,6 +30,23 @@ told-passed c e = subst (λ (x : Check). T (is-passed (outcome x))) (sym e) tt
 -- where a chain passes, both its tests do
 pub both-passed : (u v w : Verdict) → u ≡ then-test v w → T (is-passed u) → T (is-passed v) × T (is-passed w)
 both-passed u v w e t = let s = subst (λ (x : Verdict). T (is-passed x)) e t in (then-left v w s, then-right v w s)
+
+-- ---- what follows tests
+
+module _ {A : Type 0} (x : A) (refusal : Verdict → A) where
+  pub follows : (c : Check) (v : Verdict) → c ≡ Passed → outcome c ≡ v → x ≡ if-passed v x refusal
+  follows c v e o = ap (λ (b : Bool). elim b [
+    | true ↦ x
+    | false ↦ refusal v
+  ]) (sym (was-passed e o))
+
+  pub refuses : (c : Check) (cause : Refusal) (v : Verdict) → c ≡ Refused cause → outcome c ≡ v → refusal (verdict-of cause) ≡ if-passed v x refusal
+  refuses c cause v e o =
+      let q = was-refused e o in
+      ap refusal (q .0) ∙ ap (λ (b : Bool). elim b [
+        | true ↦ x
+        | false ↦ refusal v
+      ]) (sym (q .1))
 
 -- ---- tests by an index, turn by turn
 

@@ -1,12 +1,13 @@
 -- What the public functions of the grid answer, and what they leave in the lent output, refused calls included: a chain of tests in 01's order, then the grid. Definitions only.
-use mathlib.Core.Bool.{Bool, true, false, not, _||_, cond}
+use mathlib.Core.Bool.{not, _||_}
 use mathlib.Core.List.{List}
 use Prim.Native.Nat.{ℕ, _*_, _%_}
 use lib.ListN.{length}
 use lib.Dec.{ltb, eqb}
 use lib.Ieee.{Float}
-use Rattle.counts.specs.Refusal.{Verdict, passed, refused, verdict-of, is-passed, then-test, refuse-if}
+use Rattle.counts.specs.Refusal.{Verdict, passed, refused, verdict-of, then-test, refuse-if}
 use Rattle.curves.specs.Lists.{splice}
+use Rattle.curves.specs.Tests.{if-passed}
 use Rattle.curves.specs.Boundary.{BoundaryCurves, boundary-of, checked-curves}
 use Rattle.curves.specs.Seam.{uniform-parameters, seams-test}
 use Rattle.curves.specs.Quad.{zeros}
@@ -27,22 +28,21 @@ unfolding verdict-of
 outcome-of (Made quads) out = record { verdict = passed; quads = quads; out = out }
 outcome-of (Refused r) out = record { verdict = verdict-of r; quads = 0; out = out }
 
+abbrev pub refusal : List Float → Verdict → Outcome
+refusal out v = record { verdict = v; quads = 0; out = out }
+
 -- a refusal that "leaves all", or what follows
 abbrev pub unless : Verdict → List Float → Outcome → Outcome
-unless v out rest = elim (is-passed v) [
-  | true ↦ rest
-  | false ↦ record { verdict = v; quads = 0; out = out }
-]
+unless v out rest = if-passed v rest (refusal out)
 
 -- ---- the grid
 
 -- "lines parallel; crossing outside" and "quad area": "needed output +0.0". "Output past the needed part is untouched."
 unfoldable pub filled : Layout → Grid → ℕ → ℕ → List Float → Outcome
 unfolding grid-test grid-values needed
-filled layout f n m out = elim (is-passed (grid-test f n m)) [
-  | true ↦ record { verdict = passed; quads = m * n; out = splice out 0 (grid-values layout f n m) }
-  | false ↦ record { verdict = grid-test f n m; quads = 0; out = splice out 0 (zeros (needed layout n m)) }
-]
+filled layout f n m out =
+    if-passed (grid-test f n m) (record { verdict = passed; quads = m * n; out = splice out 0 (grid-values layout f n m) })
+    (refusal (splice out 0 (zeros (needed layout n m))))
 
 -- "curve by curve 13 to 15, 16, 17, seams (..), 22, 11": the tests before the grid
 unfoldable pub patch-test : Layout → List Float → List Float → List Float → List Float → Seams → ℕ → Verdict

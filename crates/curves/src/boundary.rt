@@ -7,7 +7,7 @@ ghost use lib.Dec.{T};
 ghost use Rattle.counts.specs.Refusal.{outcome, is-passed};
 ghost use Rattle.curves.specs.Lists.{splice};
 ghost use Rattle.curves.specs.Curve.{point-count, curve, cumulative-of, Sampled};
-ghost use Rattle.curves.specs.Boundary.{boundary, curve-ends, boundary-ends, lowest, highest, tolerance, corner-test, winding-test, ends-test, checked-curves};
+ghost use Rattle.curves.specs.Boundary.{boundary, curve-ends, boundary-ends, lowest, highest, tolerance, corner-test, winding-test, ends-test, checked-curves, joined-of, joined-curves};
 use crate::check::first_refused;
 use crate::curve::curve_at;
 use crate::curve::new_curve;
@@ -30,6 +30,12 @@ pub(crate) struct BoundaryEnds {
     pub(crate) right: Ends,
     pub(crate) top: Ends,
     pub(crate) left: Ends,
+}
+
+// Where the curves begin and end, once they are found to join; or why they are refused.
+pub(crate) enum BoundaryAnswer {
+    Joined(BoundaryEnds),
+    Refused(Refusal),
 }
 
 fn lowest(a: f64, b: f64, c: f64, d: f64) -> f64
@@ -149,13 +155,13 @@ pub(crate) fn checked_curves(
     lengths2: &mut [f64],
     left: &[f64],
     lengths3: &mut [f64],
-) -> Check
+) -> BoundaryAnswer
     requires { ⌜ (point-count (now bottom) ≤ length (now lengths0)) × (point-count (now right) ≤ length (now lengths1)) × (point-count (now top) ≤ length (now lengths2)) × (point-count (now left) ≤ length (now lengths3)) ⌝ }
-    ensures { λ r. ⌜ outcome r ≡ checked-curves (now (bottom .entry)) (now (right .entry)) (now (top .entry)) (now (left .entry)) ⌝ }
-    ensures { λ r. ⌜ (T (is-passed (outcome r)) → now (lengths0 .exit) ≡ splice (now (lengths0 .entry)) 0 (cumulative-of (now (bottom .entry)))) ⌝ }
-    ensures { λ r. ⌜ (T (is-passed (outcome r)) → now (lengths1 .exit) ≡ splice (now (lengths1 .entry)) 0 (cumulative-of (now (right .entry)))) ⌝ }
-    ensures { λ r. ⌜ (T (is-passed (outcome r)) → now (lengths2 .exit) ≡ splice (now (lengths2 .entry)) 0 (cumulative-of (now (top .entry)))) ⌝ }
-    ensures { λ r. ⌜ (T (is-passed (outcome r)) → now (lengths3 .exit) ≡ splice (now (lengths3 .entry)) 0 (cumulative-of (now (left .entry)))) ⌝ }
+    ensures { λ r. ⌜ joined-of r ≡ joined-curves (now (bottom .entry)) (now (right .entry)) (now (top .entry)) (now (left .entry)) ⌝ }
+    ensures { λ r. ⌜ (T (is-passed (checked-curves (now (bottom .entry)) (now (right .entry)) (now (top .entry)) (now (left .entry)))) → now (lengths0 .exit) ≡ splice (now (lengths0 .entry)) 0 (cumulative-of (now (bottom .entry)))) ⌝ }
+    ensures { λ r. ⌜ (T (is-passed (checked-curves (now (bottom .entry)) (now (right .entry)) (now (top .entry)) (now (left .entry)))) → now (lengths1 .exit) ≡ splice (now (lengths1 .entry)) 0 (cumulative-of (now (right .entry)))) ⌝ }
+    ensures { λ r. ⌜ (T (is-passed (checked-curves (now (bottom .entry)) (now (right .entry)) (now (top .entry)) (now (left .entry)))) → now (lengths2 .exit) ≡ splice (now (lengths2 .entry)) 0 (cumulative-of (now (top .entry)))) ⌝ }
+    ensures { λ r. ⌜ (T (is-passed (checked-curves (now (bottom .entry)) (now (right .entry)) (now (top .entry)) (now (left .entry)))) → now (lengths3 .exit) ≡ splice (now (lengths3 .entry)) 0 (cumulative-of (now (left .entry)))) ⌝ }
 {
     let of_bottom = new_curve(bottom, 0, lengths0);
     let of_right = new_curve(right, 1, lengths1);
@@ -165,7 +171,7 @@ pub(crate) fn checked_curves(
     let from_right = first_refused(of_right, from_top);
     let from_bottom = first_refused(of_bottom, from_right);
     if let Check::Refused(cause) = from_bottom {
-        return Check::Refused(cause);
+        return BoundaryAnswer::Refused(cause);
     }
     let n0 = bottom.len() / 2;
     let n1 = right.len() / 2;
@@ -181,5 +187,8 @@ pub(crate) fn checked_curves(
         left,
         &lengths3[..n3],
     );
-    check_ends(ends)
+    if let Check::Refused(cause) = check_ends(ends) {
+        return BoundaryAnswer::Refused(cause);
+    }
+    BoundaryAnswer::Joined(ends)
 }

@@ -9,10 +9,12 @@ use Rattle.counts.specs.declared.refusal.Check.{Check}
 use Rattle.counts.specs.declared.refusal.Check.the-variants.{Passed, Refused}
 use Rattle.counts.specs.declared.refusal.Refusal.{Refusal}
 use Rattle.curves.specs.Curve.{curve, cumulative-of, Sampled, curve-test}
-use Rattle.curves.specs.Boundary.{boundary, boundary-of, boundary-ends, ends-test, curves-test, checked-curves}
+use Rattle.curves.specs.Boundary.{boundary, boundary-of, boundary-ends, ends-test, curves-test, checked-curves, joined-of, joined-curves}
+use Rattle.curves.specs.Answers.{good, turned-away}
 use Rattle.curves.specs.declared.boundary.BoundaryEnds.{BoundaryEnds}
+use Rattle.curves.specs.declared.boundary.BoundaryAnswer.the-variants as boundary-answer
 use Rattle.counts.proofs.RefusalLaws.{chain-stops, chain-goes-on}
-use Rattle.curves.proofs.TestLaws.{in-turn, told-passed, both-passed}
+use Rattle.curves.proofs.TestLaws.{in-turn, told-passed, both-passed, follows, refuses}
 use Rattle.curves.proofs.curve.Laws.{sampled}
 
 -- ---- the chain over the four curves, as the code makes it from its end
@@ -46,12 +48,24 @@ module _ (b r t l : List Float) where
       ∙ ap (λ (x : List Float). boundary-ends (boundary (curve b (cumulative-of b)) (curve r (cumulative-of r)) (curve t x) (curve l x3))) e2
       ∙ ap (λ (x : List Float). boundary-ends (boundary (curve b (cumulative-of b)) (curve r (cumulative-of r)) (curve t (cumulative-of t)) (curve l x))) e3
 
-  pub ends-tested : (c : Check) (v : Verdict) (e : BoundaryEnds) (x0 x1 x2 x3 : List Float) → c ≡ Passed → outcome c ≡ curves-test b r t l → v ≡ ends-test e
-      → e ≡ boundary-ends (boundary (curve b x0) (curve r x1) (curve t x2) (curve l x3))
-      → x0 ≡ cumulative-of b → x1 ≡ cumulative-of r → x2 ≡ cumulative-of t → x3 ≡ cumulative-of l → v ≡ checked-curves b r t l
+  pub ends-are : (e : BoundaryEnds) (x0 x1 x2 x3 : List Float) → e ≡ boundary-ends (boundary (curve b x0) (curve r x1) (curve t x2) (curve l x3))
+      → x0 ≡ cumulative-of b → x1 ≡ cumulative-of r → x2 ≡ cumulative-of t → x3 ≡ cumulative-of l → e ≡ boundary-ends (boundary-of b r t l)
+  ends-are e x0 x1 x2 x3 g e0 e1 e2 e3 = g ∙ same-ends x0 x1 x2 x3 e0 e1 e2 e3
+
+  pub ends-tested : (c : Check) (v : Verdict) (e : BoundaryEnds) → c ≡ Passed → outcome c ≡ curves-test b r t l → v ≡ ends-test e → e ≡ boundary-ends (boundary-of b r t l) → v ≡ checked-curves b r t l
   unfolding checked-curves
-  ends-tested c v e x0 x1 x2 x3 p o f g e0 e1 e2 e3 =
-      f ∙ ap ends-test (g ∙ same-ends x0 x1 x2 x3 e0 e1 e2 e3) ∙ chain-goes-on p o
+  ends-tested c v e p o f g = f ∙ ap ends-test g ∙ chain-goes-on p o
+
+  -- ---- the answer
+
+  pub not-joined : (c : Check) (cause : Refusal) → c ≡ Refused cause → outcome c ≡ checked-curves b r t l → joined-of (boundary-answer.Refused cause) ≡ joined-curves b r t l
+  unfolding joined-of joined-curves
+  not-joined c cause e o = refuses (good (boundary-ends (boundary-of b r t l))) turned-away c cause (checked-curves b r t l) e o
+
+  pub are-joined : (c : Check) (e : BoundaryEnds) → c ≡ Passed → outcome c ≡ checked-curves b r t l → e ≡ boundary-ends (boundary-of b r t l) → joined-of (boundary-answer.Joined e) ≡ joined-curves b r t l
+  unfolding joined-of joined-curves
+  are-joined c e p o g = ap good g ∙ follows (good (boundary-ends (boundary-of b r t l))) turned-away c (checked-curves b r t l) p o
+
 
 -- the part of a buffer that holds the table of a curve that has passed
 pub part-sampled : (points : List Float) (side : ℕ) (v : Verdict) (xs : List Float) → v ≡ curve-test points side → T (is-passed v) → xs ≡ cumulative-of points → Sampled points xs

@@ -1,15 +1,16 @@
 -- `boundary::checked_curves` meets its contract: once the four curves have passed, the front of each table is the definition's list, and
 -- the ends are those of the definition's curves. Assumes nothing.
-use mathlib.Core.Path.{_≡_, sym, ap, _∙_}
+use mathlib.Core.Path.{_≡_, refl, sym, ap, _∙_}
 use native.Mathlib.Omega.{arith}
 use denote.Ref.{now}
 use lib.Dec.{T}
 use lib.ListN.{length, take}
 use Rattle.counts.specs.Refusal.{outcome, is-passed}
 use Rattle.curves.specs.Curve.{point-count, cumulative-of}
-use Rattle.curves.proofs.TestLaws.{refused-not-passed}
+use Rattle.curves.proofs.TestLaws.{refusal-not-passed}
 use Rattle.curves.proofs.curve.Laws.{length-cumulative, written}
-use Rattle.curves.proofs.boundary.Laws.{all-passed, four-curves, curve-refused, ends-tested, part-sampled}
+use Rattle.curves.proofs.boundary.Laws.{all-passed, four-curves, curve-refused, ends-are, ends-tested, not-joined, are-joined, part-sampled}
+use Rattle.counts.specs.declared.refusal.Check.the-variants as check
 use borrow.Author.Needs.{needs}
 use Rattle.curves.proofs.boundary.checked_curves.Statement.{statement}
 use Rattle.curves.proofs.boundary.checked_curves.Tie as tie
@@ -67,8 +68,9 @@ same-length-4 c = search needs
 
 returns : tie.Need-returns
 returns c =
-    let no = refused-not-passed (c .before .from-bottom .given .0 .0) in (
-      curve-refused _ _ _ _ _ _ (c .before .from-bottom .given .1) (four-curves _ _ _ _ _ _ _ _ _ _ _ (c .before .before .before .before .before .first-refused .ensures) (c .before .before .before .before .first-refused2 .ensures) (c .before .before .before .first-refused3 .ensures) (c .before .before .before .before .before .before .before .before .before .before .before .before .before .before .before .before .before .before .before .before .new-curve .ensures .0) (c .before .before .before .before .before .before .before .before .before .before .before .before .before .before .before .before .new-curve2 .ensures .0) (c .before .before .before .before .before .before .before .before .before .before .before .before .new-curve3 .ensures .0) (c .before .before .before .before .before .before .before .before .new-curve4 .ensures .0)),
+    let e = curve-refused _ _ _ _ _ _ (c .before .from-bottom .given .1) (four-curves _ _ _ _ _ _ _ _ _ _ _ (c .before .before .before .before .before .first-refused .ensures) (c .before .before .before .before .first-refused2 .ensures) (c .before .before .before .first-refused3 .ensures) (c .before .before .before .before .before .before .before .before .before .before .before .before .before .before .before .before .before .before .before .before .new-curve .ensures .0) (c .before .before .before .before .before .before .before .before .before .before .before .before .before .before .before .before .new-curve2 .ensures .0) (c .before .before .before .before .before .before .before .before .before .before .before .before .new-curve3 .ensures .0) (c .before .before .before .before .before .before .before .before .new-curve4 .ensures .0)) in
+    let no = refusal-not-passed (c .before .from-bottom .given .0 .0) _ e in (
+      not-joined _ _ _ _ (check.Refused (c .before .from-bottom .given .0 .0)) _ refl e,
       ((λ t. absurd (no t)), ((λ t. absurd (no t)), ((λ t. absurd (no t)), (λ t. absurd (no t))))),
     )
 
@@ -111,24 +113,54 @@ boundary-ends-requires c κs =
 check-ends-requires : tie.Need-check-ends-requires
 check-ends-requires c κs = search needs
 
+enum-known-cause : tie.Need-enum-known-cause
+enum-known-cause c = search needs
+
 same-length-5 : tie.Need-same-length-5
-same-length-5 c = c .before .before .before .before .before .before .before .before .before .before .before .before .before .before .before .before .before .before .before .before .before .before .before .before .before .new-curve .kept .1 .1 .0
+same-length-5 c = c .before .before .before .before .before .before .before .before .before .before .before .before .before .before .before .before .before .before .before .before .before .before .before .before .before .before .before .before .new-curve .kept .1 .1 .0
 
 same-length-6 : tie.Need-same-length-6
-same-length-6 c = c .before .before .before .before .before .before .before .before .before .before .before .before .before .before .before .before .before .before .before .before .before .new-curve2 .kept .1 .1 .0
+same-length-6 c = c .before .before .before .before .before .before .before .before .before .before .before .before .before .before .before .before .before .before .before .before .before .before .before .before .new-curve2 .kept .1 .1 .0
 
 same-length-7 : tie.Need-same-length-7
-same-length-7 c = c .before .before .before .before .before .before .before .before .before .before .before .before .before .before .before .before .before .new-curve3 .kept .1 .1 .0
+same-length-7 c = c .before .before .before .before .before .before .before .before .before .before .before .before .before .before .before .before .before .before .before .before .new-curve3 .kept .1 .1 .0
 
 same-length-8 : tie.Need-same-length-8
-same-length-8 c = c .before .before .before .before .before .before .before .before .before .before .before .before .before .new-curve4 .kept .1 .1 .0
+same-length-8 c = c .before .before .before .before .before .before .before .before .before .before .before .before .before .before .before .before .new-curve4 .kept .1 .1 .0
 
 returns-2 : tie.Need-returns-2
 returns-2 c =
-    let told = (c .before .before .before .before .before .before) in
-    let p = passes told in (
-      ends-tested _ _ _ _ _ _ _ _ _ _ _ (told .enum-told .given .1) (four-curves _ _ _ _ _ _ _ _ _ _ _ (c .before .before .before .before .before .before .before .before .before .before .first-refused .ensures) (c .before .before .before .before .before .before .before .before .before .first-refused2 .ensures) (c .before .before .before .before .before .before .before .before .first-refused3 .ensures) (c .before .before .before .before .before .before .before .before .before .before .before .before .before .before .before .before .before .before .before .before .before .before .before .before .before .new-curve .ensures .0) (c .before .before .before .before .before .before .before .before .before .before .before .before .before .before .before .before .before .before .before .before .before .new-curve2 .ensures .0) (c .before .before .before .before .before .before .before .before .before .before .before .before .before .before .before .before .before .new-curve3 .ensures .0) (c .before .before .before .before .before .before .before .before .before .before .before .before .before .new-curve4 .ensures .0)) (c .check-ends .ensures) (c .before .boundary-ends .ensures) (table0 told) (table1 told) (table2 told) (table3 told),
-      ((λ t. c .before .before .before .before .before .before .before .before .before .before .before .before .before .before .before .before .before .before .before .before .before .before .before .before .before .new-curve .ensures .1 (p .0)), ((λ t. c .before .before .before .before .before .before .before .before .before .before .before .before .before .before .before .before .before .before .before .before .before .new-curve2 .ensures .1 (p .1)), ((λ t. c .before .before .before .before .before .before .before .before .before .before .before .before .before .before .before .before .before .new-curve3 .ensures .1 (p .2)), (λ t. c .before .before .before .before .before .before .before .before .before .before .before .before .before .new-curve4 .ensures .1 (p .3))))),
+    let told = c .before .before .before .before .before .before .before .before .before in
+    let p = passes told in
+    let g = ends-are _ _ _ _ _ _ _ _ _ (c .before .before .before .before .boundary-ends .ensures) (table0 told) (table1 told) (table2 told) (table3 told) in
+    let e = ends-tested _ _ _ _ _ _ _ (told .enum-told .given .1) (four-curves _ _ _ _ _ _ _ _ _ _ _ (c .before .before .before .before .before .before .before .before .before .before .before .before .before .first-refused .ensures) (c .before .before .before .before .before .before .before .before .before .before .before .before .first-refused2 .ensures) (c .before .before .before .before .before .before .before .before .before .before .before .first-refused3 .ensures) (c .before .before .before .before .before .before .before .before .before .before .before .before .before .before .before .before .before .before .before .before .before .before .before .before .before .before .before .before .new-curve .ensures .0) (c .before .before .before .before .before .before .before .before .before .before .before .before .before .before .before .before .before .before .before .before .before .before .before .before .new-curve2 .ensures .0) (c .before .before .before .before .before .before .before .before .before .before .before .before .before .before .before .before .before .before .before .before .new-curve3 .ensures .0) (c .before .before .before .before .before .before .before .before .before .before .before .before .before .before .before .before .new-curve4 .ensures .0)) (c .before .before .before .check-ends .ensures) g in (
+      not-joined _ _ _ _ _ _ (c .before .cause .given .1) e,
+      ((λ t. c .before .before .before .before .before .before .before .before .before .before .before .before .before .before .before .before .before .before .before .before .before .before .before .before .before .before .before .before .new-curve .ensures .1 (p .0)), ((λ t. c .before .before .before .before .before .before .before .before .before .before .before .before .before .before .before .before .before .before .before .before .before .before .before .before .new-curve2 .ensures .1 (p .1)), ((λ t. c .before .before .before .before .before .before .before .before .before .before .before .before .before .before .before .before .before .before .before .before .new-curve3 .ensures .1 (p .2)), (λ t. c .before .before .before .before .before .before .before .before .before .before .before .before .before .before .before .before .new-curve4 .ensures .1 (p .3))))),
+    )
+
+enum-told-2 : tie.Need-enum-told-2
+enum-told-2 c = search needs
+
+same-length-9 : tie.Need-same-length-9
+same-length-9 c = c .before .before .before .before .before .before .before .before .before .before .before .before .before .before .before .before .before .before .before .before .before .before .before .before .before .before .before .new-curve .kept .1 .1 .0
+
+same-length-10 : tie.Need-same-length-10
+same-length-10 c = c .before .before .before .before .before .before .before .before .before .before .before .before .before .before .before .before .before .before .before .before .before .before .before .new-curve2 .kept .1 .1 .0
+
+same-length-11 : tie.Need-same-length-11
+same-length-11 c = c .before .before .before .before .before .before .before .before .before .before .before .before .before .before .before .before .before .before .before .new-curve3 .kept .1 .1 .0
+
+same-length-12 : tie.Need-same-length-12
+same-length-12 c = c .before .before .before .before .before .before .before .before .before .before .before .before .before .before .before .new-curve4 .kept .1 .1 .0
+
+returns-3 : tie.Need-returns-3
+returns-3 c =
+    let told = c .before .before .before .before .before .before .before .before in
+    let p = passes told in
+    let g = ends-are _ _ _ _ _ _ _ _ _ (c .before .before .before .boundary-ends .ensures) (table0 told) (table1 told) (table2 told) (table3 told) in
+    let e = ends-tested _ _ _ _ _ _ _ (told .enum-told .given .1) (four-curves _ _ _ _ _ _ _ _ _ _ _ (c .before .before .before .before .before .before .before .before .before .before .before .before .first-refused .ensures) (c .before .before .before .before .before .before .before .before .before .before .before .first-refused2 .ensures) (c .before .before .before .before .before .before .before .before .before .before .first-refused3 .ensures) (c .before .before .before .before .before .before .before .before .before .before .before .before .before .before .before .before .before .before .before .before .before .before .before .before .before .before .before .new-curve .ensures .0) (c .before .before .before .before .before .before .before .before .before .before .before .before .before .before .before .before .before .before .before .before .before .before .before .new-curve2 .ensures .0) (c .before .before .before .before .before .before .before .before .before .before .before .before .before .before .before .before .before .before .before .new-curve3 .ensures .0) (c .before .before .before .before .before .before .before .before .before .before .before .before .before .before .before .new-curve4 .ensures .0)) (c .before .before .check-ends .ensures) g in (
+      are-joined _ _ _ _ _ _ (c .enum-told2 .given .1) e g,
+      ((λ t. c .before .before .before .before .before .before .before .before .before .before .before .before .before .before .before .before .before .before .before .before .before .before .before .before .before .before .before .new-curve .ensures .1 (p .0)), ((λ t. c .before .before .before .before .before .before .before .before .before .before .before .before .before .before .before .before .before .before .before .before .before .before .before .new-curve2 .ensures .1 (p .1)), ((λ t. c .before .before .before .before .before .before .before .before .before .before .before .before .before .before .before .before .before .before .before .new-curve3 .ensures .1 (p .2)), (λ t. c .before .before .before .before .before .before .before .before .before .before .before .before .before .before .before .new-curve4 .ensures .1 (p .3))))),
     )
 
 pub checked-curves-spec : {M : Type 1} → statement M
@@ -159,8 +191,15 @@ checked-curves-spec =
     slice-aggregate-boundary-ends-4
     boundary-ends-requires
     check-ends-requires
+    enum-known-cause
     same-length-5
     same-length-6
     same-length-7
     same-length-8
-    returns-2)
+    returns-2
+    enum-told-2
+    same-length-9
+    same-length-10
+    same-length-11
+    same-length-12
+    returns-3)
