@@ -23,6 +23,11 @@ refusal-not-passed r v e t = refused-not-passed r (subst (λ (w : Verdict). T (i
 pub in-turn : (u v w a b : Verdict) → u ≡ then-test v w → v ≡ a → w ≡ b → u ≡ then-test a b
 in-turn u v w a b e f g = e ∙ ap (λ (x : Verdict). then-test x w) f ∙ ap (then-test a) g
 
+-- four tests, put together from the last one on, as code does that makes them all
+pub in-four : (f f1 f2 c0 c1 c2 c3 : Check) (v0 v1 v2 v3 : Verdict) → outcome f2 ≡ then-test (outcome c2) (outcome c3) → outcome f1 ≡ then-test (outcome c1) (outcome f2) → outcome f ≡ then-test (outcome c0) (outcome f1)
+    → outcome c0 ≡ v0 → outcome c1 ≡ v1 → outcome c2 ≡ v2 → outcome c3 ≡ v3 → outcome f ≡ then-test v0 (then-test v1 (then-test v2 v3))
+in-four f f1 f2 c0 c1 c2 c3 v0 v1 v2 v3 e2 e1 e0 t0 t1 t2 t3 = in-turn _ (outcome c0) (outcome f1) _ _ e0 t0 (in-turn _ (outcome c1) (outcome f2) _ _ e1 t1 (in-turn _ (outcome c2) (outcome c3) _ _ e2 t2 t3))
+
 pub told-passed : (c : Check) → c ≡ Passed → T (is-passed (outcome c))
 unfolding outcome
 told-passed c e = subst (λ (x : Check). T (is-passed (outcome x))) (sym e) tt

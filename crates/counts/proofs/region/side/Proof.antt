@@ -10,6 +10,7 @@ use lib.ListN.{length, getD, take, drop, length-drop, List·getD-eq-default}
 use lib.Seq.{take-all}
 use borrow.Author.Needs.{needs}
 use Rattle.counts.specs.Region.{places, side}
+use Rattle.counts.proofs.AcceptLaws.{rest}
 use Rattle.counts.proofs.region.side.Statement.{statement}
 use Rattle.counts.proofs.region.side.Tie as tie
 
@@ -22,7 +23,7 @@ cut-side : (l : List ℕ) (k : ℕ) → length l < k * 17 + 1 + getD l (k * 17) 
 cut-side l k h =
     let r : List ℕ = drop (k * 17 + 1) l in
     let e : length r ≡ length l - (k * 17 + 1) = length-drop (k * 17 + 1) l in
-    take-all (length l - (k * 17 + 1)) r (omega arith) ∙ sym (take-all (getD l (k * 17) 0) r (omega arith)) ∙ ap (λ (n : ℕ). take (getD l (k * 17) 0) (drop n l)) (add-one (k * 17))
+    rest (k * 17 + 1) l ∙ sym (take-all (getD l (k * 17) 0) r (omega arith)) ∙ ap (λ (n : ℕ). take (getD l (k * 17) 0) (drop n l)) (add-one (k * 17))
 
 whole-side : (l : List ℕ) (k : ℕ) → take (k * 17 + 1 + getD l (k * 17) 0 - (k * 17 + 1)) (drop (k * 17 + 1) l) ≡ side places l k
 whole-side l k =

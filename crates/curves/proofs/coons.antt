@@ -1,0 +1,2 @@
+-- The laws of the public functions of the grid. Assumes nothing.
+pub mod Laws
