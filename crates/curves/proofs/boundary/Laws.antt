@@ -66,6 +66,7 @@ module _ (b r t l : List Float) where
   unfolding joined-of joined-curves
   are-joined c e p o g = ap good g ∙ follows (good (boundary-ends (boundary-of b r t l))) turned-away c (checked-curves b r t l) p o
 
+
 -- the part of a buffer that holds the table of a curve that has passed
 pub part-sampled : (points : List Float) (side : ℕ) (v : Verdict) (xs : List Float) → v ≡ curve-test points side → T (is-passed v) → xs ≡ cumulative-of points → Sampled points xs
 part-sampled points side v xs e t f = subst (Sampled points) (sym f) (sampled points side (subst (λ (x : Verdict). T (is-passed x)) e t))
