@@ -40,7 +40,7 @@ fn sides_fit(regions: &[u16]) -> bool
 }
 
 // 1: a limit exceeded, or a broken record or list; n is the length of a list with an entry for each edge.
-pub(crate) fn check_limits(regions: &[u16], n: usize) -> Check
+pub fn check_limits(regions: &[u16], n: usize) -> Check
     ensures { λ r. ⌜ outcome r ≡ limits-test places n (now (regions .entry)) ⌝ }
 {
     let broken = Check::Refused(Refusal::Malformed);

@@ -1,12 +1,12 @@
 // The public functions. Each takes any input; specs/Solver.antt defines what it answers and leaves.
 pub mod answer;
 mod augment;
-mod check;
+pub mod check;
 mod cost;
 mod graph;
 mod measure;
 pub mod refusal;
-mod region;
+pub mod region;
 mod search;
 mod solve;
 

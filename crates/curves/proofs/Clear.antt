@@ -22,7 +22,7 @@ use Rattle.curves.specs.Seam.{falls, value-test, seam-ends-test, seam-te
 use Rattle.curves.specs.Crossing.{denominator, crossing-u, crossing-v, logical-intersection}
 use Rattle.curves.specs.Quad.{zeros}
 use Rattle.curves.specs.Grid.{Seams, Grid, grid-of, n-u, n-v, mapped, row-of, row-points, points-test, cell-test, quads-test, grid-test, grid-values, needed}
-use Rattle.curves.specs.Coons.{Outcome, unless, filled, patch-test, patch, curve-limit, curves-limit, seam-limit, seams-limit, coons-from-parameters}
+use Rattle.curves.specs.Coons.{Outcome, unless, filled, grid-stage, patch, curve-limit, curves-limit, seam-limit, seams-limit, coons-from-parameters}
 use Rattle.curves.specs.Lay.{Field, record-test, edges-test, breaks-test, sides-test, seams-of, lay}
 use Rattle.curves.specs.declared.point.Point.{Point}
 use Rattle.curves.specs.declared.boundary.BoundaryEnds.{BoundaryEnds}
@@ -194,17 +194,18 @@ filled-clear layout f n m out h = go (is-passed (grid-test f n m))
 
 -- ---- the public functions, on seams whose opposite ones are equally long
 
-patch-test-clear : (layout : Layout) (bottom right top left : List Float) (s : Seams) (room : ℕ) → EqualSeams s → Clear (patch-test layout bottom right top left s room)
-unfolding patch-test
-patch-test-clear layout bottom right top left s room e =
-    then-clear (curves-clear bottom right top left) (then-clear (seams-clear s e) (if-clear (ltb room (needed layout (n-u s) (n-v s))) 11 0 0 tt))
+grid-stage-clear : (layout : Layout) (c : BoundaryCurves) (s : Seams) (out : List Float) → EqualSeams s → Clear (grid-stage layout c s out .verdict)
+unfolding grid-stage
+grid-stage-clear layout c s out e =
+    let tested = then-clear (seams-clear s e) (if-clear (ltb (length out) (needed layout (n-u s) (n-v s))) 11 0 0 tt) in
+    unless-clear out (filled layout (grid-of c s) (n-u s) (n-v s) out) tested
+    (filled-clear layout (grid-of c s) (n-u s) (n-v s) out (grid-clear (grid-of c s) (n-u s) (n-v s) (point-clear c s)))
 
 patch-clear : (layout : Layout) (bottom right top left : List Float) (s : Seams) (out : List Float) → EqualSeams s → Clear (patch layout bottom right top left s out .verdict)
 unfolding patch
 patch-clear layout bottom right top left s out e =
-    let f = grid-of (boundary-of bottom right top left) s in
-    unless-clear out (filled layout f (n-u s) (n-v s) out) (patch-test-clear layout bottom right top left s (length out) e)
-    (filled-clear layout f (n-u s) (n-v s) out (grid-clear f (n-u s) (n-v s) (point-clear (boundary-of bottom right top left) s)))
+    unless-clear out (grid-stage layout (boundary-of bottom right top left) s out) (curves-clear bottom right top left)
+    (grid-stage-clear layout (boundary-of bottom right top left) s out e)
 
 curve-limit-clear : (points : List Float) → Clear (curve-limit points)
 unfolding curve-limit

@@ -3,5 +3,4 @@ pub mod ListLaws
 pub mod TestLaws
 pub mod Clear
 pub mod Demand
-pub mod lay
 pub mod Cases

@@ -1,2 +1,2 @@
--- Laws of the public functions of the grid.
+-- The laws of the public functions of the grid. Assumes nothing.
 pub mod Laws

@@ -14,7 +14,7 @@ use Rattle.curves.specs.Grid.{Seams, seams}
 use Rattle.curves.specs.Coons.{Outcome, unless, curves-limit, coons-from-parameters}
 use Rattle.curves.specs.declared.grid.Layout.the-variants.{Quads}
 
--- what lay is lent beside the record: the counts, the breaks of sides 0 to 3, and their curves
+-- what lay is lent beside the record and the counts: the breaks of sides 0 to 3, and their curves
 pub record Field : Type 0 where
   pub breaks0 : List Float
   pub breaks1 : List Float
@@ -24,6 +24,18 @@ pub record Field : Type 0 where
   pub right : List Float
   pub top : List Float
   pub left : List Float
+
+abbrev pub field : List Float → List Float → List Float → List Float → List Float → List Float → List Float → List Float → Field
+field breaks0 breaks1 breaks2 breaks3 bottom right top left = record {
+  breaks0 = breaks0;
+  breaks1 = breaks1;
+  breaks2 = breaks2;
+  breaks3 = breaks3;
+  bottom = bottom;
+  right = right;
+  top = top;
+  left = left;
+}
 
 -- ---- the seams
 

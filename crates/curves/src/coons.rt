@@ -19,7 +19,8 @@ use crate::seam::uniform_parameters;
 use counts::refusal::Check;
 use counts::refusal::Refusal;
 
-const MAX_POINTS: usize = 1024;
+// 1,024 points.
+const MAX_CURVE: usize = 2048;
 
 const MAX_SEAM: usize = 1025;
 
@@ -35,7 +36,7 @@ pub enum GridAnswer {
 fn check_curve_limit(points: &[f64]) -> Check
     ensures { λ r. ⌜ outcome r ≡ curve-limit (now (points .entry)) ⌝ }
 {
-    if points.len() > 2 * MAX_POINTS {
+    if points.len() > MAX_CURVE {
         return Check::Refused(Refusal::Malformed);
     }
     if points.len() % 2 != 0 {

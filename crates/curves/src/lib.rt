@@ -7,6 +7,7 @@ pub mod coons;
 mod crossing;
 mod curve;
 mod grid;
+pub mod lay;
 mod patch;
 mod point;
 mod quad;

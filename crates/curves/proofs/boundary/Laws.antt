@@ -72,10 +72,10 @@ module _ (b r t l : List Float) where
   unfolding outcome joined-of joined-curves
   told-refused cause e = go (is-passed (checked-curves b r t l)) e
     where
-      go : (d : Bool) → turned-away (verdict-of cause) ≡ elim d [
+      go : (d : Bool) → _≡_ {A = Answer BoundaryEnds} (turned-away (verdict-of cause)) (elim d [
         | true ↦ good (boundary-ends (boundary-of b r t l))
         | false ↦ turned-away (checked-curves b r t l)
-      ] → verdict-of cause ≡ checked-curves b r t l
+      ]) → verdict-of cause ≡ checked-curves b r t l
       go true q = absurd (true≢false (sym (ap (λ (a : Answer BoundaryEnds). is-passed (verdict a)) q) ∙ refusal-number cause))
       go false q = ap verdict q
 
@@ -91,10 +91,10 @@ module _ (b r t l : List Float) where
       is-good (good x) = true
       is-good (turned-away v) = false
 
-      go : (d : Bool) → is-passed (checked-curves b r t l) ≡ d → good e ≡ elim d [
+      go : (d : Bool) → is-passed (checked-curves b r t l) ≡ d → _≡_ {A = Answer BoundaryEnds} (good e) (elim d [
         | true ↦ good (boundary-ends (boundary-of b r t l))
         | false ↦ turned-away (checked-curves b r t l)
-      ] → (is-passed (checked-curves b r t l) ≡ true) × (e ≡ boundary-ends (boundary-of b r t l))
+      ]) → (is-passed (checked-curves b r t l) ≡ true) × (e ≡ boundary-ends (boundary-of b r t l))
       go true p q = (p, ap ends-in q)
       go false p q = absurd (true≢false (ap is-good q))
 

@@ -60,6 +60,18 @@ module _ (layout : Layout) (f : Grid) (n m : ℕ) (out : List Float) where
 
 -- ---- the seams and the room
 
+long-enough : (xs : List Float) (k : ℕ) → T (is-passed (seam-test xs k)) → 2 ≤ length xs
+unfolding seam-test
+long-enough xs k q = ltb-false (length xs) 2 (T-not (not-refused (ltb (length xs) 2) 17 k 0 (then-left (refuse-if (ltb (length xs) 2) (refused 18 k 0)) _ q)))
+
+equally-long : (xs ys : List Float) (k : ℕ) → T (is-passed (pair-test xs ys k)) → length xs ≡ length ys
+unfolding pair-test
+equally-long xs ys k q = go (eqb (length xs) (length ys)) refl q
+  where
+    go : (d : Bool) → eqb (length xs) (length ys) ≡ d → T (is-passed (refuse-if (not d) (refused 22 k 0))) → length xs ≡ length ys
+    go true e u = eqb→eq (length xs) (length ys) (subst T (sym e) tt)
+    go false e u = absurd u
+
 -- what seams that are let by are like
 pub seams-passed : (b t l r : List Float) → T (is-passed (seams-test b t l r)) → (2 ≤ length b) × (length b ≡ length t) × (2 ≤ length l) × (length l ≡ length r)
 unfolding seams-test
@@ -70,19 +82,7 @@ seams-passed b t l r p =
     let v4 = then-test (seam-test t 2) v3 in
     let p3 = then-right (seam-test t 2) v3 (then-right (seam-test b 0) v4 p) in
     let p1 = then-right (seam-test r 1) v1 (then-right (seam-test l 3) v2 p3) in
-    (long b 0 (then-left (seam-test b 0) v4 p), equal b t 0 (then-left (pair-test b t 0) (pair-test l r 1) p1), long l 3 (then-left (seam-test l 3) v2 p3), equal l r 1 (then-right (pair-test b t 0) (pair-test l r 1) p1))
-  where
-    long : (xs : List Float) (k : ℕ) → T (is-passed (seam-test xs k)) → 2 ≤ length xs
-    unfolding seam-test
-    long xs k q = ltb-false (length xs) 2 (T-not (not-refused (ltb (length xs) 2) 17 k 0 (then-left (refuse-if (ltb (length xs) 2) (refused 18 k 0)) _ q)))
-
-    equal : (xs ys : List Float) (k : ℕ) → T (is-passed (pair-test xs ys k)) → length xs ≡ length ys
-    unfolding pair-test
-    equal xs ys k q = go (eqb (length xs) (length ys)) refl q
-      where
-        go : (d : Bool) → eqb (length xs) (length ys) ≡ d → T (is-passed (refuse-if (not d) (refused 22 k 0))) → length xs ≡ length ys
-        go true e u = eqb→eq (length xs) (length ys) (subst T (sym e) tt)
-        go false e u = absurd u
+    (long-enough b 0 (then-left (seam-test b 0) v4 p), equally-long b t 0 (then-left (pair-test b t 0) (pair-test l r 1) p1), long-enough l 3 (then-left (seam-test l 3) v2 p3), equally-long l r 1 (then-right (pair-test b t 0) (pair-test l r 1) p1))
 
 module _ (layout : Layout) (c : BoundaryCurves) (s : Seams) (out : List Float) where
   abbrev rest : Outcome

@@ -1,13 +1,38 @@
--- Laws of lay: how long its seams are. Assumes nothing.
-use mathlib.Core.Path.{_≡_, refl, ap, _∙_}
-use mathlib.Core.List.{List, [], _∷_}
-use Prim.Native.Nat.{ℕ, suc, _+_}
+-- Laws of lay: how long its seams are, its tests one by one, what they let by, and its answer by them. Assumes nothing.
+use mathlib.Core.Path.{_≡_, refl, sym, ap, subst, _∙_}
+use mathlib.Core.Bool.{Bool, true, false, not, cond}
+use mathlib.Core.List.{List, [], _∷_, _++_}
+use Prim.Native.Nat.{ℕ, zero, suc, _+_, _/_, _≤_, _<_}
 use native.Mathlib.Nat.{add-suc}
-use lib.ListN.{length, getD, length-append}
+use native.Mathlib.Omega.{arith}
+use lib.Dec.{T, ltb, eqb, ltb→lt, eqb→eq}
 use lib.Ieee.{Float}
+use lib.Ieee.Fits.{and-l, and-r}
+use lib.ListN.{length, getD, set, take, drop, length-append}
+use lib.Seq.{take-all, take-at}
+use Rattle.counts.specs.Lists.{all}
+use Rattle.counts.specs.Refusal.{Verdict, refused, verdict-of, outcome, is-passed, then-test, refuse-if}
 use Rattle.counts.specs.Region.{places, side, side-sum}
+use Rattle.counts.specs.Accept.{sides-fit, limits-test}
+use Rattle.counts.specs.declared.refusal.Check.{Check}
+use Rattle.counts.specs.declared.refusal.Check.the-variants.{Passed, Refused}
+use Rattle.counts.specs.declared.refusal.Refusal.{Refusal}
+use Rattle.counts.specs.declared.refusal.Refusal.the-variants as because
+use Rattle.counts.proofs.BoolLaws.{T-true}
+use Rattle.counts.proofs.RefusalLaws.{then-left, then-right, not-refused}
+use Rattle.counts.proofs.AcceptLaws.{limits-passed, whole-sides, side-few}
+use Rattle.counts.proofs.SolverLaws.{side-short}
+use Rattle.counts.proofs.Turns.{drop-at}
+use Rattle.curves.specs.Lists.{splice}
 use Rattle.curves.specs.Seam.{edge-values, seam-from, side-seam}
-use Rattle.curves.specs.Lay.{counts-along, seam-of}
+use Rattle.curves.specs.Grid.{Seams, seams}
+use Rattle.curves.specs.Coons.{Outcome, outcome-of, curves-limit, seam-limit, seams-limit, coons-from-parameters}
+use Rattle.curves.specs.Lay.{Field, counts-along, seam-of, seams-of, record-test, edges-test, breaks-test, sides-test, lay-test, lay}
+use Rattle.curves.specs.declared.grid.Layout.the-variants.{Quads}
+use Rattle.curves.specs.declared.coons.GridAnswer.the-variants as grid-answer
+use Rattle.curves.proofs.ListLaws.{part-written, set-splice}
+use Rattle.curves.proofs.TestLaws.{told-passed}
+use Rattle.curves.proofs.coons.Laws.{turned-away, goes-on}
 use Rattle.curves.proofs.seam.Laws.{length-edge}
 
 -- ---- how long a seam is: one more than its side adds up to
@@ -25,3 +50,176 @@ length-from breaks i counts (e ∷ edges) =
 pub length-seam : (region counts : List ℕ) (k : ℕ) (breaks : List Float) → length (seam-of region counts k breaks) ≡ suc (side-sum counts (side places region k))
 unfolding seam-of side-seam
 length-seam region counts k breaks = length-from breaks 0 counts (side places region k)
+
+pub seam-is : (region counts : List ℕ) (k : ℕ) (breaks : List Float) (along : List ℕ) → along ≡ counts-along counts (side places region k) → side-seam breaks along ≡ seam-of region counts k breaks
+unfolding seam-of
+seam-is region counts k breaks along e = ap (side-seam breaks) e
+
+-- ---- the counts of a side's edges
+
+pub length-along : (counts edges : List ℕ) → length (counts-along counts edges) ≡ length edges
+length-along counts [] = refl
+length-along counts (e ∷ edges) = ap suc (length-along counts edges)
+
+along-drop : (counts edges : List ℕ) (i : ℕ) → drop i (counts-along counts edges) ≡ counts-along counts (drop i edges)
+along-drop counts edges zero = refl
+along-drop counts [] (suc i) = refl
+along-drop counts (e ∷ edges) (suc i) = along-drop counts edges i
+
+-- the front of the buffer that they were written to
+pub along-part : (counts edges xs rest : List ℕ) → xs ≡ counts-along counts edges ++ rest → take (length edges) xs ≡ counts-along counts edges
+along-part counts edges xs rest e = ap (take (length edges)) e ∙ take-at (counts-along counts edges) rest (length edges) (length-along counts edges)
+
+-- a turn of the loop that writes them to a buffer d, and its end
+module _ (counts edges d : List ℕ) where
+  pub along-more : (out : List ℕ) (i v : ℕ) → i < length edges → length edges ≤ length d → length out ≡ length d → v ≡ getD counts (getD edges i 0) 0
+      → out ≡ splice d 0 (take i (counts-along counts edges)) → set out i v ≡ splice d 0 (take (i + 1) (counts-along counts edges))
+  along-more out i v h g l e o =
+      let n = length-along counts edges in
+      part-written d out (counts-along counts edges) (v ∷ []) (counts-along counts (drop (i + 1) edges)) i (set out i v) (omega (arith, n)) (omega (arith, n))
+      (along-drop counts edges i
+      ∙ ap (counts-along counts) (drop-at edges 0 i h)
+      ∙ ap (λ (x : ℕ). x ∷ counts-along counts (drop (i + 1) edges)) (sym e)) o (set-splice out i v (omega arith))
+
+  pub along-done : (out : List ℕ) (i : ℕ) → length edges ≤ i → out ≡ splice d 0 (take i (counts-along counts edges)) → out ≡ splice d 0 (counts-along counts edges)
+  along-done out i h o = o ∙ ap (splice d 0) (take-all i (counts-along counts edges) (let n = length-along counts edges in omega (arith, n)))
+
+pub edge-below : (n : ℕ) (edges : List ℕ) (i : ℕ) → T (all (λ (e : ℕ). ltb e n) edges) → i < length edges → getD edges i 0 < n
+edge-below n [] i t h = absurd (omega arith)
+edge-below n (e ∷ edges) zero t h = ltb→lt e n (and-l (ltb e n) (all (λ (x : ℕ). ltb x n) edges) t)
+edge-below n (e ∷ edges) (suc i) t h = edge-below n edges i (and-r (ltb e n) (all (λ (x : ℕ). ltb x n) edges) t) (omega arith)
+
+-- ---- the tests, by what the code finds
+
+module _ (region : List ℕ) (n : ℕ) where
+  pub record-by : (b : Bool) → eqb (length region) 68 ≡ b → then-test (refuse-if (not b) (refused 1 0 0)) (limits-test places n region) ≡ record-test region n
+  unfolding record-test
+  record-by b e = ap (λ (x : Bool). then-test (refuse-if (not x) (refused 1 0 0)) (limits-test places n region)) (sym e)
+
+  pub edges-by : (k : ℕ) (edges : List ℕ) (b : Bool) → edges ≡ side places region k → all (λ (e : ℕ). ltb e n) edges ≡ b → refuse-if (not b) (refused 3 0 k) ≡ edges-test region n k
+  unfolding edges-test
+  edges-by k edges b s e = ap (λ (x : Bool). refuse-if (not x) (refused 3 0 k)) (sym e ∙ ap (all (λ (x : ℕ). ltb x n)) s)
+
+pub breaks-by : (region : List ℕ) (breaks : List Float) (k : ℕ) (edges : List ℕ) (b : Bool) → edges ≡ side places region k → eqb (length breaks) (suc (length edges)) ≡ b
+    → refuse-if (not b) (refused 27 k 0) ≡ breaks-test region breaks k
+unfolding breaks-test
+breaks-by region breaks k edges b s e = ap (λ (x : Bool). refuse-if (not x) (refused 27 k 0)) (sym e ∙ ap (λ (l : List ℕ). eqb (length breaks) (suc (length l))) s)
+
+-- ---- what they let by
+
+yes : (b : Bool) → T (not (not b)) → T b
+yes true t = tt
+yes false t = absurd t
+
+pub edges-known : (region : List ℕ) (n k : ℕ) → T (is-passed (edges-test region n k)) → T (all (λ (e : ℕ). ltb e n) (side places region k))
+unfolding edges-test
+edges-known region n k t = let b = all (λ (e : ℕ). ltb e n) (side places region k) in yes b (not-refused (not b) 2 0 k t)
+
+pub breaks-known : (region : List ℕ) (breaks : List Float) (k : ℕ) → T (is-passed (breaks-test region breaks k)) → length breaks ≡ suc (length (side places region k))
+unfolding breaks-test
+breaks-known region breaks k t =
+    let b = eqb (length breaks) (suc (length (side places region k))) in
+    eqb→eq (length breaks) (suc (length (side places region k))) (yes b (not-refused (not b) 26 k 0 t))
+
+-- a record that is let by has no more than 16 edges on a side
+pub sides-short : (region : List ℕ) (n : ℕ) → T (is-passed (record-test region n))
+    → (length (side places region 0) ≤ 16) × (length (side places region 1) ≤ 16) × (length (side places region 2) ≤ 16) × (length (side places region 3) ≤ 16)
+unfolding record-test
+sides-short region n t =
+    let v : Verdict = refuse-if (not (eqb (length region) 68)) (refused 1 0 0) in
+    let e : length region ≡ 68 = eqb→eq (length region) 68 (yes (eqb (length region) 68) (not-refused (not (eqb (length region) 68)) 0 0 0 (then-left v (limits-test places n region) t))) in
+    let w = limits-passed n region (T-true (is-passed (limits-test places n region)) (then-right v (limits-test places n region) t)) .1 in
+    let f = side-few region (subst (λ (m : ℕ). T (sides-fit places (m / 68) region)) e (whole-sides region w)) in
+    (side-short region 0 (f .0), side-short region 1 (f .1), side-short region 2 (f .2), side-short region 3 (f .3))
+
+-- what the tests let by of one side
+pub record SideKnown (region : List ℕ) (n k : ℕ) (breaks : List Float) : Type 0 where
+  pub short : length (side places region k) ≤ 16
+  pub edges : T (is-passed (edges-test region n k))
+  pub fit : T (is-passed (breaks-test region breaks k))
+
+pub record Known (region : List ℕ) (n : ℕ) (f : Field) : Type 0 where
+  pub curves : T (is-passed (curves-limit (f .bottom) (f .right) (f .top) (f .left)))
+  pub side0 : SideKnown region n 0 (f .breaks0)
+  pub side1 : SideKnown region n 1 (f .breaks1)
+  pub side2 : SideKnown region n 2 (f .breaks2)
+  pub side3 : SideKnown region n 3 (f .breaks3)
+
+four : (a b c d : Verdict) → T (is-passed (then-test a (then-test b (then-test c d)))) → T (is-passed a) × T (is-passed b) × T (is-passed c) × T (is-passed d)
+four a b c d t =
+    let u = then-right a (then-test b (then-test c d)) t in
+    let w = then-right b (then-test c d) u in
+    (then-left a (then-test b (then-test c d)) t, then-left b (then-test c d) u, then-left c d w, then-right c d w)
+
+pub known : (region : List ℕ) (n : ℕ) (f : Field) → T (is-passed (lay-test region n f)) → Known region n f
+unfolding lay-test sides-test
+known region n f t =
+    let limit = curves-limit (f .bottom) (f .right) (f .top) (f .left) in
+    let s = then-right (record-test region n) (then-test limit (sides-test region n f)) t in
+    let r = then-right limit (sides-test region n f) s in
+    let short = sides-short region n (then-left (record-test region n) (then-test limit (sides-test region n f)) t) in
+    let of-edges = then-test (edges-test region n 0) (then-test (edges-test region n 1) (then-test (edges-test region n 2) (edges-test region n 3))) in
+    let of-breaks = then-test (breaks-test region (f .breaks0) 0) (then-test (breaks-test region (f .breaks1) 1) (then-test (breaks-test region (f .breaks2) 2) (breaks-test region (f .breaks3) 3))) in
+    let e = four (edges-test region n 0) (edges-test region n 1) (edges-test region n 2) (edges-test region n 3) (then-left of-edges of-breaks r) in
+    let b = four (breaks-test region (f .breaks0) 0) (breaks-test region (f .breaks1) 1) (breaks-test region (f .breaks2) 2) (breaks-test region (f .breaks3) 3) (then-right of-edges of-breaks r) in
+    record {
+      curves = then-left limit (sides-test region n f) s;
+      side0 = record { short = short .0; edges = e .0; fit = b .0 };
+      side1 = record { short = short .1; edges = e .1; fit = b .1 };
+      side2 = record { short = short .2; edges = e .2; fit = b .2 };
+      side3 = record { short = short .3; edges = e .3; fit = b .3 };
+    }
+
+-- ---- the limit of the seams, by their lengths
+
+module _ (s : Seams) where
+  abbrev limits : Bool → Bool → Bool → Bool → Verdict
+  limits b t l r =
+      then-test (refuse-if b (refused 1 0 0)) (then-test (refuse-if t (refused 1 0 0)) (then-test (refuse-if l (refused 1 0 0)) (refuse-if r (refused 1 0 0))))
+
+  pub limits-by : (n0 n2 n3 n1 : ℕ) → n0 ≡ length (s .bottom) → n2 ≡ length (s .top) → n3 ≡ length (s .left) → n1 ≡ length (s .right)
+      → (b t l r : Bool) → ltb 1025 n0 ≡ b → ltb 1025 n2 ≡ t → ltb 1025 n3 ≡ l → ltb 1025 n1 ≡ r → limits b t l r ≡ seams-limit s
+  unfolding seams-limit seam-limit
+  limits-by n0 n2 n3 n1 e0 e2 e3 e1 b t l r f0 f2 f3 f1 =
+      ap (λ (x : Bool). limits x t l r) (sym f0 ∙ ap (ltb 1025) e0)
+      ∙ ap (λ (x : Bool). limits (ltb 1025 (length (s .bottom))) x l r) (sym f2 ∙ ap (ltb 1025) e2)
+      ∙ ap (λ (x : Bool). limits (ltb 1025 (length (s .bottom))) (ltb 1025 (length (s .top))) x r) (sym f3 ∙ ap (ltb 1025) e3)
+      ∙ ap (limits (ltb 1025 (length (s .bottom))) (ltb 1025 (length (s .top))) (ltb 1025 (length (s .left)))) (sym f1 ∙ ap (ltb 1025) e1)
+
+-- ---- lay's answer, by its tests
+
+pub tested : (region : List ℕ) (n : ℕ) (f : Field) (c : Check) → c ≡ Passed → outcome c ≡ lay-test region n f → T (is-passed (lay-test region n f))
+tested region n f c e o = subst (λ (v : Verdict). T (is-passed v)) o (told-passed c e)
+
+module _ (region counts : List ℕ) (f : Field) (out : List Float) where
+  abbrev grid : Outcome
+  grid = coons-from-parameters Quads (f .bottom) (f .right) (f .top) (f .left) (seams-of region counts f) out
+
+  pub lay-refused : (c : Check) (cause : Refusal) → c ≡ Refused cause → outcome c ≡ lay-test region (length counts) f → outcome-of (grid-answer.Refused cause) out ≡ lay region counts f out
+  unfolding lay
+  lay-refused c cause e o = turned-away out grid c cause (lay-test region (length counts) f) e o
+
+  pub laid : T (is-passed (lay-test region (length counts) f)) → grid ≡ lay region counts f out
+  unfolding lay
+  laid t = goes-on out grid (lay-test region (length counts) f) (T-true (is-passed (lay-test region (length counts) f)) t)
+
+  pub laid-by : (b t l r : List Float) (x : Outcome) → T (is-passed (lay-test region (length counts) f)) → b ≡ seam-of region counts 0 (f .breaks0) → t ≡ seam-of region counts 2 (f .breaks2)
+      → l ≡ seam-of region counts 3 (f .breaks3) → r ≡ seam-of region counts 1 (f .breaks1) → x ≡ coons-from-parameters Quads (f .bottom) (f .right) (f .top) (f .left) (seams b t l r) out → x ≡ lay region counts f out
+  laid-by b t l r x p e0 e2 e3 e1 q =
+      let go : Seams → Outcome = λ s. coons-from-parameters Quads (f .bottom) (f .right) (f .top) (f .left) s out in
+      q
+      ∙ ap (λ (z : List Float). go (seams z t l r)) e0
+      ∙ ap (λ (z : List Float). go (seams (seam-of region counts 0 (f .breaks0)) z l r)) e2
+      ∙ ap (λ (z : List Float). go (seams (seam-of region counts 0 (f .breaks0)) (seam-of region counts 2 (f .breaks2)) z r)) e3
+      ∙ ap (λ (z : List Float). go (seams (seam-of region counts 0 (f .breaks0)) (seam-of region counts 2 (f .breaks2)) (seam-of region counts 3 (f .breaks3)) z)) e1
+      ∙ laid p
+
+  -- "1 for a seam too long": where the curves are within their limit, that of the seams decides
+  pub seam-too-long : T (is-passed (lay-test region (length counts) f)) → refused 1 0 0 ≡ seams-limit (seams-of region counts f) → outcome-of (grid-answer.Refused because.Malformed) out ≡ lay region counts f out
+  unfolding coons-from-parameters outcome verdict-of
+  seam-too-long t e =
+      let k = known region (length counts) f t in
+      let limit = curves-limit (f .bottom) (f .right) (f .top) (f .left) in
+      let limit-of-seams = seams-limit (seams-of region counts f) in
+      let q : outcome (Refused because.Malformed) ≡ then-test limit limit-of-seams = e ∙ ap (λ (b : Bool). cond b limit-of-seams limit) (sym (T-true (is-passed limit) (k .curves))) in
+      turned-away out _ (Refused because.Malformed) because.Malformed _ refl q ∙ laid t

@@ -3,27 +3,23 @@ use Rattle.counts.specs.Refusal.{outcome}
 use mathlib.Core.Path.{_≡_, _∙_}
 use borrow.Author.Needs.{needs}
 use denote.Ref.{now}
-use lib.Dec.{lit<}
 use Rattle.counts.specs.Region.{places, side}
 use Rattle.counts.specs.Accept.{pair-test}
-use Rattle.counts.proofs.AcceptLaws.{side-few}
 use Rattle.counts.proofs.RefusalLaws.{chain-stops, chain-goes-on}
 use Rattle.counts.proofs.check.check_region.Statement.{statement}
 use Rattle.counts.proofs.check.check_region.Tie as tie
 
 side-requires : tie.Need-side-requires
-side-requires c κs = (lit< tt, (c .before .pre .0, side-few _ (c .before .pre .1) .0))
+side-requires c κs = search needs
 
 side-requires-2 : tie.Need-side-requires-2
-side-requires-2 c κs = (lit< tt, (c .before .before .pre .0, side-few _ (c .before .before .pre .1) .1))
+side-requires-2 c κs = search needs
 
 side-requires-3 : tie.Need-side-requires-3
-side-requires-3 c κs =
-    (lit< tt, (c .before .before .before .pre .0, side-few _ (c .before .before .before .pre .1) .2))
+side-requires-3 c κs = search needs
 
 side-requires-4 : tie.Need-side-requires-4
-side-requires-4 c κs =
-    (lit< tt, (c .before .before .before .before .pre .0, side-few _ (c .before .before .before .before .pre .1) .3))
+side-requires-4 c κs = search needs
 
 check-pair-requires : tie.Need-check-pair-requires
 check-pair-requires c κs = search needs

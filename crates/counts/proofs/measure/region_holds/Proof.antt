@@ -2,7 +2,7 @@
 use mathlib.Core.Path.{_≡_, sym, ap, _∙_}
 use denote.Ref.{now}
 use mathlib.Core.Bool.{Bool, true, _&&_, and-true}
-use lib.Dec.{lit<}
+use borrow.Author.Needs.{needs}
 use Rattle.counts.specs.Region.{Constraint, places, side, constraints}
 use Rattle.counts.specs.Solver.{constraint-holds}
 use Rattle.counts.proofs.AcceptLaws.{side-few}
@@ -11,20 +11,16 @@ use Rattle.counts.proofs.measure.region_holds.Statement.{statement}
 use Rattle.counts.proofs.measure.region_holds.Tie as tie
 
 side-requires : tie.Need-side-requires
-side-requires c κs =
-    (lit< tt, (c .before .before .pre .0, side-few (now (c .before .before .args .records)) (c .before .before .pre .1) .0))
+side-requires c κs = search needs
 
 side-requires-2 : tie.Need-side-requires-2
-side-requires-2 c κs =
-    (lit< tt, (c .before .before .before .pre .0, side-few (now (c .before .before .before .args .records)) (c .before .before .before .pre .1) .1))
+side-requires-2 c κs = search needs
 
 side-requires-3 : tie.Need-side-requires-3
-side-requires-3 c κs =
-    (lit< tt, (c .before .before .before .before .pre .0, side-few (now (c .before .before .before .before .args .records)) (c .before .before .before .before .pre .1) .2))
+side-requires-3 c κs = search needs
 
 side-requires-4 : tie.Need-side-requires-4
-side-requires-4 c κs =
-    (lit< tt, (c .before .before .before .before .before .pre .0, side-few (now (c .before .before .before .before .before .args .records)) (c .before .before .before .before .before .pre .1) .3))
+side-requires-4 c κs = search needs
 
 constraint-holds-requires : tie.Need-constraint-holds-requires
 constraint-holds-requires c κs =

@@ -1,24 +1,33 @@
-use borrow.Author.Needs.{needs}
+-- `coons::check_curve_limit` meets its contract. Assumes nothing.
+use Prim.Native.Nat.{_%_}
+use denote.Ref.{now}
+use lib.ListN.{length}
+use borrow.Author.Tests.{lt-ltb, le-ltb, eq-eqb, ne-eqb}
+use Rattle.counts.specs.Refusal.{outcome, verdict-of}
+use Rattle.curves.specs.Coons.{curve-limit}
 use Rattle.curves.proofs.coons.check_curve_limit.Statement.{statement}
 use Rattle.curves.proofs.coons.check_curve_limit.Tie as tie
-use Rattle.curves.proofs.coons.check_curve_limit.Reads as reads
-use Rattle.curves.proofs.coons.check_curve_limit.Lts as lts
 
--- src/coons.rt:38:23
-mul-if1 : tie.Need-mul-if1
-mul-if1 c = search needs
-
--- src/coons.rt:39:9
 returns : tie.Need-returns
-returns c = ?
+unfolding outcome verdict-of curve-limit
+returns c = let l = now (c .before .args .points) in simp (lt-ltb 2048 (length l) (c .if1 .taken))
 
--- src/coons.rt:42:9
 returns-2 : tie.Need-returns-2
-returns-2 c = ?
+unfolding outcome verdict-of curve-limit
+returns-2 c =
+    let l = now (c .before .before .args .points) in
+    simp (le-ltb 2048 (length l) (c .before .if1 .left), ne-eqb (length l % 2) 0 (c .if2 .taken))
 
--- src/coons.rt:35:1
 returns-3 : tie.Need-returns-3
-returns-3 c = ?
+unfolding outcome verdict-of curve-limit
+returns-3 c =
+    let l = now (c .before .before .args .points) in
+    simp (le-ltb 2048 (length l) (c .before .if1 .left), eq-eqb (length l % 2) 0 (c .if2 .left))
 
 pub check-curve-limit-spec : {M : Type 1} → statement M
-check-curve-limit-spec = tie.close (tie.spec mul-if1 returns returns-2 returns-3)
+check-curve-limit-spec =
+    tie.close
+    (tie.spec
+    returns
+    returns-2
+    returns-3)

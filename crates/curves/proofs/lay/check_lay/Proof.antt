@@ -1,0 +1,46 @@
+-- `lay::check_lay` meets its contract. Assumes nothing.
+use Rattle.curves.specs.Lay.{sides-test, lay-test}
+use Rattle.curves.proofs.TestLaws.{in-turn}
+use borrow.Author.Needs.{needs}
+use Rattle.curves.proofs.lay.check_lay.Statement.{statement}
+use Rattle.curves.proofs.lay.check_lay.Tie as tie
+
+check-record-requires : tie.Need-check-record-requires
+check-record-requires c κs = search needs
+
+check-curve-limits-requires : tie.Need-check-curve-limits-requires
+check-curve-limits-requires c κs = search needs
+
+check-all-edges-requires : tie.Need-check-all-edges-requires
+check-all-edges-requires c κs = search needs
+
+check-all-breaks-requires : tie.Need-check-all-breaks-requires
+check-all-breaks-requires c κs = search needs
+
+first-refused-requires : tie.Need-first-refused-requires
+first-refused-requires c κs = search needs
+
+first-refused-requires-2 : tie.Need-first-refused-requires-2
+first-refused-requires-2 c κs = search needs
+
+first-refused-requires-3 : tie.Need-first-refused-requires-3
+first-refused-requires-3 c κs = search needs
+
+returns : tie.Need-returns
+unfolding lay-test sides-test
+returns c =
+    in-turn _ _ _ _ _ (c .first-refused3 .ensures) (c .before .before .before .before .before .before .check-record .ensures)
+    (in-turn _ _ _ _ _ (c .before .first-refused2 .ensures) (c .before .before .before .before .before .check-curve-limits .ensures) (in-turn _ _ _ _ _ (c .before .before .first-refused .ensures) (c .before .before .before .before .check-all-edges .ensures) (c .before .before .before .check-all-breaks .ensures)))
+
+pub check-lay-spec : {M : Type 1} → statement M
+check-lay-spec =
+    tie.close
+    (tie.spec
+    check-record-requires
+    check-curve-limits-requires
+    check-all-edges-requires
+    check-all-breaks-requires
+    first-refused-requires
+    first-refused-requires-2
+    first-refused-requires-3
+    returns)

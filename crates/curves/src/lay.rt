@@ -1,0 +1,218 @@
+// Lay: the grid of one region, given as just one record, from counts, breaks and curves.
+ghost use mathlib.Core.Path.{_≡_};
+ghost use Prim.Native.Nat.{ℕ, _*_, _≤_};
+ghost use lib.ListN.{length, take};
+ghost use lib.Dec.{T, ltb};
+ghost use Rattle.counts.specs.Lists.{all};
+ghost use Rattle.counts.specs.Refusal.{outcome, is-passed, then-test};
+ghost use Rattle.counts.specs.Region.{places, side, side-sum};
+ghost use Rattle.curves.specs.Lists.{splice};
+ghost use Rattle.curves.specs.Coons.{outcome-of};
+ghost use Rattle.curves.specs.Lay.{field, counts-along, seam-of, record-test, edges-test, breaks-test, lay-test, lay};
+use crate::check::first_refused;
+use crate::coons::GridAnswer;
+use crate::coons::check_curve_limits;
+use crate::coons::coons_from_parameters;
+use crate::seam::side_seam;
+use counts::check::check_limits;
+use counts::refusal::Check;
+use counts::refusal::Refusal;
+use counts::region::side;
+
+const RECORD_SIZE: usize = 68;
+
+const MAX_SEAM: usize = 1025;
+
+// 1: just one record, and for n counts.
+fn check_record(region: &[u16], n: usize) -> Check
+    ensures { λ r. ⌜ outcome r ≡ record-test (now (region .entry)) n ⌝ }
+{
+    if region.len() != RECORD_SIZE {
+        return Check::Refused(Refusal::Malformed);
+    }
+    check_limits(region, n)
+}
+
+// 3 along side k: an edge without a count.
+fn check_edges(region: &[u16], n: usize, k: u32) -> Check
+    ensures { λ r. ⌜ outcome r ≡ edges-test (now (region .entry)) n k ⌝ }
+{
+    let edges = side(region, k);
+    let mut i = 0usize;
+    while i < edges.len() {
+        let e = edges[i] as usize;
+        if e >= n {
+            return Check::Refused(Refusal::EdgeOutOfRange(0, k));
+        }
+        i += 1;
+    }
+    Check::Passed
+}
+
+fn check_all_edges(region: &[u16], n: usize) -> Check
+    ensures { λ r. ⌜ outcome r ≡ then-test (edges-test (now (region .entry)) n 0) (then-test (edges-test (now (region .entry)) n 1) (then-test (edges-test (now (region .entry)) n 2) (edges-test (now (region .entry)) n 3))) ⌝ }
+{
+    let of_bottom = check_edges(region, n, 0);
+    let of_right = check_edges(region, n, 1);
+    let of_top = check_edges(region, n, 2);
+    let of_left = check_edges(region, n, 3);
+    let from_top = first_refused(of_top, of_left);
+    let from_right = first_refused(of_right, from_top);
+    first_refused(of_bottom, from_right)
+}
+
+// 27 of side k: one break more than edges.
+fn check_breaks(region: &[u16], breaks: &[f64], k: u32) -> Check
+    ensures { λ r. ⌜ outcome r ≡ breaks-test (now (region .entry)) (now (breaks .entry)) k ⌝ }
+{
+    let edges = side(region, k);
+    if breaks.len() != edges.len() + 1 {
+        return Check::Refused(Refusal::BreaksMismatch(k));
+    }
+    Check::Passed
+}
+
+fn check_all_breaks(
+    region: &[u16],
+    breaks0: &[f64],
+    breaks1: &[f64],
+    breaks2: &[f64],
+    breaks3: &[f64],
+) -> Check
+    ensures { λ r. ⌜ outcome r ≡ then-test (breaks-test (now (region .entry)) (now (breaks0 .entry)) 0) (then-test (breaks-test (now (region .entry)) (now (breaks1 .entry)) 1) (then-test (breaks-test (now (region .entry)) (now (breaks2 .entry)) 2) (breaks-test (now (region .entry)) (now (breaks3 .entry)) 3))) ⌝ }
+{
+    let of_bottom = check_breaks(region, breaks0, 0);
+    let of_right = check_breaks(region, breaks1, 1);
+    let of_top = check_breaks(region, breaks2, 2);
+    let of_left = check_breaks(region, breaks3, 3);
+    let from_top = first_refused(of_top, of_left);
+    let from_right = first_refused(of_right, from_top);
+    first_refused(of_bottom, from_right)
+}
+
+// What lay tests before it makes its seams.
+fn check_lay(
+    region: &[u16],
+    n: usize,
+    breaks0: &[f64],
+    breaks1: &[f64],
+    breaks2: &[f64],
+    breaks3: &[f64],
+    bottom: &[f64],
+    right: &[f64],
+    top: &[f64],
+    left: &[f64],
+) -> Check
+    ensures { λ r. ⌜ outcome r ≡ lay-test (now (region .entry)) n (field (now (breaks0 .entry)) (now (breaks1 .entry)) (now (breaks2 .entry)) (now (breaks3 .entry)) (now (bottom .entry)) (now (right .entry)) (now (top .entry)) (now (left .entry))) ⌝ }
+{
+    let of_record = check_record(region, n);
+    let of_curves = check_curve_limits(bottom, right, top, left);
+    let of_edges = check_all_edges(region, n);
+    let of_breaks = check_all_breaks(region, breaks0, breaks1, breaks2, breaks3);
+    let of_sides = first_refused(of_edges, of_breaks);
+    let from_curves = first_refused(of_curves, of_sides);
+    first_refused(of_record, from_curves)
+}
+
+// Writes the counts of a side's edges, and returns what they add up to.
+fn counts_along(edges: &[u16], counts: &[u32], out: &mut [u32]) -> usize
+    requires { ⌜ length (now edges) ≤ 16 ⌝ }
+    requires { ⌜ length (now edges) ≤ length (now out) ⌝ }
+    requires { ⌜ T (all (λ (e : ℕ). ltb e (length (now counts))) (now edges)) ⌝ }
+    ensures { λ r. ⌜ r ≡ side-sum (now (counts .entry)) (now (edges .entry)) ⌝ }
+    ensures { λ r. ⌜ r ≤ 16 * 4294967295 ⌝ }
+    ensures { λ r. ⌜ now (out .exit) ≡ splice (now (out .entry)) 0 (counts-along (now (counts .entry)) (now (edges .entry))) ⌝ }
+{
+    let mut total = 0usize;
+    let mut i = 0usize;
+    while i < edges.len() {
+        let e = edges[i] as usize;
+        let n = counts[e];
+        out[i] = n;
+        total += n as usize;
+        i += 1;
+    }
+    total
+}
+
+// Writes the seam of side k, unless it is too long, and returns how many values it has.
+fn lay_side(region: &[u16], counts: &[u32], k: u32, breaks: &[f64], out: &mut [f64]) -> usize
+    requires { ⌜ length (side places (now region) k) ≤ 16 ⌝ }
+    requires { ⌜ T (is-passed (edges-test (now region) (length (now counts)) k)) ⌝ }
+    requires { ⌜ T (is-passed (breaks-test (now region) (now breaks) k)) ⌝ }
+    requires { ⌜ 1025 ≤ length (now out) ⌝ }
+    ensures { λ r. ⌜ r ≡ length (seam-of (now (region .entry)) (now (counts .entry)) k (now (breaks .entry))) ⌝ }
+    ensures { λ r. ⌜ (r ≤ 1025 → take r (now (out .exit)) ≡ seam-of (now (region .entry)) (now (counts .entry)) k (now (breaks .entry))) ⌝ }
+{
+    let edges = side(region, k);
+    let mut along = [0u32; 16];
+    let total = counts_along(edges, counts, &mut along);
+    if total >= MAX_SEAM {
+        return total + 1;
+    }
+    let n = edges.len();
+    side_seam(breaks, &along[..n], out)
+}
+
+// The grid of one region: its seams from counts and breaks, then the grid of its curves by them.
+pub fn lay_region(
+    region: &[u16],
+    counts: &[u32],
+    breaks0: &[f64],
+    breaks1: &[f64],
+    breaks2: &[f64],
+    breaks3: &[f64],
+    bottom: &[f64],
+    right: &[f64],
+    top: &[f64],
+    left: &[f64],
+    out: &mut [f64],
+) -> GridAnswer
+    ensures { λ r. ⌜ outcome-of r (now (out .exit)) ≡ lay (now (region .entry)) (now (counts .entry)) (field (now (breaks0 .entry)) (now (breaks1 .entry)) (now (breaks2 .entry)) (now (breaks3 .entry)) (now (bottom .entry)) (now (right .entry)) (now (top .entry)) (now (left .entry))) (now (out .entry)) ⌝ }
+{
+    if let Check::Refused(cause) = check_lay(
+        region,
+        counts.len(),
+        breaks0,
+        breaks1,
+        breaks2,
+        breaks3,
+        bottom,
+        right,
+        top,
+        left,
+    ) {
+        return GridAnswer::Refused(cause);
+    }
+    let mut bottom_u = [0.0f64; 1025];
+    let mut right_v = [0.0f64; 1025];
+    let mut top_u = [0.0f64; 1025];
+    let mut left_v = [0.0f64; 1025];
+    let n0 = lay_side(region, counts, 0, breaks0, &mut bottom_u);
+    let n1 = lay_side(region, counts, 1, breaks1, &mut right_v);
+    let n2 = lay_side(region, counts, 2, breaks2, &mut top_u);
+    let n3 = lay_side(region, counts, 3, breaks3, &mut left_v);
+    if n0 > MAX_SEAM {
+        return GridAnswer::Refused(Refusal::Malformed);
+    }
+    if n2 > MAX_SEAM {
+        return GridAnswer::Refused(Refusal::Malformed);
+    }
+    if n3 > MAX_SEAM {
+        return GridAnswer::Refused(Refusal::Malformed);
+    }
+    if n1 > MAX_SEAM {
+        return GridAnswer::Refused(Refusal::Malformed);
+    }
+    coons_from_parameters(
+        bottom,
+        right,
+        top,
+        left,
+        &bottom_u[..n0],
+        &top_u[..n2],
+        &left_v[..n3],
+        &right_v[..n1],
+        out,
+    )
+}
