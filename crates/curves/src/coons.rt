@@ -22,7 +22,7 @@ use counts::refusal::Refusal;
 // 1,024 points.
 const MAX_CURVE: usize = 2048;
 
-const MAX_SEAM: usize = 1025;
+pub(crate) const MAX_SEAM: usize = 1025;
 
 const MAX_CELLS: u32 = 1024;
 
@@ -118,7 +118,8 @@ fn grid_stage(
     layout: Layout,
     out: &mut [f64],
 ) -> GridAnswer
-    requires { ⌜ Sampled (now bottom) (now lengths0) × Sampled (now right) (now lengths1) × Sampled (now top) (now lengths2) × Sampled (now left) (now lengths3) ⌝ }
+    requires { ⌜ Sampled (now bottom) (now lengths0) × Sampled (now top) (now lengths2) ⌝ }
+    requires { ⌜ Sampled (now right) (now lengths1) × Sampled (now left) (now lengths3) ⌝ }
     requires { ⌜ (b ≡ curve-ends (curve (now bottom) (now lengths0))) × (t ≡ curve-ends (curve (now top) (now lengths2))) ⌝ }
     requires { ⌜ (length (now «bottom_u») ≤ 1025) × (length (now «top_u») ≤ 1025) × (length (now «left_v») ≤ 1025) × (length (now «right_v») ≤ 1025) ⌝ }
     ensures { λ r. ⌜ outcome-of r (now (out .exit)) ≡ grid-stage layout (boundary (curve (now (bottom .entry)) (now (lengths0 .entry))) (curve (now (right .entry)) (now (lengths1 .entry))) (curve (now (top .entry)) (now (lengths2 .entry))) (curve (now (left .entry)) (now (lengths3 .entry)))) (seams (now («bottom_u» .entry)) (now («top_u» .entry)) (now («left_v» .entry)) (now («right_v» .entry))) (now (out .entry)) ⌝ }

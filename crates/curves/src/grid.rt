@@ -12,15 +12,23 @@ ghost use Rattle.curves.specs.Boundary.{boundary, curve-ends};
 ghost use Rattle.curves.specs.Crossing.{logical-intersection};
 ghost use Rattle.curves.specs.Patch.{row-at};
 ghost use Rattle.curves.specs.Columns.{Holds, Table};
-ghost use Rattle.curves.specs.Grid.{mapped, row-of, row-points, row-test};
+ghost use Rattle.curves.specs.Grid.{mapped, row-of, row-points, row-test, seams, n-u, n-v, grid-of, grid-test, needed};
+ghost use Rattle.curves.specs.Coons.{filled};
 use crate::boundary::Ends;
+use crate::check::first_refused;
+use crate::columns::fill_columns;
 use crate::columns::find_column;
 use crate::columns::find_row;
 use crate::crossing::logical_intersection;
+use crate::curve::is_rising;
 use crate::patch::Row;
 use crate::patch::patch_point;
 use crate::patch::row_at;
 use crate::point::PointAnswer;
+use crate::quad::clear;
+use crate::rows::check_row;
+use crate::rows::needed;
+use crate::rows::write_row;
 use crate::scalar::clamp_unit;
 use counts::refusal::Check;
 
@@ -230,5 +238,174 @@ pub(crate) fn fill_row(
         n,
         index,
         row,
+    )
+}
+
+// Whether the lengths of all four curves rise, so that hints hold.
+fn all_rising(lengths0: &[f64], lengths1: &[f64], lengths2: &[f64], lengths3: &[f64]) -> bool
+    ensures { λ r. ⌜ (r ≡ true → Rising (now (lengths0 .entry)) × Rising (now (lengths2 .entry))) ⌝ }
+    ensures { λ r. ⌜ (r ≡ true → Rising (now (lengths1 .entry)) × Rising (now (lengths3 .entry))) ⌝ }
+{
+    let rising0 = is_rising(lengths0);
+    if rising0 {
+        let rising1 = is_rising(lengths1);
+        if rising1 {
+            let rising2 = is_rising(lengths2);
+            if rising2 {
+                return is_rising(lengths3);
+            }
+        }
+    }
+    false
+}
+
+// The rows of a grid from the bottom. All points are tested before any quad is refused, so a quad's refusal waits for the end.
+fn grid_rows(
+    bottom: &[f64],
+    lengths0: &[f64],
+    right: &[f64],
+    lengths1: &[f64],
+    top: &[f64],
+    lengths2: &[f64],
+    left: &[f64],
+    lengths3: &[f64],
+    b: Ends,
+    t: Ends,
+    table: &[f64],
+    steady: bool,
+    hints: &mut [usize; 4],
+    bottom_u: &[f64],
+    top_u: &[f64],
+    left_v: &[f64],
+    right_v: &[f64],
+    layout: Layout,
+    out: &mut [f64],
+) -> Check
+    requires { ⌜ Sampled (now bottom) (now lengths0) × Sampled (now top) (now lengths2) ⌝ }
+    requires { ⌜ Sampled (now right) (now lengths1) × Sampled (now left) (now lengths3) ⌝ }
+    requires { ⌜ (steady ≡ true → Rising (now lengths0) × Rising (now lengths2)) ⌝ }
+    requires { ⌜ (steady ≡ true → Rising (now lengths1) × Rising (now lengths3)) ⌝ }
+    requires { ⌜ Table (curve (now bottom) (now lengths0)) (curve (now top) (now lengths2)) b t (length (now «bottom_u»)) (now table) ⌝ }
+    requires { ⌜ (b ≡ curve-ends (curve (now bottom) (now lengths0))) × (t ≡ curve-ends (curve (now top) (now lengths2))) ⌝ }
+    requires { ⌜ (2 ≤ length (now «bottom_u»)) × (length (now «bottom_u») ≤ 1025) × (length (now «bottom_u») ≡ length (now «top_u»)) × (2 ≤ length (now «left_v»)) × (length (now «left_v») ≤ 1025) × (length (now «left_v») ≡ length (now «right_v»)) ⌝ }
+    requires { ⌜ needed layout (n-u (seams (now «bottom_u») (now «top_u») (now «left_v») (now «right_v»))) (n-v (seams (now «bottom_u») (now «top_u») (now «left_v») (now «right_v»))) ≤ length (now out) ⌝ }
+    ensures { λ r. ⌜ outcome r ≡ grid-test (grid-of (boundary (curve (now (bottom .entry)) (now (lengths0 .entry))) (curve (now (right .entry)) (now (lengths1 .entry))) (curve (now (top .entry)) (now (lengths2 .entry))) (curve (now (left .entry)) (now (lengths3 .entry)))) (seams (now («bottom_u» .entry)) (now («top_u» .entry)) (now («left_v» .entry)) (now («right_v» .entry)))) (n-u (seams (now («bottom_u» .entry)) (now («top_u» .entry)) (now («left_v» .entry)) (now («right_v» .entry)))) (n-v (seams (now («bottom_u» .entry)) (now («top_u» .entry)) (now («left_v» .entry)) (now («right_v» .entry)))) ⌝ }
+    ensures { λ r. ⌜ now (out .exit) ≡ filled layout (grid-of (boundary (curve (now (bottom .entry)) (now (lengths0 .entry))) (curve (now (right .entry)) (now (lengths1 .entry))) (curve (now (top .entry)) (now (lengths2 .entry))) (curve (now (left .entry)) (now (lengths3 .entry)))) (seams (now («bottom_u» .entry)) (now («top_u» .entry)) (now («left_v» .entry)) (now («right_v» .entry)))) (n-u (seams (now («bottom_u» .entry)) (now («top_u» .entry)) (now («left_v» .entry)) (now («right_v» .entry)))) (n-v (seams (now («bottom_u» .entry)) (now («top_u» .entry)) (now («left_v» .entry)) (now («right_v» .entry)))) (now (out .entry)) .out ⌝ }
+{
+    let n = bottom_u.len() - 1;
+    let m = left_v.len() - 1;
+    let width = 2 * (n + 1);
+    let mut low = [0.0; 2050];
+    let mut high = [0.0; 2050];
+    let mut cells = Check::Passed;
+    let mut at = 0usize;
+    let mut j = 0usize;
+    while j <= m {
+        let v0 = left_v[j];
+        let v1 = right_v[j];
+        let points = fill_row(
+            bottom,
+            lengths0,
+            right,
+            lengths1,
+            top,
+            lengths2,
+            left,
+            lengths3,
+            b,
+            t,
+            table,
+            steady,
+            hints,
+            v0,
+            v1,
+            bottom_u,
+            top_u,
+            n,
+            j,
+            &mut high,
+        );
+        if let Check::Refused(cause) = points {
+            let need = needed(layout, n, m);
+            clear(need, out);
+            return Check::Refused(cause);
+        }
+        let below = check_row(&low[..width], &high[..width], n, j);
+        cells = first_refused(cells, below);
+        at = write_row(layout, &low[..width], &high[..width], n, j, at, out);
+        low = high;
+        j += 1;
+    }
+    if let Check::Refused(cause) = cells {
+        let need = needed(layout, n, m);
+        clear(need, out);
+        return Check::Refused(cause);
+    }
+    Check::Passed
+}
+
+// The grid of a patch between the curves of sides 0 to 3, each with its table of lengths, and the ends b and t of bottom and top. A
+// refusal leaves the needed output +0.0.
+pub(crate) fn coons_grid(
+    bottom: &[f64],
+    lengths0: &[f64],
+    right: &[f64],
+    lengths1: &[f64],
+    top: &[f64],
+    lengths2: &[f64],
+    left: &[f64],
+    lengths3: &[f64],
+    b: Ends,
+    t: Ends,
+    bottom_u: &[f64],
+    top_u: &[f64],
+    left_v: &[f64],
+    right_v: &[f64],
+    layout: Layout,
+    out: &mut [f64],
+) -> Check
+    requires { ⌜ Sampled (now bottom) (now lengths0) × Sampled (now top) (now lengths2) ⌝ }
+    requires { ⌜ Sampled (now right) (now lengths1) × Sampled (now left) (now lengths3) ⌝ }
+    requires { ⌜ (b ≡ curve-ends (curve (now bottom) (now lengths0))) × (t ≡ curve-ends (curve (now top) (now lengths2))) ⌝ }
+    requires { ⌜ (2 ≤ length (now «bottom_u»)) × (length (now «bottom_u») ≤ 1025) × (length (now «bottom_u») ≡ length (now «top_u»)) × (2 ≤ length (now «left_v»)) × (length (now «left_v») ≤ 1025) × (length (now «left_v») ≡ length (now «right_v»)) ⌝ }
+    requires { ⌜ needed layout (n-u (seams (now «bottom_u») (now «top_u») (now «left_v») (now «right_v»))) (n-v (seams (now «bottom_u») (now «top_u») (now «left_v») (now «right_v»))) ≤ length (now out) ⌝ }
+    ensures { λ r. ⌜ outcome r ≡ grid-test (grid-of (boundary (curve (now (bottom .entry)) (now (lengths0 .entry))) (curve (now (right .entry)) (now (lengths1 .entry))) (curve (now (top .entry)) (now (lengths2 .entry))) (curve (now (left .entry)) (now (lengths3 .entry)))) (seams (now («bottom_u» .entry)) (now («top_u» .entry)) (now («left_v» .entry)) (now («right_v» .entry)))) (n-u (seams (now («bottom_u» .entry)) (now («top_u» .entry)) (now («left_v» .entry)) (now («right_v» .entry)))) (n-v (seams (now («bottom_u» .entry)) (now («top_u» .entry)) (now («left_v» .entry)) (now («right_v» .entry)))) ⌝ }
+    ensures { λ r. ⌜ now (out .exit) ≡ filled layout (grid-of (boundary (curve (now (bottom .entry)) (now (lengths0 .entry))) (curve (now (right .entry)) (now (lengths1 .entry))) (curve (now (top .entry)) (now (lengths2 .entry))) (curve (now (left .entry)) (now (lengths3 .entry)))) (seams (now («bottom_u» .entry)) (now («top_u» .entry)) (now («left_v» .entry)) (now («right_v» .entry)))) (n-u (seams (now («bottom_u» .entry)) (now («top_u» .entry)) (now («left_v» .entry)) (now («right_v» .entry)))) (n-v (seams (now («bottom_u» .entry)) (now («top_u» .entry)) (now («left_v» .entry)) (now («right_v» .entry)))) (now (out .entry)) .out ⌝ }
+{
+    let steady = all_rising(lengths0, lengths1, lengths2, lengths3);
+    let mut hints = [0usize; 4];
+    let mut table = [0.0; 9225];
+    fill_columns(
+        bottom,
+        lengths0,
+        top,
+        lengths2,
+        b,
+        t,
+        bottom_u,
+        steady,
+        &mut hints,
+        &mut table,
+    );
+    grid_rows(
+        bottom,
+        lengths0,
+        right,
+        lengths1,
+        top,
+        lengths2,
+        left,
+        lengths3,
+        b,
+        t,
+        &table,
+        steady,
+        &mut hints,
+        bottom_u,
+        top_u,
+        left_v,
+        right_v,
+        layout,
+        out,
     )
 }

@@ -13,6 +13,7 @@ use Rattle.counts.specs.declared.refusal.Check.{Check}
 use Rattle.counts.specs.declared.refusal.Check.the-variants.{Passed, Refused}
 use Rattle.counts.specs.declared.refusal.Refusal.{Refusal}
 use Rattle.counts.specs.declared.refusal.Refusal.the-variants as because
+use Rattle.counts.proofs.BoolLaws.{not-T-false}
 use Rattle.counts.proofs.RefusalLaws.{then-left, then-right, not-refused, was-passed, chain-stops, chain-goes-on}
 use Rattle.curves.specs.Lists.{splice}
 use Rattle.curves.specs.Boundary.{BoundaryCurves, boundary-of, checked-curves}
@@ -62,7 +63,7 @@ module _ (layout : Layout) (f : Grid) (n m : ℕ) (out : List Float) where
 
 long-enough : (xs : List Float) (k : ℕ) → T (is-passed (seam-test xs k)) → 2 ≤ length xs
 unfolding seam-test
-long-enough xs k q = ltb-false (length xs) 2 (T-not (not-refused (ltb (length xs) 2) 17 k 0 (then-left (refuse-if (ltb (length xs) 2) (refused 18 k 0)) _ q)))
+long-enough xs k q = let short = ltb (length xs) 2 in ltb-false (length xs) 2 (not-T-false short (T-not short (not-refused short 17 k 0 (then-left (refuse-if short (refused 18 k 0)) _ q))))
 
 equally-long : (xs ys : List Float) (k : ℕ) → T (is-passed (pair-test xs ys k)) → length xs ≡ length ys
 unfolding pair-test
@@ -129,7 +130,7 @@ curves-let-by b r t l p =
 
 pub seam-let-by : (values : List Float) → T (is-passed (seam-limit values)) → length values ≤ 1025
 unfolding seam-limit
-seam-let-by values p = ltb-false 1025 (length values) (T-not (not-refused (ltb 1025 (length values)) 0 0 0 p))
+seam-let-by values p = let long = ltb 1025 (length values) in ltb-false 1025 (length values) (not-T-false long (T-not long (not-refused long 0 0 0 p)))
 
 pub seams-let-by : (b t l r : List Float) → T (is-passed (seams-limit (seams b t l r))) → (length b ≤ 1025) × (length t ≤ 1025) × (length l ≤ 1025) × (length r ≤ 1025)
 unfolding seams-limit
