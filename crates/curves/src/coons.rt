@@ -8,6 +8,8 @@ use crate::check::first_refused;
 use counts::refusal::Check;
 use counts::refusal::Refusal;
 
+pub(crate) const MAX_SEAM: usize = 1025;
+
 // How many quads the grid has, or why there is none.
 pub enum GridAnswer {
     Made(u32),
