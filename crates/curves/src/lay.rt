@@ -11,6 +11,7 @@ ghost use Rattle.curves.specs.Coons.{outcome-of};
 ghost use Rattle.curves.specs.Lay.{field, counts-along, seam-of, record-test, edges-test, breaks-test, lay-test, lay};
 use crate::check::first_refused;
 use crate::coons::GridAnswer;
+use crate::coons::MAX_SEAM;
 use crate::coons::check_curve_limits;
 use crate::coons::coons_from_parameters;
 use crate::seam::side_seam;
@@ -21,9 +22,7 @@ use counts::region::side;
 
 const RECORD_SIZE: usize = 68;
 
-const MAX_SEAM: usize = 1025;
-
-// 1: just one record, and for n counts.
+// 1: not just one record, or a limit exceeded; n is the number of counts.
 fn check_record(region: &[u16], n: usize) -> Check
     ensures { λ r. ⌜ outcome r ≡ record-test (now (region .entry)) n ⌝ }
 {
@@ -114,7 +113,7 @@ fn check_lay(
     first_refused(of_record, from_curves)
 }
 
-// Writes the counts of a side's edges, and returns what they add up to.
+// Writes the counts of a side's edges, and returns what they add up to. 64 bits hold it: a side has at most 16 edges.
 fn counts_along(edges: &[u16], counts: &[u32], out: &mut [u32]) -> usize
     requires { ⌜ length (now edges) ≤ 16 ⌝ }
     requires { ⌜ length (now edges) ≤ length (now out) ⌝ }

@@ -107,19 +107,19 @@ breaks-by region breaks k edges b s e = ap (λ (x : Bool). refuse-if (not x) (re
 
 -- ---- what they let by
 
-yes : (b : Bool) → T (not (not b)) → T b
-yes true t = tt
-yes false t = absurd t
+not-not : (b : Bool) → T (not (not b)) → T b
+not-not true t = tt
+not-not false t = absurd t
 
 pub edges-known : (region : List ℕ) (n k : ℕ) → T (is-passed (edges-test region n k)) → T (all (λ (e : ℕ). ltb e n) (side places region k))
 unfolding edges-test
-edges-known region n k t = let b = all (λ (e : ℕ). ltb e n) (side places region k) in yes b (not-refused (not b) 2 0 k t)
+edges-known region n k t = let b = all (λ (e : ℕ). ltb e n) (side places region k) in not-not b (not-refused (not b) 2 0 k t)
 
 pub breaks-known : (region : List ℕ) (breaks : List Float) (k : ℕ) → T (is-passed (breaks-test region breaks k)) → length breaks ≡ suc (length (side places region k))
 unfolding breaks-test
 breaks-known region breaks k t =
     let b = eqb (length breaks) (suc (length (side places region k))) in
-    eqb→eq (length breaks) (suc (length (side places region k))) (yes b (not-refused (not b) 26 k 0 t))
+    eqb→eq (length breaks) (suc (length (side places region k))) (not-not b (not-refused (not b) 26 k 0 t))
 
 -- a record that is let by has no more than 16 edges on a side
 pub sides-short : (region : List ℕ) (n : ℕ) → T (is-passed (record-test region n))
@@ -127,7 +127,7 @@ pub sides-short : (region : List ℕ) (n : ℕ) → T (is-passed (record-test re
 unfolding record-test
 sides-short region n t =
     let v : Verdict = refuse-if (not (eqb (length region) 68)) (refused 1 0 0) in
-    let e : length region ≡ 68 = eqb→eq (length region) 68 (yes (eqb (length region) 68) (not-refused (not (eqb (length region) 68)) 0 0 0 (then-left v (limits-test places n region) t))) in
+    let e : length region ≡ 68 = eqb→eq (length region) 68 (not-not (eqb (length region) 68) (not-refused (not (eqb (length region) 68)) 0 0 0 (then-left v (limits-test places n region) t))) in
     let w = limits-passed n region (T-true (is-passed (limits-test places n region)) (then-right v (limits-test places n region) t)) .1 in
     let f = side-few region (subst (λ (m : ℕ). T (sides-fit places (m / 68) region)) e (whole-sides region w)) in
     (side-short region 0 (f .0), side-short region 1 (f .1), side-short region 2 (f .2), side-short region 3 (f .3))
