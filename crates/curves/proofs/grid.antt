@@ -1,2 +1,3 @@
 -- The laws of the grid. Assumes nothing.
 pub mod Laws
+pub mod Filled

@@ -18,13 +18,13 @@ use Rattle.counts.proofs.RefusalLaws.{then-left, then-right, not-refused, was-p
 use Rattle.curves.specs.Lists.{splice}
 use Rattle.curves.specs.Boundary.{BoundaryCurves, boundary-of, checked-curves}
 use Rattle.curves.specs.Seam.{uniform-parameters, seam-test, pair-test, seams-test}
-use Rattle.curves.specs.Quad.{zeros}
-use Rattle.curves.specs.Grid.{Seams, seams, n-u, n-v, Grid, grid-of, grid-test, grid-values, needed}
+use Rattle.curves.specs.Grid.{Seams, seams, n-u, n-v, Grid, grid-of, grid-test, needed}
 use Rattle.curves.specs.Coons.{Outcome, outcome-of, refusal, unless, filled, seams-and-room-test, grid-stage, patch, curve-limit, curves-limit, seam-limit, seams-limit, cells-limit, coons-from-parameters, coons-curves}
 use Rattle.curves.specs.declared.grid.Layout.{Layout}
 use Rattle.curves.specs.declared.coons.GridAnswer.the-variants as grid-answer
 use Rattle.curves.proofs.ListLaws.{length-tab, take-splice}
 use Rattle.curves.proofs.TestLaws.{follows, refuses}
+use Rattle.curves.proofs.grid.Filled.{good-grid, no-grid}
 
 -- ---- an answer, by the tests before it
 
@@ -41,22 +41,16 @@ goes-on out rest v e = ap (λ (b : Bool). elim b [
 -- ---- the grid
 
 module _ (layout : Layout) (f : Grid) (n m : ℕ) (out : List Float) where
-  abbrev good-grid : Outcome
-  good-grid = record { verdict = passed; quads = m * n; out = splice out 0 (grid-values layout f n m) }
-
-  abbrev no-grid : Verdict → Outcome
-  no-grid = refusal (splice out 0 (zeros (needed layout n m)))
-
   pub made : (c : Check) (left : List Float) → c ≡ Passed → outcome c ≡ grid-test f n m → left ≡ filled layout f n m out .out → outcome-of (grid-answer.Made (m * n)) left ≡ filled layout f n m out
   unfolding outcome-of filled
   made c left e o h =
-      let q = follows good-grid no-grid c (grid-test f n m) e o in
+      let q = follows (good-grid f n m layout out) (no-grid f n m layout out) c (grid-test f n m) e o in
       ap (λ (l : List Float). record { verdict = passed; quads = m * n; out = l }) (h ∙ ap (λ (x : Outcome). x .out) (sym q)) ∙ q
 
   pub not-made : (c : Check) (cause : Refusal) (left : List Float) → c ≡ Refused cause → outcome c ≡ grid-test f n m → left ≡ filled layout f n m out .out → outcome-of (grid-answer.Refused cause) left ≡ filled layout f n m out
   unfolding outcome-of filled
   not-made c cause left e o h =
-      let q = refuses good-grid no-grid c cause (grid-test f n m) e o in
+      let q = refuses (good-grid f n m layout out) (no-grid f n m layout out) c cause (grid-test f n m) e o in
       ap (λ (l : List Float). refusal l (verdict-of cause)) (h ∙ ap (λ (x : Outcome). x .out) (sym q)) ∙ q
 
 -- ---- the seams and the room
@@ -107,7 +101,7 @@ module _ (layout : Layout) (c : BoundaryCurves) (s : Seams) (out : List Float) w
   pub to-the-grid : (k : Check) (x : Outcome) → k ≡ Passed → outcome k ≡ seams-test (s .bottom) (s .top) (s .left) (s .right) → needed layout (n-u s) (n-v s) ≤ length out
       → x ≡ filled layout (grid-of c s) (n-u s) (n-v s) out → x ≡ grid-stage layout c s out
   unfolding grid-stage
-  to-the-grid k x e o h q = q ∙ goes-on out rest _ (ap is-passed (sym (room-only k false e o (le-ltb (length out) (needed layout (n-u s) (n-v s)) h))))
+  to-the-grid k x e o h q = q ∙ goes-on out rest (seams-and-room-test layout s (length out)) (ap is-passed (sym (room-only k false e o (le-ltb (length out) (needed layout (n-u s) (n-v s)) h))))
 
 -- ---- limits
 

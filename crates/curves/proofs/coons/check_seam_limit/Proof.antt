@@ -1,15 +1,19 @@
+-- `coons::check_seam_limit` meets its contract. Assumes nothing.
+use denote.Ref.{now}
+use lib.ListN.{length}
+use borrow.Author.Tests.{lt-ltb, le-ltb}
+use Rattle.counts.specs.Refusal.{outcome, verdict-of}
+use Rattle.curves.specs.Coons.{seam-limit}
 use Rattle.curves.proofs.coons.check_seam_limit.Statement.{statement}
 use Rattle.curves.proofs.coons.check_seam_limit.Tie as tie
-use Rattle.curves.proofs.coons.check_seam_limit.Reads as reads
-use Rattle.curves.proofs.coons.check_seam_limit.Lts as lts
 
--- src/coons.rt:64:9
 returns : tie.Need-returns
-returns c = ?
+unfolding outcome verdict-of seam-limit
+returns c = simp (lt-ltb 1025 (length (now (c .before .args .values))) (c .if1 .taken))
 
--- src/coons.rt:60:1
 returns-2 : tie.Need-returns-2
-returns-2 c = ?
+unfolding outcome seam-limit
+returns-2 c = simp (le-ltb 1025 (length (now (c .before .args .values))) (c .if1 .left))
 
 pub check-seam-limit-spec : {M : Type 1} → statement M
 check-seam-limit-spec = tie.close (tie.spec returns returns-2)
