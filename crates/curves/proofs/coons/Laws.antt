@@ -3,6 +3,7 @@ use mathlib.Core.Path.{_≡_, refl, sym, ap, subst, _∙_}
 use mathlib.Core.Bool.{Bool, true, false, not, _||_}
 use mathlib.Core.List.{List}
 use Prim.Native.Nat.{ℕ, _+_, _-_, _*_, _%_, _≤_, _<_}
+use native.Mathlib.Nat.{mul-le-mul-right}
 use native.Mathlib.Omega.{arith}
 use lib.ListN.{length, take}
 use lib.Dec.{T, T-not, ltb, eqb, ltb→lt, eqb→eq}
@@ -23,7 +24,7 @@ use Rattle.curves.specs.Coons.{Outcome, outcome-of, refusal, unless, fil
 use Rattle.curves.specs.declared.grid.Layout.{Layout}
 use Rattle.curves.specs.declared.coons.GridAnswer.the-variants as grid-answer
 use Rattle.curves.proofs.ListLaws.{length-tab, take-splice}
-use Rattle.curves.proofs.TestLaws.{follows, refuses}
+use Rattle.curves.proofs.TestLaws.{in-turn, told-passed, both-passed, follows, refuses}
 use Rattle.curves.proofs.grid.Filled.{good-grid, no-grid}
 
 -- ---- an answer, by the tests before it
@@ -78,6 +79,12 @@ seams-passed b t l r p =
     let p3 = then-right (seam-test t 2) v3 (then-right (seam-test b 0) v4 p) in
     let p1 = then-right (seam-test r 1) v1 (then-right (seam-test l 3) v2 p3) in
     (long-enough b 0 (then-left (seam-test b 0) v4 p), equally-long b t 0 (then-left (pair-test b t 0) (pair-test l r 1) p1), long-enough l 3 (then-left (seam-test l 3) v2 p3), equally-long l r 1 (then-right (pair-test b t 0) (pair-test l r 1) p1))
+
+pub seams-fine : (b t l r : List Float) (k : Check) → k ≡ Passed → outcome k ≡ seams-test b t l r → (2 ≤ length b) × (length b ≡ length t) × (2 ≤ length l) × (length l ≡ length r)
+seams-fine b t l r k e o = seams-passed b t l r (subst (λ (v : Verdict). T (is-passed v)) o (told-passed k e))
+
+pub cells-fit : (n m : ℕ) → n ≤ 1024 → m ≤ 1024 → m * n ≤ 1048576
+cells-fit n m h k = let e : m * n ≤ 1024 * n = mul-le-mul-right n k in omega arith
 
 module _ (layout : Layout) (c : BoundaryCurves) (s : Seams) (out : List Float) where
   abbrev rest : Outcome
@@ -144,3 +151,35 @@ length-even n = length-tab _ 0 (n + 1)
 -- the front of the buffer that they were written to
 pub even-part : (n : ℕ) (d xs : List Float) → xs ≡ splice d 0 (uniform-parameters n) → take (n + 1) xs ≡ uniform-parameters n
 even-part n d xs e = ap (take (n + 1)) e ∙ take-splice d (uniform-parameters n) (n + 1) (length-even n)
+
+-- ---- the limits of both, then what follows
+
+-- both tests were passed
+pub limits-passed : (c c0 c1 : Check) (u v : Verdict) → c ≡ Passed → outcome c ≡ then-test (outcome c0) (outcome c1) → outcome c0 ≡ u → outcome c1 ≡ v → T (is-passed u) × T (is-passed v)
+limits-passed c c0 c1 u v e o p q = both-passed (outcome c) u v (in-turn _ _ _ u v o p q) (told-passed c e)
+
+pub past-limits : (out : List Float) (x rest : Outcome) (c c0 c1 : Check) (u v : Verdict) → c ≡ Passed → outcome c ≡ then-test (outcome c0) (outcome c1) → outcome c0 ≡ u → outcome c1 ≡ v → x ≡ rest → x ≡ unless (then-test u v) out rest
+past-limits out x rest c c0 c1 u v e o p q h = h ∙ goes-on out rest (then-test u v) (was-passed e (in-turn _ _ _ u v o p q))
+
+pub at-limits : (out : List Float) (rest : Outcome) (c c0 c1 : Check) (cause : Refusal) (u v : Verdict) → c ≡ Refused cause → outcome c ≡ then-test (outcome c0) (outcome c1) → outcome c0 ≡ u → outcome c1 ≡ v → outcome-of (grid-answer.Refused cause) out ≡ unless (then-test u v) out rest
+at-limits out rest c c0 c1 cause u v e o p q = turned-away out rest c cause (then-test u v) e (in-turn _ _ _ u v o p q)
+
+-- what numbers of cells that are let by are like
+pub cells-let-by : (n m : ℕ) → T (is-passed (cells-limit n m)) → (n ≤ 1024) × (m ≤ 1024)
+unfolding cells-limit
+cells-let-by n m p =
+    let few = refuse-if (ltb 1024 n || ltb 1024 m) (refused 1 0 0) in
+    go (ltb 1024 n) (ltb 1024 m) refl refl (then-left few (refuse-if (eqb n 0 || eqb m 0) (refused 26 0 0)) p)
+  where
+    go : (d e : Bool) → ltb 1024 n ≡ d → ltb 1024 m ≡ e → T (is-passed (refuse-if (d || e) (refused 1 0 0))) → (n ≤ 1024) × (m ≤ 1024)
+    go true e f g q = absurd q
+    go false true f g q = absurd q
+    go false false f g q = (ltb-false 1024 n f, ltb-false 1024 m g)
+
+-- even seams as the code holds them
+pub same-seams : (layout : Layout) (b r t l : List Float) (n m : ℕ) (us vs out : List Float) → us ≡ uniform-parameters n → vs ≡ uniform-parameters m
+    → coons-from-parameters layout b r t l (seams us us vs vs) out
+    ≡ coons-from-parameters layout b r t l (seams (uniform-parameters n) (uniform-parameters n) (uniform-parameters m) (uniform-parameters m)) out
+same-seams layout b r t l n m us vs out e f =
+    ap (λ (x : List Float). coons-from-parameters layout b r t l (seams x x vs vs) out) e
+    ∙ ap (λ (x : List Float). coons-from-parameters layout b r t l (seams (uniform-parameters n) (uniform-parameters n) x x) out) f

@@ -1,88 +1,82 @@
+-- `coons::from_cells` meets its contract. Assumes nothing.
+use mathlib.Core.Path.{_≡_, sym, ap, _∙_}
+use native.Mathlib.Omega.{arith}
+use denote.Ref.{now}
+use lib.ListN.{length}
+use Rattle.curves.specs.Coons.{coons-curves}
+use Rattle.curves.proofs.coons.Laws.{limits-passed, past-limits, at-limits, cells-let-by, length-even, even-part, same-seams}
 use borrow.Author.Needs.{needs}
 use Rattle.curves.proofs.coons.from_cells.Statement.{statement}
 use Rattle.curves.proofs.coons.from_cells.Tie as tie
-use Rattle.curves.proofs.coons.from_cells.Reads as reads
-use Rattle.curves.proofs.coons.from_cells.Lts as lts
-use Rattle.curves.proofs.check.first_refused.Reads as first-refused-reads
-use Rattle.curves.proofs.coons.check_cell_limits.Reads as check-cell-limits-reads
-use Rattle.curves.proofs.coons.check_curve_limits.Reads as check-curve-limits-reads
-use Rattle.curves.proofs.coons.from_even_parameters.Reads as from-even-parameters-reads
-use Rattle.curves.proofs.seam.uniform_parameters.Reads as uniform-parameters-reads
 
--- src/coons.rt:321:9
 check-curve-limits-requires : tie.Need-check-curve-limits-requires
 check-curve-limits-requires c κs = search needs
 
--- src/coons.rt:322:9
 check-cell-limits-requires : tie.Need-check-cell-limits-requires
 check-cell-limits-requires c κs = search needs
 
--- src/coons.rt:323:36
 first-refused-requires : tie.Need-first-refused-requires
 first-refused-requires c κs = search needs
 
--- src/coons.rt:323:27
 enum-known-cause : tie.Need-enum-known-cause
 enum-known-cause c = search needs
 
--- src/coons.rt:324:9
 returns : tie.Need-returns
-returns c = ?
+unfolding coons-curves
+returns c = at-limits (now (c .before .before .before .before .before .before .before .before .before .before .before .args .out)) _ _ _ _ _ _ _ (c .before .cause .given .1) (c .before .before .before .first-refused .ensures) (c .before .before .before .before .before .check-curve-limits .ensures) (c .before .before .before .before .check-cell-limits .ensures)
 
 enum-told : tie.Need-enum-told
 enum-told c = search needs
 
--- src/coons.rt:328:29
 slice-aggregate-uniform-parameters : tie.Need-slice-aggregate-uniform-parameters
 slice-aggregate-uniform-parameters c = search needs
 
--- src/coons.rt:328:5
 uniform-parameters-requires : tie.Need-uniform-parameters-requires
-uniform-parameters-requires c κs = ?
+uniform-parameters-requires c κs =
+    let q = cells-let-by (c .before .before .before .before .before .before .before .before .before .before .before .args .n-u) (c .before .before .before .before .before .before .before .before .before .before .before .args .n-v) ((limits-passed _ _ _ _ _ (c .before .enum-told .given .1) (c .before .before .before .first-refused .ensures) (c .before .before .before .before .before .check-curve-limits .ensures) (c .before .before .before .before .check-cell-limits .ensures)) .1) in
+    omega (arith, q .0)
 
--- src/coons.rt:329:29
 slice-aggregate-uniform-parameters-2 : tie.Need-slice-aggregate-uniform-parameters-2
 slice-aggregate-uniform-parameters-2 c = search needs
 
--- src/coons.rt:329:5
 uniform-parameters-requires-2 : tie.Need-uniform-parameters-requires-2
-uniform-parameters-requires-2 c κs = ?
+uniform-parameters-requires-2 c κs =
+    let q = cells-let-by (c .before .before .before .before .before .before .before .before .before .before .before .before .before .before .args .n-u) (c .before .before .before .before .before .before .before .before .before .before .before .before .before .before .args .n-v) ((limits-passed _ _ _ _ _ (c .before .before .before .before .enum-told .given .1) (c .before .before .before .before .before .before .first-refused .ensures) (c .before .before .before .before .before .before .before .before .check-curve-limits .ensures) (c .before .before .before .before .before .before .before .check-cell-limits .ensures)) .1) in
+    omega (arith, q .1)
 
--- src/coons.rt:330:19
 add-along-u : tie.Need-add-along-u
 add-along-u c = search needs
 
--- src/coons.rt:331:19
 add-along-v : tie.Need-add-along-v
 add-along-v c = search needs
 
--- src/coons.rt:337:9
 array-share-prefix-us : tie.Need-array-share-prefix-us
-array-share-prefix-us c = ?
+array-share-prefix-us c =
+    let q = cells-let-by (c .before .before .before .before .before .before .before .before .before .before .before .before .before .before .before .before .args .n-u) (c .before .before .before .before .before .before .before .before .before .before .before .before .before .before .before .before .args .n-v) ((limits-passed _ _ _ _ _ (c .before .before .before .before .before .before .enum-told .given .1) (c .before .before .before .before .before .before .before .before .first-refused .ensures) (c .before .before .before .before .before .before .before .before .before .before .check-curve-limits .ensures) (c .before .before .before .before .before .before .before .before .before .check-cell-limits .ensures)) .1) in
+    omega (arith, q .0, c .before .before .before .before .uniform-parameters .kept)
 
--- src/coons.rt:337:9
 slice-aggregate-from-even-parameters : tie.Need-slice-aggregate-from-even-parameters
-slice-aggregate-from-even-parameters c = ?
+slice-aggregate-from-even-parameters c = sym (ap length (even-part (c .before .before .before .before .before .before .before .before .before .before .before .before .before .before .before .before .before .args .n-u) _ _ (c .before .before .before .before .before .uniform-parameters .ensures)) ∙ length-even (c .before .before .before .before .before .before .before .before .before .before .before .before .before .before .before .before .before .args .n-u))
 
--- src/coons.rt:338:9
 array-share-prefix-vs : tie.Need-array-share-prefix-vs
-array-share-prefix-vs c = ?
+array-share-prefix-vs c =
+    let q = cells-let-by (c .before .before .before .before .before .before .before .before .before .before .before .before .before .before .before .before .before .args .n-u) (c .before .before .before .before .before .before .before .before .before .before .before .before .before .before .before .before .before .args .n-v) ((limits-passed _ _ _ _ _ (c .before .before .before .before .before .before .before .enum-told .given .1) (c .before .before .before .before .before .before .before .before .before .first-refused .ensures) (c .before .before .before .before .before .before .before .before .before .before .before .check-curve-limits .ensures) (c .before .before .before .before .before .before .before .before .before .before .check-cell-limits .ensures)) .1) in
+    omega (arith, q .1, c .before .before .uniform-parameters2 .kept)
 
--- src/coons.rt:338:9
 slice-aggregate-from-even-parameters-2 : tie.Need-slice-aggregate-from-even-parameters-2
-slice-aggregate-from-even-parameters-2 c = ?
+slice-aggregate-from-even-parameters-2 c = sym (ap length (even-part (c .before .before .before .before .before .before .before .before .before .before .before .before .before .before .before .before .before .before .args .n-v) _ _ (c .before .before .before .uniform-parameters2 .ensures)) ∙ length-even (c .before .before .before .before .before .before .before .before .before .before .before .before .before .before .before .before .before .before .args .n-v))
 
--- src/coons.rt:332:5
 from-even-parameters-requires : tie.Need-from-even-parameters-requires
 from-even-parameters-requires c κs = search needs
 
--- src/coons.rt:309:1
 same-length : tie.Need-same-length
 same-length c = search needs
 
--- src/coons.rt:309:1
 returns-2 : tie.Need-returns-2
-returns-2 c = ?
+unfolding coons-curves
+returns-2 c =
+    let a = c .before .before .before .before .before .before .before .before .before .before .before .before .before .before .before .before .before .before .before .before .before .before .args in
+    past-limits (now (a .out)) _ _ _ _ _ _ _ (c .before .before .before .before .before .before .before .before .before .before .before .before .enum-told .given .1) (c .before .before .before .before .before .before .before .before .before .before .before .before .before .before .first-refused .ensures) (c .before .before .before .before .before .before .before .before .before .before .before .before .before .before .before .before .check-curve-limits .ensures) (c .before .before .before .before .before .before .before .before .before .before .before .before .before .before .before .check-cell-limits .ensures) (c .before .before .from-even-parameters .ensures ∙ same-seams (a .layout) (now (a .bottom)) (now (a .right)) (now (a .top)) (now (a .left)) (c .before .before .before .before .before .before .before .before .before .before .before .before .before .before .before .before .before .before .before .before .before .before .args .n-u) (c .before .before .before .before .before .before .before .before .before .before .before .before .before .before .before .before .before .before .before .before .before .before .args .n-v) _ _ (now (a .out)) (even-part (c .before .before .before .before .before .before .before .before .before .before .before .before .before .before .before .before .before .before .before .before .before .before .args .n-u) _ _ (c .before .before .before .before .before .before .before .before .before .before .uniform-parameters .ensures)) (even-part (c .before .before .before .before .before .before .before .before .before .before .before .before .before .before .before .before .before .before .before .before .before .before .args .n-v) _ _ (c .before .before .before .before .before .before .before .uniform-parameters2 .ensures)))
 
 pub from-cells-spec : {M : Type 1} → statement M
 from-cells-spec =

@@ -1,47 +1,41 @@
+-- `coons::from_parameters` meets its contract. Assumes nothing.
+use denote.Ref.{now}
+use Rattle.curves.specs.Coons.{coons-from-parameters}
+use Rattle.curves.proofs.coons.Laws.{curves-let-by, seams-let-by, limits-passed, past-limits, at-limits}
 use borrow.Author.Needs.{needs}
 use Rattle.curves.proofs.coons.from_parameters.Statement.{statement}
 use Rattle.curves.proofs.coons.from_parameters.Tie as tie
-use Rattle.curves.proofs.coons.from_parameters.Reads as reads
-use Rattle.curves.proofs.coons.from_parameters.Lts as lts
-use Rattle.curves.proofs.check.first_refused.Reads as first-refused-reads
-use Rattle.curves.proofs.coons.check_curve_limits.Reads as check-curve-limits-reads
-use Rattle.curves.proofs.coons.check_seam_limits.Reads as check-seam-limits-reads
-use Rattle.curves.proofs.coons.make_patch.Reads as make-patch-reads
 
--- src/coons.rt:273:9
 check-curve-limits-requires : tie.Need-check-curve-limits-requires
 check-curve-limits-requires c κs = search needs
 
--- src/coons.rt:274:9
 check-seam-limits-requires : tie.Need-check-seam-limits-requires
 check-seam-limits-requires c κs = search needs
 
--- src/coons.rt:275:36
 first-refused-requires : tie.Need-first-refused-requires
 first-refused-requires c κs = search needs
 
--- src/coons.rt:275:27
 enum-known-cause : tie.Need-enum-known-cause
 enum-known-cause c = search needs
 
--- src/coons.rt:276:9
 returns : tie.Need-returns
-returns c = ?
+unfolding coons-from-parameters
+returns c = at-limits (now (c .before .before .before .before .before .before .before .before .before .before .before .before .before .before .before .args .out)) _ _ _ _ _ _ _ (c .before .cause .given .1) (c .before .before .before .first-refused .ensures) (c .before .before .before .before .before .check-curve-limits .ensures) (c .before .before .before .before .check-seam-limits .ensures)
 
 enum-told : tie.Need-enum-told
 enum-told c = search needs
 
--- src/coons.rt:278:5
 make-patch-requires : tie.Need-make-patch-requires
-make-patch-requires c κs = ?
+make-patch-requires c κs =
+    let q = limits-passed _ _ _ _ _ (c .before .enum-told .given .1) (c .before .before .before .first-refused .ensures) (c .before .before .before .before .before .check-curve-limits .ensures) (c .before .before .before .before .check-seam-limits .ensures) in
+    (curves-let-by _ _ _ _ (q .0), seams-let-by _ _ _ _ (q .1))
 
--- src/coons.rt:259:1
 same-length : tie.Need-same-length
 same-length c = search needs
 
--- src/coons.rt:259:1
 returns-2 : tie.Need-returns-2
-returns-2 c = ?
+unfolding coons-from-parameters
+returns-2 c = past-limits (now (c .before .before .before .before .before .before .before .before .before .before .before .before .before .before .before .before .before .before .args .out)) _ _ _ _ _ _ _ (c .before .before .before .before .enum-told .given .1) (c .before .before .before .before .before .before .first-refused .ensures) (c .before .before .before .before .before .before .before .before .check-curve-limits .ensures) (c .before .before .before .before .before .before .before .check-seam-limits .ensures) (c .before .before .make-patch .ensures)
 
 pub from-parameters-spec : {M : Type 1} → statement M
 from-parameters-spec =

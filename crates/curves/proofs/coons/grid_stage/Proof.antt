@@ -1,77 +1,91 @@
+-- `coons::grid_stage` meets its contract. Assumes nothing.
+use mathlib.Core.Path.{_≡_}
+use native.Mathlib.Omega.{arith}
+use Prim.Native.Nat.{_-_, _≤_, _<_}
+use denote.Ref.{now}
+use lib.ListN.{length}
+use Rattle.curves.specs.Curve.{curve}
+use Rattle.curves.specs.Boundary.{boundary}
+use Rattle.curves.specs.Grid.{seams, n-u, n-v, grid-of, needed}
+use Rattle.curves.proofs.coons.Laws.{seams-fine, cells-fit, bad-seams, no-room, to-the-grid, made, not-made}
 use borrow.Author.Needs.{needs}
 use Rattle.curves.proofs.coons.grid_stage.Statement.{statement}
 use Rattle.curves.proofs.coons.grid_stage.Tie as tie
-use Rattle.curves.proofs.coons.grid_stage.Reads as reads
-use Rattle.curves.proofs.coons.grid_stage.Lts as lts
-use Rattle.curves.proofs.grid.coons_grid.Reads as coons-grid-reads
-use Rattle.curves.proofs.rows.needed.Reads as needed-reads
-use Rattle.curves.proofs.seam.check_seams.Reads as check-seams-reads
 
--- src/coons.rt:127:36
 check-seams-requires : tie.Need-check-seams-requires
 check-seams-requires c κs = search needs
 
--- src/coons.rt:127:27
 enum-known-cause : tie.Need-enum-known-cause
 enum-known-cause c = search needs
 
--- src/coons.rt:128:9
 returns : tie.Need-returns
-returns c = ?
+returns c =
+    let a = c .before .before .before .before .before .before .before .before .before .before .before .before .before .before .before .before .before .args in
+    bad-seams (a .layout) (boundary (curve (now (a .bottom)) (now (a .lengths0))) (curve (now (a .right)) (now (a .lengths1))) (curve (now (a .top)) (now (a .lengths2))) (curve (now (a .left)) (now (a .lengths3)))) (seams (now (a .bottom-u)) (now (a .top-u)) (now (a .left-v)) (now (a .right-v))) (now (a .out)) _ _ (c .before .cause .given .1) (c .before .before .before .check-seams .ensures)
 
 enum-told : tie.Need-enum-told
 enum-told c = search needs
 
--- src/coons.rt:130:15
 sub-n-u : tie.Need-sub-n-u
-sub-n-u c = ?
+sub-n-u c =
+    let q = seams-fine _ _ _ _ _ (c .enum-told .given .1) (c .before .before .check-seams .ensures) in
+    omega (arith, q .0)
 
--- src/coons.rt:131:15
 sub-n-v : tie.Need-sub-n-v
-sub-n-v c = ?
+sub-n-v c =
+    let q = seams-fine _ _ _ _ _ (c .enum-told .given .1) (c .before .before .check-seams .ensures) in
+    omega (arith, q .2)
 
--- src/coons.rt:132:20
 needed-requires : tie.Need-needed-requires
 needed-requires c κs = search needs
 
--- src/coons.rt:133:9
 returns-2 : tie.Need-returns-2
-returns-2 c = ?
+returns-2 c =
+    let a = c .before .before .before .before .before .before .before .before .before .before .before .before .before .before .before .before .before .before .args in
+    no-room (a .layout) (boundary (curve (now (a .bottom)) (now (a .lengths0))) (curve (now (a .right)) (now (a .lengths1))) (curve (now (a .top)) (now (a .lengths2))) (curve (now (a .left)) (now (a .lengths3)))) (seams (now (a .bottom-u)) (now (a .top-u)) (now (a .left-v)) (now (a .right-v))) (now (a .out)) _ (c .before .before .enum-told .given .1) (c .before .before .before .before .check-seams .ensures) (omega (arith, c .if1 .taken, c .before .needed .ensures))
 
--- src/coons.rt:135:9
 coons-grid-requires : tie.Need-coons-grid-requires
-coons-grid-requires c κs = ?
+coons-grid-requires c κs =
+    let p = c .before .before .before .before .before .before .before .before .before .before .before .before .before .before .before .before .before .before .before .pre in
+    let q = seams-fine _ _ _ _ _ (c .before .before .before .enum-told .given .1) (c .before .before .before .before .before .check-seams .ensures) in
+    let e = p .1 .1 .1 in
+    (p .0, (p .1 .0, (p .1 .1 .0, ((q .0, e .0, q .1, q .2, e .2, q .3), omega (arith, c .before .if1 .left, c .before .before .needed .ensures)))))
 
--- src/coons.rt:153:27
 enum-known-made : tie.Need-enum-known-made
 enum-known-made c = search needs
 
--- src/coons.rt:154:9
 same-length : tie.Need-same-length
 same-length c = search needs
 
--- src/coons.rt:154:9
 returns-3 : tie.Need-returns-3
-returns-3 c = ?
+returns-3 c =
+    let a = c .before .before .before .before .before .before .before .before .before .before .before .before .before .before .before .before .before .before .before .before .before .before .before .before .before .args in
+    to-the-grid (a .layout) (boundary (curve (now (a .bottom)) (now (a .lengths0))) (curve (now (a .right)) (now (a .lengths1))) (curve (now (a .top)) (now (a .lengths2))) (curve (now (a .left)) (now (a .lengths3)))) (seams (now (a .bottom-u)) (now (a .top-u)) (now (a .left-v)) (now (a .right-v))) (now (a .out)) _ _ (c .before .before .before .before .before .before .before .before .before .enum-told .given .1) (c .before .before .before .before .before .before .before .before .before .before .before .check-seams .ensures) (omega (arith, c .before .before .before .before .before .before .before .if1 .left, c .before .before .before .before .before .before .before .before .needed .ensures)) (not-made (a .layout) (grid-of (boundary (curve (now (a .bottom)) (now (a .lengths0))) (curve (now (a .right)) (now (a .lengths1))) (curve (now (a .top)) (now (a .lengths2))) (curve (now (a .left)) (now (a .lengths3)))) (seams (now (a .bottom-u)) (now (a .top-u)) (now (a .left-v)) (now (a .right-v)))) (n-u (seams (now (a .bottom-u)) (now (a .top-u)) (now (a .left-v)) (now (a .right-v)))) (n-v (seams (now (a .bottom-u)) (now (a .top-u)) (now (a .left-v)) (now (a .right-v)))) (now (a .out)) _ _ _ (c .before .made .given .1) (c .before .before .before .before .before .coons-grid .ensures .0) (c .before .before .before .before .before .coons-grid .ensures .1))
 
 enum-told-2 : tie.Need-enum-told-2
 enum-told-2 c = search needs
 
--- src/coons.rt:156:17
 mul-quads : tie.Need-mul-quads
-mul-quads c = ?
+mul-quads c =
+    let e = c .before .before .before .before .before .before .before .before .before .before .before .before .before .before .before .before .before .before .before .before .before .before .before .before .pre .1 .1 .1 in
+    let a = c .before .before .before .before .before .before .before .before .before .before .before .before .before .before .before .before .before .before .before .before .before .before .before .before .args in
+    let f = cells-fit (length (now (a .bottom-u)) - 1) (length (now (a .left-v)) - 1) (omega (arith, e .0)) (omega (arith, e .2)) in
+    omega (arith, f)
 
--- src/coons.rt:157:22
 cast-t30 : tie.Need-cast-t30
-cast-t30 c = ?
+cast-t30 c =
+    let e = c .before .before .before .before .before .before .before .before .before .before .before .before .before .before .before .before .before .before .before .before .before .before .before .before .pre .1 .1 .1 in
+    let a = c .before .before .before .before .before .before .before .before .before .before .before .before .before .before .before .before .before .before .before .before .before .before .before .before .args in
+    let f = cells-fit (length (now (a .bottom-u)) - 1) (length (now (a .left-v)) - 1) (omega (arith, e .0)) (omega (arith, e .2)) in
+    omega (arith, f)
 
--- src/coons.rt:103:1
 same-length-2 : tie.Need-same-length-2
 same-length-2 c = search needs
 
--- src/coons.rt:103:1
 returns-4 : tie.Need-returns-4
-returns-4 c = ?
+returns-4 c =
+    let a = c .before .before .before .before .before .before .before .before .before .before .before .before .before .before .before .before .before .before .before .before .before .before .before .before .args in
+    to-the-grid (a .layout) (boundary (curve (now (a .bottom)) (now (a .lengths0))) (curve (now (a .right)) (now (a .lengths1))) (curve (now (a .top)) (now (a .lengths2))) (curve (now (a .left)) (now (a .lengths3)))) (seams (now (a .bottom-u)) (now (a .top-u)) (now (a .left-v)) (now (a .right-v))) (now (a .out)) _ _ (c .before .before .before .before .before .before .before .before .enum-told .given .1) (c .before .before .before .before .before .before .before .before .before .before .check-seams .ensures) (omega (arith, c .before .before .before .before .before .before .if1 .left, c .before .before .before .before .before .before .before .needed .ensures)) (made (a .layout) (grid-of (boundary (curve (now (a .bottom)) (now (a .lengths0))) (curve (now (a .right)) (now (a .lengths1))) (curve (now (a .top)) (now (a .lengths2))) (curve (now (a .left)) (now (a .lengths3)))) (seams (now (a .bottom-u)) (now (a .top-u)) (now (a .left-v)) (now (a .right-v)))) (n-u (seams (now (a .bottom-u)) (now (a .top-u)) (now (a .left-v)) (now (a .right-v)))) (n-v (seams (now (a .bottom-u)) (now (a .top-u)) (now (a .left-v)) (now (a .right-v)))) (now (a .out)) _ _ (c .enum-told2 .given .1) (c .before .before .before .before .coons-grid .ensures .0) (c .before .before .before .before .coons-grid .ensures .1))
 
 pub grid-stage-spec : {M : Type 1} → statement M
 grid-stage-spec =
