@@ -18,12 +18,12 @@ use Rattle.counts.specs.Round.{Found, find-move, Solved, solve-by, solve
 use Rattle.counts.specs.Accept.{regions-test}
 use Rattle.counts.specs.Solver.{made, round-of, round-made, round-by}
 use Rattle.counts.specs.Tables.{the-graph, path-of}
-use Rattle.counts.specs.RoundContract.{Buffers, TableSizes, RoundInput, CanApply, MoveFound, found-of, solved-of}
+use Rattle.counts.specs.RoundContract.{Buffers, RoundInput, CanApply, Priced, Ready, FoundIn, found-of, solved-of}
 use Rattle.counts.specs.declared.answer.RoundAnswer.the-variants.{Moved, Idle}
 use Rattle.counts.specs.declared.augment.FoundMove.{FoundMove}
 use Rattle.counts.proofs.Applying.{apply-length}
 use Rattle.counts.proofs.BoolLaws.{by-cases, or-split}
-use Rattle.counts.proofs.Finding.{can-apply, tested-ok}
+use Rattle.counts.proofs.Finding.{by-tables, can-apply, tested-ok}
 use Rattle.counts.proofs.Makes.{makes-apply}
 use Rattle.counts.proofs.Solving.{getD-zeros}
 
@@ -80,7 +80,7 @@ pub record Progress (regions : List ℕ) (ideals : List Float) (limit : ℕ) (st
   pub bounded : (x : ℕ) → getD counts x 0 ≤ moves
   pub as-long : length counts ≡ length start
   pub buffers : Buffers used path best
-  pub sized : TableSizes costs may kept cut known
+  pub ready : Ready regions ideals limit counts costs may kept cut known
 
 module _ (regions : List ℕ) (ideals : List Float) (limit : ℕ) (start counts : List ℕ) (moves : ℕ) (costs : List Float) (may used : List Bool) (path best : List ℕ) (kept : List Float) (cut known : List Bool)
     (t : RoundInput regions start ideals) (s : Progress regions ideals limit start counts moves costs may used path best kept cut known) where
@@ -149,7 +149,7 @@ module _ (regions : List ℕ) (ideals : List Float) (limit : ℕ) (start counts 
 
   pub solve-goes-on : (z : Change) (l : List Change) → round-at regions ideals counts limit .best ≡ z ∷ l → moves ≢ max-moves
       → (after : List ℕ) (costs' : List Float) (may' used' : List Bool) (path' best' : List ℕ) (kept' : List Float) (cut' known' : List Bool)
-      → after ≡ apply-changes (round-at regions ideals counts limit .best) counts → Buffers used' path' best' → TableSizes costs' may' kept' cut' known'
+      → after ≡ apply-changes (round-at regions ideals counts limit .best) counts → Buffers used' path' best' → Ready regions ideals limit after costs' may' kept' cut' known'
       → Progress regions ideals limit start after (moves + 1) costs' may' used' path' best' kept' cut' known'
   solve-goes-on z l e n after costs' may' used' path' best' kept' cut' known' a b z' =
       let h = s .allowed-moves in
@@ -165,11 +165,11 @@ module _ (regions : List ℕ) (ideals : List Float) (limit : ℕ) (start counts 
         bounded = λ x. subst (λ (c : List ℕ). getD c x 0 ≤ moves + 1) (sym a) (more-bounded x);
         as-long = ap length a ∙ apply-length (round-at regions ideals counts limit .best) counts ∙ s .as-long;
         buffers = b;
-        sized = z';
+        ready = z';
       }
 
 pub solving-starts : (regions : List ℕ) (ideals : List Float) (limit : ℕ) (start : List ℕ) (costs : List Float) (may used : List Bool) (path best : List ℕ) (kept : List Float) (cut known : List Bool)
-    → start ≡ replicate (length start) 0 → Buffers used path best → TableSizes costs may kept cut known
+    → start ≡ replicate (length start) 0 → Buffers used path best → Ready regions ideals limit start costs may kept cut known
     → Progress regions ideals limit start start 0 costs may used path best kept cut known
 solving-starts regions ideals limit start costs may used path best kept cut known e b z =
     record {
@@ -178,10 +178,16 @@ solving-starts regions ideals limit start costs may used path best kept cut know
       bounded = λ x. (let q : getD start x 0 ≡ 0 = ap (λ (l : List ℕ). getD l x 0) e ∙ getD-zeros (length start) x in omega arith);
       as-long = refl;
       buffers = b;
-      sized = z;
+      ready = z;
     }
 
 -- ---- the move found, handed to apply_changes
+
+-- what the tables give is the move of the definition
+pub move-is : (regions : List ℕ) (ideals : List Float) (counts : List ℕ) (limit : ℕ) (costs : List Float) (may used : List Bool) (path best : List ℕ) (kept : List Float) (cut known : List Bool) (r : FoundMove) → RoundInput regions counts ideals
+    → Priced (by-ideals ideals) counts costs may → FoundIn regions costs may limit (length counts) used path best kept cut known r → found-of r best ≡ round-at regions ideals counts limit
+move-is regions ideals counts limit costs may used path best kept cut known r t p f =
+    f .answer ∙ by-tables regions (by-ideals ideals) counts limit costs may (tested-ok regions counts ideals t) p
 
 pub move-can : (regions : List ℕ) (ideals : List Float) (counts : List ℕ) (limit : ℕ) (r : FoundMove) (best : List ℕ) (len : ℕ) → RoundInput regions counts ideals
     → found-of r best ≡ round-at regions ideals counts limit → len ≡ r .len → r .len ≤ 257 → length best ≡ 257

@@ -5,6 +5,7 @@ mod check;
 mod cost;
 mod graph;
 mod measure;
+mod parts;
 pub mod refusal;
 mod region;
 mod search;
