@@ -74,9 +74,9 @@ entries-more counts ideals costs may e ideal costs' may' h k i q old y l =
     let b = edge-delta (getD counts e 0) ideal false in
     let t = ltb 0 (getD counts e 0) in
     let here : Entries counts ideals (set-both costs e a b) (set-both may e true t) y =
-        below-more (Entries counts ideals (set-both costs e a b) (set-both may e true t)) e
-        (λ z m. entries-kept counts ideals costs may e a b t z (λ u. omega (arith, u, m)) (old z m))
-        (entries-new counts ideals costs may e a b t h k (ap (λ (x : Float). edge-delta (getD counts e 0) x true) i) (ap (λ (x : Float). edge-delta (getD counts e 0) x false) i) refl) y l in
+    below-more (Entries counts ideals (set-both costs e a b) (set-both may e true t)) e
+    (λ z m. entries-kept counts ideals costs may e a b t z (λ u. omega (arith, u, m)) (old z m))
+    (entries-new counts ideals costs may e a b t h k (ap (λ (x : Float). edge-delta (getD counts e 0) x true) i) (ap (λ (x : Float). edge-delta (getD counts e 0) x false) i) refl) y l in
     subst (λ (m : List Bool). Entries counts ideals costs' m y) (sym (q .1)) (subst (λ (c : List Float). Entries counts ideals c (set-both may e true t) y) (sym (q .0)) here)
 
 -- ---- the energy

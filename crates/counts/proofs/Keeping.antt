@@ -15,16 +15,16 @@ use Rattle.counts.specs.Move.{Change, Joined, same, next, edges, allowed
 use Rattle.counts.specs.Cost.{one, edge-delta, by-ideals, Entries}
 use Rattle.counts.specs.Search.{State, run}
 use Rattle.counts.specs.Round.{Found, find-move}
-use Rattle.counts.specs.Tables.{the-graph, encoded, cost-in, allowed-in, none, Tables}
+use Rattle.counts.specs.Tables.{the-graph, decoded, encoded, path-of, cost-in, allowed-in, none, Tables}
 use Rattle.counts.specs.Parts.{At, Labels, Outside, Refreshed}
-use Rattle.counts.specs.RoundContract.{Priced, Remembered, Result, Ready, search-of, nothing-searched}
+use Rattle.counts.specs.RoundContract.{Priced, CanApply, Remembered, Result, Ready, search-of, nothing-searched}
 use Rattle.counts.proofs.Accepted.{Accepted}
 use Rattle.counts.proofs.Applying.{apply-length, apply-other}
 use Rattle.counts.proofs.BoolLaws.{by-cases, clash, or-split, or-left, or-right, eq→eqb}
 use Rattle.counts.proofs.Find.{Best, none as found-none, some}
 use Rattle.counts.proofs.Finding.{entry-cost, entry-may}
 use Rattle.counts.proofs.ListLaws.{link, holds→incidence, in→member, member→in, edges-in, nothing-in}
-use Rattle.counts.proofs.Places.{two-places, entry-most, no-constraint}
+use Rattle.counts.proofs.Places.{two-places, entry-most, no-constraint, start-in}
 use Rattle.counts.proofs.Rounds.{Finds, found}
 use Rattle.counts.proofs.Same.{run-same}
 
@@ -54,8 +54,8 @@ module _ (regions incident own labels : List ℕ) (n : ℕ) (tables : Tables reg
       (held-at regions incident own tables i x hx) (held-at regions incident own tables i y hy)
 
   joined-label : (l : List ℕ) (x y : ℕ) → Joined (the-graph regions) l x y → getD labels x 0 ≡ getD labels y 0
-  joined-label l x x (same x) = refl
-  joined-label l x z (next x y z j m s) = let k = link (the-graph regions) y z s in joined-label l x y j ∙ same-label (k .0) y z (k .1) (k .2)
+  joined-label l x y (same _) = refl
+  joined-label l x z (next _ y _ j m s) = let k = link (the-graph regions) y z s in joined-label l x y j ∙ same-label (k .0) y z (k .1) (k .2)
 
   -- ---- results outside of one part
 
@@ -169,3 +169,14 @@ module _ (regions incident own labels counts after : List ℕ) (ideals : List Fl
               right = still-right;
             };
       }
+
+-- what the code refreshes is the part of the move's first change
+pub refreshed-by : (labels counts after : List ℕ) (ideals costs costs' : List Float) (may may' known known' : List Bool) (r : List Change) (c d : ℕ) → after ≡ apply-changes r counts → c ≡ d
+    → Refreshed (length after) labels (getD labels (c / 2) 0) after ideals costs may known costs' may' known' → Refreshed (length counts) labels (getD labels (d / 2) 0) after ideals costs may known costs' may' known'
+refreshed-by labels counts after ideals costs costs' may may' known known' r c d made q f =
+    subst (λ (n : ℕ). Refreshed n labels (getD labels (d / 2) 0) after ideals costs may known costs' may' known') (ap length made ∙ apply-length r counts)
+    (subst (λ (k : ℕ). Refreshed (length after) labels (getD labels (k / 2) 0) after ideals costs may known costs' may' known') q f)
+
+-- the edge of the first change
+pub first-below : (counts best : List ℕ) (len : ℕ) → CanApply counts (path-of len best) → 0 < len → length best ≡ 257 → getD best 0 0 / 2 < length counts
+first-below counts best len can h l = can .below (decoded (getD best 0 0)) (start-in best len (omega (arith, h)) (omega (arith, l)))

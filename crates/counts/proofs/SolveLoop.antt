@@ -3,7 +3,7 @@ use mathlib.Core.Logic.{_≢_, _⊎_, inl, inr}
 use mathlib.Core.Path.{_≡_, refl, sym, ap, subst, _∙_}
 use mathlib.Core.Bool.{Bool, true, false, not, cond}
 use mathlib.Core.List.{List, [], _∷_}
-use Prim.Native.Nat.{ℕ, zero, suc, _+_, _-_, _≤_, _<_}
+use Prim.Native.Nat.{ℕ, zero, suc, _+_, _-_, _/_, _≤_, _<_}
 use native.Mathlib.Numerals.{add-one}
 use native.Mathlib.Omega.{arith}
 use lib.ListN.{length, getD, replicate}
@@ -17,14 +17,17 @@ use Rattle.counts.specs.Cost.{CostModel, by-ideals}
 use Rattle.counts.specs.Round.{Found, find-move, Solved, solve-by, solve-from, max-moves}
 use Rattle.counts.specs.Accept.{regions-test}
 use Rattle.counts.specs.Solver.{made, round-of, round-made, round-by}
-use Rattle.counts.specs.Tables.{the-graph, path-of}
+use Rattle.counts.specs.Tables.{the-graph, decoded, path-of, Tables}
+use Rattle.counts.specs.Parts.{Labels, Refreshed}
 use Rattle.counts.specs.RoundContract.{Buffers, RoundInput, CanApply, Priced, Ready, FoundIn, found-of, solved-of}
 use Rattle.counts.specs.declared.answer.RoundAnswer.the-variants.{Moved, Idle}
 use Rattle.counts.specs.declared.augment.FoundMove.{FoundMove}
 use Rattle.counts.proofs.Applying.{apply-length}
 use Rattle.counts.proofs.BoolLaws.{by-cases, or-split}
 use Rattle.counts.proofs.Finding.{by-tables, can-apply, tested-ok}
+use Rattle.counts.proofs.Keeping.{ready-again, one-part}
 use Rattle.counts.proofs.Makes.{makes-apply}
+use Rattle.counts.proofs.Places.{start-in}
 use Rattle.counts.proofs.Solving.{getD-zeros}
 
 -- ---- what was found, by the number of its changes
@@ -205,3 +208,18 @@ pub move-made : (regions : List ℕ) (ideals : List Float) (counts after : List 
     → after ≡ apply-changes (round-at regions ideals counts limit .best) counts
 move-made regions ideals counts after limit r best len is same e =
     e ∙ ap (λ (m : List Change). apply-changes m counts) (best-path r best (round-at regions ideals counts limit) is len same)
+
+-- the tables after the move stand for the counts after it
+pub stays-ready : (regions incident own labels : List ℕ) (ideals : List Float) (limit : ℕ) (start counts after : List ℕ) (costs costs' : List Float) (may may' used : List Bool) (path best : List ℕ) (kept : List Float) (cut known known' : List Bool) (r : FoundMove) (len : ℕ)
+    → Tables regions incident own → Labels (length start) incident labels → length counts ≡ length start → RoundInput regions counts ideals → Priced (by-ideals ideals) counts costs may
+    → FoundIn regions costs may limit (length counts) used path best kept cut known r → len ≡ r .len → len ≢ 0 → after ≡ apply-changes (path-of len best) counts
+    → Refreshed (length counts) labels (getD labels (getD best 0 0 / 2) 0) after ideals costs may known costs' may' known' → Ready regions ideals limit after costs' may' kept cut known'
+stays-ready regions incident own labels ideals limit start counts after costs costs' may may' used path best kept cut known known' r len tables lab long t p f same n now fresh =
+    let ok = tested-ok regions counts ideals t in
+    let l : Labels (length counts) incident labels = λ i x y hi hx hy. lab i x y hi (omega (arith, hx, long)) (omega (arith, hy, long)) in
+    let is = move-is regions ideals counts limit costs may used path best kept cut known r t p f in
+    let b : In (decoded (getD best 0 0)) (path-of len best) = start-in best len (omega (arith, n)) (let q = f .buffers .best-long in omega (arith, q)) in
+    let first : In (decoded (getD best 0 0)) (round-at regions ideals counts limit .best) = subst (λ (m : List Change). In (decoded (getD best 0 0)) m) (best-path r best (round-at regions ideals counts limit) is len same) b in
+    ready-again regions incident own labels counts after ideals limit (getD labels (getD best 0 0 / 2) 0) costs costs' may may' kept cut known known' (round-at regions ideals counts limit .best) tables ok l
+    (record { priced = p; remembered = f .remembered }) (move-made regions ideals counts after limit r best len is same now)
+    (λ z i. one-part regions incident own labels counts ideals limit tables ok l z (decoded (getD best 0 0)) i first) fresh

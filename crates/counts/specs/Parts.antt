@@ -51,7 +51,7 @@ abbrev pub EdgeRefreshed : ℕ → ℕ → ℕ → Float → ℕ → List Float 
 EdgeRefreshed label part s ideal e costs may known costs' may' known' =
     ((label ≢ part) × (costs' ≡ costs) × (may' ≡ may) × (known' ≡ known))
     ⊎ ((label ≡ part) × (costs' ≡ set-both costs e (edge-delta s ideal true) (edge-delta s ideal false)) × (may' ≡ set-both may e true (ltb 0 s))
-        × (known' ≡ set-both known e false false))
+    × (known' ≡ set-both known e false false))
 
 -- the first m edges that have this label have the entries of these counts, and their starts are forgotten; all else is as it was
 pub record Refreshed (m : ℕ) (labels : List ℕ) (part : ℕ) (counts : List ℕ) (ideals : List Float) (costs : List Float) (may known : List Bool) (costs' : List Float) (may' known' : List Bool) : Type 0 where

@@ -11,7 +11,7 @@ forget-requires : tie.Need-forget-requires
 forget-requires c κs = search needs
 
 returns : tie.Need-returns
-returns c = (priced _ _ _ _ (c@fill-costs .ensures .0) (c@fill-costs .ensures .1), c@forget .ensures)
+returns c = (priced _ _ _ _ (c .before .before .fill-costs .ensures .0) (c .before .before .fill-costs .ensures .1), c .forget .ensures)
 
 pub start-tables-spec : {M : Type 1} → statement M
 start-tables-spec = tie.close (tie.spec fill-costs-requires forget-requires returns)

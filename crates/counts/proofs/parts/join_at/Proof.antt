@@ -53,7 +53,7 @@ element-copy-out-to : tie.Need-element-copy-out-to
 element-copy-out-to c = search needs
 
 returns-3 : tie.Need-returns-3
-returns-3 c = 
+returns-3 c =
     let s = c .before .before .before .before .before .before .before .before .before .args in (
       still-same _ (c .before .before .before .before .before .before .before .before .before .pre .1),
       both-marked (s .incident .now) (s .marks .now) (s .e) (c .before .before .before .before .before .before .before .wide .result) (c .before .before .before .before .before .wide2 .result) (c .before .before .before .before .before .before .before .wide .ensures .0) (c .before .before .before .before .before .wide2 .ensures .0) (sym (c .if3 .taken)),
@@ -63,7 +63,7 @@ rename-requires : tie.Need-rename-requires
 rename-requires c κs = search needs
 
 returns-4 : tie.Need-returns-4
-returns-4 c = 
+returns-4 c =
     let s = c .before .before .before .before .before .before .before .before .before .before .before .args in
     let l = s .marks .now in
     let a = c .before .before .before .before .before .before .before .before .before .wide .result in

@@ -28,7 +28,7 @@ loop-less : tie.Need-loop-less Inv-loop μ-loop
 loop-less c = omega arith
 
 loop-again : tie.Need-loop-again Inv-loop μ-loop
-loop-again c = 
+loop-again c =
     (omega arith, c .join-at .ensures .0 .long, join-more (c .before .before .before .before .args .incident .now) (c .before .before .before .loop .marks) (c .join-at .last .1 .1 .0) (c .before .before .before .loop .e) (c .join-at .ensures) (c .before .before .before .loop .inv .2))
 
 returns : tie.Need-returns Inv-loop μ-loop

@@ -12,7 +12,7 @@ use Rattle.counts.proofs.parts.refresh_part.Statement.{statement}
 use Rattle.counts.proofs.parts.refresh_part.Tie as tie
 
 abbrev Inv-loop : tie.InvT-loop
-Inv-loop labels part counts ideals costs₀ allowed₀ known₀ e₀ costs allowed known e = 
+Inv-loop labels part counts ideals costs₀ allowed₀ known₀ e₀ costs allowed known e =
     Refreshed e labels part counts ideals costs₀ allowed₀ known₀ costs allowed known × (e ≤ length counts)
 
 abbrev μ-loop : tie.MeasureT-loop
