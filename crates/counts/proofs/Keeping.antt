@@ -1,27 +1,27 @@
 -- What is kept from round to round: a search never leaves the part of its start, so that a move touches the results of its own part alone.
 -- Assumes nothing.
-use mathlib.Core.Logic.{_≢_, _⊎_, inl, inr}
+use mathlib.Core.Logic.{_≢_, inl, inr}
 use mathlib.Core.Path.{_≡_, refl, sym, ap, subst, _∙_}
 use mathlib.Core.Bool.{Bool, true, false, not, _||_, cond}
 use mathlib.Core.List.{List, [], _∷_}
-use Prim.Native.Nat.{ℕ, _+_, _*_, _/_, _%_, _≤_, _<_}
+use Prim.Native.Nat.{ℕ, _*_, _/_, _%_, _<_}
 use native.Mathlib.Omega.{arith}
 use lib.ListN.{length, getD}
 use lib.Dec.{T, eqb, ltb, not-T, eqb→eq, lt→ltb, ltb→lt, nltb→le}
 use lib.Ieee.{Float, nan}
 use Rattle.counts.specs.Lists.{In, member}
-use Rattle.counts.specs.Region.{Constraint, constraint, holds, incidence}
+use Rattle.counts.specs.Region.{constraint, holds, incidence}
 use Rattle.counts.specs.Move.{Change, Joined, same, next, edges, allowed, apply-changes}
-use Rattle.counts.specs.Cost.{one, edge-delta, by-ideals, Entries}
+use Rattle.counts.specs.Cost.{one, edge-delta, by-ideals}
 use Rattle.counts.specs.Search.{State, run}
 use Rattle.counts.specs.Round.{Found, find-move}
 use Rattle.counts.specs.Tables.{the-graph, decoded, encoded, path-of, cost-in, allowed-in, none, Tables}
 use Rattle.counts.specs.Parts.{At, Labels, Outside, Refreshed}
-use Rattle.counts.specs.RoundContract.{Priced, CanApply, Remembered, Result, Ready, search-of, nothing-searched}
+use Rattle.counts.specs.RoundContract.{CanApply, Result, Ready, search-of, nothing-searched}
 use Rattle.counts.proofs.Accepted.{Accepted}
 use Rattle.counts.proofs.Applying.{apply-length, apply-other}
 use Rattle.counts.proofs.BoolLaws.{by-cases, clash, or-split, or-left, or-right, eq→eqb}
-use Rattle.counts.proofs.Find.{Best, none as found-none, some}
+use Rattle.counts.proofs.Find.{none as found-none, some}
 use Rattle.counts.proofs.Finding.{entry-cost, entry-may}
 use Rattle.counts.proofs.ListLaws.{link, holds→incidence, in→member, member→in, edges-in, nothing-in}
 use Rattle.counts.proofs.Places.{two-places, entry-most, no-constraint, start-in}

@@ -1,21 +1,20 @@
 -- Labels of edges: marks of constraints made one, edge by edge, give every constraint one label; and the edges of one part refreshed.
 -- Assumes nothing.
-use mathlib.Core.Logic.{_≢_, _⊎_, inl, inr}
+use mathlib.Core.Logic.{_≢_, inl, inr}
 use mathlib.Core.Path.{_≡_, refl, sym, ap, subst, _∙_}
 use mathlib.Core.Bool.{Bool, true, false, not, cond}
-use mathlib.Core.List.{List, [], _∷_}
-use Prim.Native.Nat.{ℕ, zero, suc, _+_, _*_, _/_, _≤_, _<_}
+use mathlib.Core.List.{List}
+use Prim.Native.Nat.{ℕ, _+_, _*_, _/_, _≤_, _<_}
 use native.Mathlib.Omega.{arith}
 use borrow.Author.Count.{below-more}
 use lib.ListN.{length, getD, set}
 use lib.Seq.{getD-set-same, getD-set-other}
 use lib.Dec.{T, eqb, ltb, eqb→eq, ltb→lt, nltb→le}
 use lib.Ieee.{Float, nan}
-use Rattle.counts.specs.Move.{allowed}
-use Rattle.counts.specs.Cost.{one, edge-delta, by-ideals, set-both, Entries}
+use Rattle.counts.specs.Cost.{one, edge-delta, set-both, Entries}
 use Rattle.counts.specs.Tables.{none}
 use Rattle.counts.specs.Parts.{At, Labels, renamed, StillEqual, OneMark, Taken, Outside, EdgeRefreshed, Refreshed}
-use Rattle.counts.proofs.BoolLaws.{by-cases, eq→eqb, cond-yes, cond-no, clash}
+use Rattle.counts.proofs.BoolLaws.{by-cases, eq→eqb, cond-yes, clash}
 use Rattle.counts.proofs.CostLaws.{both-plus, both-minus, both-other, length-both, entries-kept, entries-new}
 
 -- ---- marks
