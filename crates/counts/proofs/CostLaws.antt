@@ -1,15 +1,17 @@
 -- Laws of the edge costs and the energy: one turn of the loops that write and add them. Assumes nothing.
-use mathlib.Core.Path.{_≡_, refl, ap, _∙_}
+use mathlib.Core.Logic.{_≢_}
+use mathlib.Core.Path.{_≡_, refl, sym, ap, subst, _∙_}
 use mathlib.Core.Bool.{Bool, true, false}
 use mathlib.Core.List.{List, [], _∷_}
-use Prim.Native.Nat.{ℕ, zero, suc, _+_, _*_, _<_, _≤_}
+use Prim.Native.Nat.{ℕ, zero, suc, _+_, _*_, _/_, _<_, _≤_}
 use native.Mathlib.Omega.{arith}
 use borrow.Author.Count.{below-more}
 use lib.ListN.{length, getD, set, drop, length-set, drop-of-length-le}
 use lib.Seq.{getD-set-same, getD-set-other}
+use lib.Dec.{ltb}
 use lib.Ieee.{Float, nan, add, binary64}
 use Rattle.counts.specs.Move.{allowed}
-use Rattle.counts.specs.Cost.{real, deviation, square, by-ideals, Entries, energy-from}
+use Rattle.counts.specs.Cost.{one, real, deviation, square, edge-delta, by-ideals, set-both, Entries, energy-from}
 use Rattle.counts.proofs.Turns.{drop-at}
 
 -- below the length the default does not matter
@@ -18,48 +20,64 @@ getD-default [] i d d' h = absurd (omega arith)
 getD-default (x ∷ l) zero d d' h = refl
 getD-default (x ∷ l) (suc i) d d' h = getD-default l i d d' (omega arith)
 
--- ---- the entries of one edge more
-two-set-up : {A : Type 0} (l : List A) (e : ℕ) (a b d : A) → e * 2 + 1 < length l → getD (set (set l (e * 2 + 1) a) (e * 2) b) (e * 2 + 1) d ≡ a
-two-set-up l e a b d h =
+-- ---- both entries of an edge set
+
+pub both-plus : {A : Type 0} (l : List A) (e : ℕ) (a b d : A) → e * 2 + 1 < length l → getD (set-both l e a b) (e * 2 + 1) d ≡ a
+both-plus l e a b d h =
     getD-set-other (set l (e * 2 + 1) a) (e * 2) (e * 2 + 1) b d (λ q. omega arith)
     ∙ getD-set-same l (e * 2 + 1) a d h
 
-two-set-down : {A : Type 0} (l : List A) (e : ℕ) (a b d : A) → e * 2 + 1 < length l → getD (set (set l (e * 2 + 1) a) (e * 2) b) (e * 2) d ≡ b
-two-set-down l e a b d h = getD-set-same (set l (e * 2 + 1) a) (e * 2) b d (simp length-set (omega arith))
+pub both-minus : {A : Type 0} (l : List A) (e : ℕ) (a b d : A) → e * 2 + 1 < length l → getD (set-both l e a b) (e * 2) d ≡ b
+both-minus l e a b d h = getD-set-same (set l (e * 2 + 1) a) (e * 2) b d (simp length-set (omega arith))
 
-two-set-other : {A : Type 0} (l : List A) (e k : ℕ) (a b d : A) → k < e * 2 → getD (set (set l (e * 2 + 1) a) (e * 2) b) k d ≡ getD l k d
-two-set-other l e k a b d h =
-    getD-set-other (set l (e * 2 + 1) a) (e * 2) k b d (λ q. omega arith)
-    ∙ getD-set-other l (e * 2 + 1) k a d (λ q. omega arith)
+pub both-other : {A : Type 0} (l : List A) (e k : ℕ) (a b d : A) → k / 2 ≢ e → getD (set-both l e a b) k d ≡ getD l k d
+both-other l e k a b d n =
+    getD-set-other (set l (e * 2 + 1) a) (e * 2) k b d (λ q. n (omega (arith, q)))
+    ∙ getD-set-other l (e * 2 + 1) k a d (λ q. n (omega (arith, q)))
 
-module _ (counts : List ℕ) (ideals costs : List Float) (may : List Bool) (e : ℕ) (a b : Float) (t : Bool) (h : e * 2 + 1 < length costs) (k : e * 2 + 1 < length may) where
+pub length-both : {A : Type 0} (l : List A) (e : ℕ) (a b : A) → length (set-both l e a b) ≡ length l
+length-both l e a b = length-set (set l (e * 2 + 1) a) (e * 2) b ∙ length-set l (e * 2 + 1) a
+
+-- ---- the entries of one edge
+
+module _ (counts : List ℕ) (ideals costs : List Float) (may : List Bool) (e : ℕ) (a b : Float) (t : Bool) where
   abbrev costs-then : List Float
-  costs-then = set (set costs (e * 2 + 1) a) (e * 2) b
+  costs-then = set-both costs e a b
 
   abbrev may-then : List Bool
-  may-then = set (set may (e * 2 + 1) true) (e * 2) t
+  may-then = set-both may e true t
 
-  entries-kept : (y : ℕ) → y < e → Entries counts ideals costs may y → Entries counts ideals costs-then may-then y
-  entries-kept y l old =
+  pub entries-kept : (y : ℕ) → y ≢ e → Entries counts ideals costs may y → Entries counts ideals costs-then may-then y
+  entries-kept y n old =
       record {
-        plus-cost = two-set-other costs e (y * 2 + 1) a b nan (omega arith) ∙ old .plus-cost;
-        minus-cost = two-set-other costs e (y * 2) a b nan (omega arith) ∙ old .minus-cost;
-        plus-may = two-set-other may e (y * 2 + 1) true t false (omega arith) ∙ old .plus-may;
-        minus-may = two-set-other may e (y * 2) true t false (omega arith) ∙ old .minus-may;
+        plus-cost = both-other costs e (y * 2 + 1) a b nan (λ q. n (omega (arith, q))) ∙ old .plus-cost;
+        minus-cost = both-other costs e (y * 2) a b nan (λ q. n (omega (arith, q))) ∙ old .minus-cost;
+        plus-may = both-other may e (y * 2 + 1) true t false (λ q. n (omega (arith, q))) ∙ old .plus-may;
+        minus-may = both-other may e (y * 2) true t false (λ q. n (omega (arith, q))) ∙ old .minus-may;
       }
 
-  entries-new : a ≡ by-ideals ideals counts e true → b ≡ by-ideals ideals counts e false → t ≡ allowed counts e false → Entries counts ideals costs-then may-then e
-  entries-new p q r =
+  pub entries-new : e * 2 + 1 < length costs → e * 2 + 1 < length may → a ≡ by-ideals ideals counts e true → b ≡ by-ideals ideals counts e false → t ≡ allowed counts e false → Entries counts ideals costs-then may-then e
+  entries-new h k p q r =
       record {
-        plus-cost = two-set-up costs e a b nan h ∙ p;
-        minus-cost = two-set-down costs e a b nan h ∙ q;
-        plus-may = two-set-up may e true t false k;
-        minus-may = two-set-down may e true t false k ∙ r;
+        plus-cost = both-plus costs e a b nan h ∙ p;
+        minus-cost = both-minus costs e a b nan h ∙ q;
+        plus-may = both-plus may e true t false k;
+        minus-may = both-minus may e true t false k ∙ r;
       }
 
-  pub entries-more : a ≡ by-ideals ideals counts e true → b ≡ by-ideals ideals counts e false → t ≡ allowed counts e false
-      → ((y : ℕ) → y < e → Entries counts ideals costs may y) → (y : ℕ) → y < e + 1 → Entries counts ideals costs-then may-then y
-  entries-more p q r old = below-more (Entries counts ideals costs-then may-then) e (λ y l. entries-kept y l (old y l)) (entries-new p q r)
+-- a turn of the loop that fills the tables
+pub entries-more : (counts : List ℕ) (ideals costs : List Float) (may : List Bool) (e : ℕ) (ideal : Float) (costs' : List Float) (may' : List Bool) → e * 2 + 1 < length costs → e * 2 + 1 < length may → ideal ≡ getD ideals e one
+    → (costs' ≡ set-both costs e (edge-delta (getD counts e 0) ideal true) (edge-delta (getD counts e 0) ideal false)) × (may' ≡ set-both may e true (ltb 0 (getD counts e 0)))
+    → ((y : ℕ) → y < e → Entries counts ideals costs may y) → (y : ℕ) → y < e + 1 → Entries counts ideals costs' may' y
+entries-more counts ideals costs may e ideal costs' may' h k i q old y l =
+    let a = edge-delta (getD counts e 0) ideal true in
+    let b = edge-delta (getD counts e 0) ideal false in
+    let t = ltb 0 (getD counts e 0) in
+    let here : Entries counts ideals (set-both costs e a b) (set-both may e true t) y =
+    below-more (Entries counts ideals (set-both costs e a b) (set-both may e true t)) e
+    (λ z m. entries-kept counts ideals costs may e a b t z (λ u. omega (arith, u, m)) (old z m))
+    (entries-new counts ideals costs may e a b t h k (ap (λ (x : Float). edge-delta (getD counts e 0) x true) i) (ap (λ (x : Float). edge-delta (getD counts e 0) x false) i) refl) y l in
+    subst (λ (m : List Bool). Entries counts ideals costs' m y) (sym (q .1)) (subst (λ (c : List Float). Entries counts ideals c (set-both may e true t) y) (sym (q .0)) here)
 
 -- ---- the energy
 pub energy-turn : (counts : List ℕ) (ideals : List Float) (d t : Float) (e : ℕ) → e < length counts → e < length ideals

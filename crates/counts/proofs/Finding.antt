@@ -18,7 +18,7 @@ use Rattle.counts.specs.Cost.{CostModel, by-ideals, Entries}
 use Rattle.counts.specs.Search.{State, run}
 use Rattle.counts.specs.Round.{Found, weigh, starts, nothing-found, try-start, find-augmentation, find-move}
 use Rattle.counts.specs.Tables.{the-graph, cost-in, allowed-in}
-use Rattle.counts.specs.RoundContract.{Priced, CanApply, RoundInput, TableSizes, Remembered}
+use Rattle.counts.specs.RoundContract.{Priced, CanApply, RoundInput, Remembered}
 use Rattle.counts.proofs.Accepted.{Accepted, regions-ok}
 use Rattle.counts.proofs.Find.{Best, none, some, starts-below}
 use Rattle.counts.proofs.ListLaws.{every-in}
@@ -27,23 +27,23 @@ use Rattle.counts.proofs.Same.{run-same}
 
 -- ---- tables filled edge by edge
 
+pub entry-cost : (counts : List ℕ) (ideals costs : List Float) (may : List Bool) (y : ℕ) (s : Bool) → Entries counts ideals costs may y → cost-in costs y s ≡ by-ideals ideals counts y s
+entry-cost counts ideals costs may y true r = r .plus-cost
+entry-cost counts ideals costs may y false r = ap (λ (k : ℕ). getD costs k nan) (add-zero (y * 2)) ∙ r .minus-cost
+
+pub entry-may : (counts : List ℕ) (ideals costs : List Float) (may : List Bool) (y : ℕ) (s : Bool) → Entries counts ideals costs may y → allowed-in may y s ≡ allowed counts y s
+entry-may counts ideals costs may y true r = r .plus-may
+entry-may counts ideals costs may y false r = ap (λ (k : ℕ). getD may k false) (add-zero (y * 2)) ∙ r .minus-may
+
 pub priced : (counts : List ℕ) (ideals costs : List Float) (may : List Bool) → ((y : ℕ) → y < length counts → Entries counts ideals costs may y)
     → (length costs ≡ 512) × (length may ≡ 512) → Priced (by-ideals ideals) counts costs may
 priced counts ideals costs may e l =
     record {
       costs-long = l .0;
       may-long = l .1;
-      cost-is = λ y s h. cost-at y s (e y h);
-      may-is = λ y s h. may-at y s (e y h);
+      cost-is = λ y s h. entry-cost counts ideals costs may y s (e y h);
+      may-is = λ y s h. entry-may counts ideals costs may y s (e y h);
     }
-  where
-    cost-at : (y : ℕ) (s : Bool) → Entries counts ideals costs may y → cost-in costs y s ≡ by-ideals ideals counts y s
-    cost-at y true r = r .plus-cost
-    cost-at y false r = ap (λ (k : ℕ). getD costs k nan) (add-zero (y * 2)) ∙ r .minus-cost
-
-    may-at : (y : ℕ) (s : Bool) → Entries counts ideals costs may y → allowed-in may y s ≡ allowed counts y s
-    may-at y true r = r .plus-may
-    may-at y false r = ap (λ (k : ℕ). getD may k false) (add-zero (y * 2)) ∙ r .minus-may
 
 -- ---- costs that agree below n find the same
 
@@ -101,14 +101,14 @@ not-known zero c e = let z : T false = subst T (sym e) tt in z
 not-known (suc n) zero e = let z : T false = subst T (sym e) tt in z
 not-known (suc n) (suc c) e = not-known n c e
 
-pub nothing-known : (regions : List ℕ) (costs : List Float) (may : List Bool) (limit : ℕ) (costs' : List Float) (may' : List Bool) (kept : List Float) (cut known known' : List Bool) → TableSizes costs' may' kept cut known → known' ≡ replicate 512 false
-    → Remembered regions costs may limit kept cut known'
-nothing-known regions costs may limit costs' may' kept cut known known' s e =
+pub nothing-known : (regions : List ℕ) (costs : List Float) (may : List Bool) (limit : ℕ) (kept : List Float) (cut known : List Bool) → length kept ≡ 512 → length cut ≡ 512 → known ≡ replicate 512 false
+    → Remembered regions costs may limit kept cut known
+nothing-known regions costs may limit kept cut known k t e =
     record {
-      kept-long = s .kept-long;
-      cut-long = s .cut-long;
+      kept-long = k;
+      cut-long = t;
       known-long = ap length e ∙ length-replicate 512 false;
-      right = λ c h k. absurd (not-known 512 c (sym (ap (λ (l : List Bool). getD l c false) e) ∙ k));
+      right = λ c h q. absurd (not-known 512 c (sym (ap (λ (l : List Bool). getD l c false) e) ∙ q));
     }
 
 pub tested-ok : (regions counts : List ℕ) (ideals : List Float) → RoundInput regions counts ideals → Accepted (length counts) (the-graph regions)

@@ -13,9 +13,11 @@ pub mod Entry
 pub mod Find
 pub mod Finding
 pub mod FloatLaws
+pub mod Keeping
 pub mod ListLaws
 pub mod Makes
 pub mod Marks
+pub mod PartLaws
 pub mod Places
 pub mod Placing
 pub mod RefusalLaws

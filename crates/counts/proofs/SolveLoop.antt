@@ -3,7 +3,7 @@ use mathlib.Core.Logic.{_≢_, _⊎_, inl, inr}
 use mathlib.Core.Path.{_≡_, refl, sym, ap, subst, _∙_}
 use mathlib.Core.Bool.{Bool, true, false, not, cond}
 use mathlib.Core.List.{List, [], _∷_}
-use Prim.Native.Nat.{ℕ, zero, suc, _+_, _-_, _≤_, _<_}
+use Prim.Native.Nat.{ℕ, zero, suc, _+_, _-_, _/_, _≤_, _<_}
 use native.Mathlib.Numerals.{add-one}
 use native.Mathlib.Omega.{arith}
 use lib.ListN.{length, getD, replicate}
@@ -17,14 +17,17 @@ use Rattle.counts.specs.Cost.{CostModel, by-ideals}
 use Rattle.counts.specs.Round.{Found, find-move, Solved, solve-by, solve-from, max-moves}
 use Rattle.counts.specs.Accept.{regions-test}
 use Rattle.counts.specs.Solver.{made, round-of, round-made, round-by}
-use Rattle.counts.specs.Tables.{the-graph, path-of}
-use Rattle.counts.specs.RoundContract.{Buffers, TableSizes, RoundInput, CanApply, MoveFound, found-of, solved-of}
+use Rattle.counts.specs.Tables.{the-graph, decoded, path-of, Tables}
+use Rattle.counts.specs.Parts.{Labels, Refreshed}
+use Rattle.counts.specs.RoundContract.{Buffers, RoundInput, CanApply, Priced, Ready, FoundIn, found-of, solved-of}
 use Rattle.counts.specs.declared.answer.RoundAnswer.the-variants.{Moved, Idle}
 use Rattle.counts.specs.declared.augment.FoundMove.{FoundMove}
 use Rattle.counts.proofs.Applying.{apply-length}
 use Rattle.counts.proofs.BoolLaws.{by-cases, or-split}
-use Rattle.counts.proofs.Finding.{can-apply, tested-ok}
+use Rattle.counts.proofs.Finding.{by-tables, can-apply, tested-ok}
+use Rattle.counts.proofs.Keeping.{ready-again, one-part}
 use Rattle.counts.proofs.Makes.{makes-apply}
+use Rattle.counts.proofs.Places.{start-in}
 use Rattle.counts.proofs.Solving.{getD-zeros}
 
 -- ---- what was found, by the number of its changes
@@ -80,7 +83,7 @@ pub record Progress (regions : List ℕ) (ideals : List Float) (limit : ℕ) (st
   pub bounded : (x : ℕ) → getD counts x 0 ≤ moves
   pub as-long : length counts ≡ length start
   pub buffers : Buffers used path best
-  pub sized : TableSizes costs may kept cut known
+  pub ready : Ready regions ideals limit counts costs may kept cut known
 
 module _ (regions : List ℕ) (ideals : List Float) (limit : ℕ) (start counts : List ℕ) (moves : ℕ) (costs : List Float) (may used : List Bool) (path best : List ℕ) (kept : List Float) (cut known : List Bool)
     (t : RoundInput regions start ideals) (s : Progress regions ideals limit start counts moves costs may used path best kept cut known) where
@@ -149,7 +152,7 @@ module _ (regions : List ℕ) (ideals : List Float) (limit : ℕ) (start counts 
 
   pub solve-goes-on : (z : Change) (l : List Change) → round-at regions ideals counts limit .best ≡ z ∷ l → moves ≢ max-moves
       → (after : List ℕ) (costs' : List Float) (may' used' : List Bool) (path' best' : List ℕ) (kept' : List Float) (cut' known' : List Bool)
-      → after ≡ apply-changes (round-at regions ideals counts limit .best) counts → Buffers used' path' best' → TableSizes costs' may' kept' cut' known'
+      → after ≡ apply-changes (round-at regions ideals counts limit .best) counts → Buffers used' path' best' → Ready regions ideals limit after costs' may' kept' cut' known'
       → Progress regions ideals limit start after (moves + 1) costs' may' used' path' best' kept' cut' known'
   solve-goes-on z l e n after costs' may' used' path' best' kept' cut' known' a b z' =
       let h = s .allowed-moves in
@@ -165,11 +168,11 @@ module _ (regions : List ℕ) (ideals : List Float) (limit : ℕ) (start counts 
         bounded = λ x. subst (λ (c : List ℕ). getD c x 0 ≤ moves + 1) (sym a) (more-bounded x);
         as-long = ap length a ∙ apply-length (round-at regions ideals counts limit .best) counts ∙ s .as-long;
         buffers = b;
-        sized = z';
+        ready = z';
       }
 
 pub solving-starts : (regions : List ℕ) (ideals : List Float) (limit : ℕ) (start : List ℕ) (costs : List Float) (may used : List Bool) (path best : List ℕ) (kept : List Float) (cut known : List Bool)
-    → start ≡ replicate (length start) 0 → Buffers used path best → TableSizes costs may kept cut known
+    → start ≡ replicate (length start) 0 → Buffers used path best → Ready regions ideals limit start costs may kept cut known
     → Progress regions ideals limit start start 0 costs may used path best kept cut known
 solving-starts regions ideals limit start costs may used path best kept cut known e b z =
     record {
@@ -178,10 +181,16 @@ solving-starts regions ideals limit start costs may used path best kept cut know
       bounded = λ x. (let q : getD start x 0 ≡ 0 = ap (λ (l : List ℕ). getD l x 0) e ∙ getD-zeros (length start) x in omega arith);
       as-long = refl;
       buffers = b;
-      sized = z;
+      ready = z;
     }
 
 -- ---- the move found, handed to apply_changes
+
+-- what the tables give is the move of the definition
+pub move-is : (regions : List ℕ) (ideals : List Float) (counts : List ℕ) (limit : ℕ) (costs : List Float) (may used : List Bool) (path best : List ℕ) (kept : List Float) (cut known : List Bool) (r : FoundMove) → RoundInput regions counts ideals
+    → Priced (by-ideals ideals) counts costs may → FoundIn regions costs may limit (length counts) used path best kept cut known r → found-of r best ≡ round-at regions ideals counts limit
+move-is regions ideals counts limit costs may used path best kept cut known r t p f =
+    f .answer ∙ by-tables regions (by-ideals ideals) counts limit costs may (tested-ok regions counts ideals t) p
 
 pub move-can : (regions : List ℕ) (ideals : List Float) (counts : List ℕ) (limit : ℕ) (r : FoundMove) (best : List ℕ) (len : ℕ) → RoundInput regions counts ideals
     → found-of r best ≡ round-at regions ideals counts limit → len ≡ r .len → r .len ≤ 257 → length best ≡ 257
@@ -199,3 +208,18 @@ pub move-made : (regions : List ℕ) (ideals : List Float) (counts after : List 
     → after ≡ apply-changes (round-at regions ideals counts limit .best) counts
 move-made regions ideals counts after limit r best len is same e =
     e ∙ ap (λ (m : List Change). apply-changes m counts) (best-path r best (round-at regions ideals counts limit) is len same)
+
+-- the tables after the move stand for the counts after it
+pub stays-ready : (regions incident own labels : List ℕ) (ideals : List Float) (limit : ℕ) (start counts after : List ℕ) (costs costs' : List Float) (may may' used : List Bool) (path best : List ℕ) (kept : List Float) (cut known known' : List Bool) (r : FoundMove) (len : ℕ)
+    → Tables regions incident own → Labels (length start) incident labels → length counts ≡ length start → RoundInput regions counts ideals → Priced (by-ideals ideals) counts costs may
+    → FoundIn regions costs may limit (length counts) used path best kept cut known r → len ≡ r .len → len ≢ 0 → after ≡ apply-changes (path-of len best) counts
+    → Refreshed (length counts) labels (getD labels (getD best 0 0 / 2) 0) after ideals costs may known costs' may' known' → Ready regions ideals limit after costs' may' kept cut known'
+stays-ready regions incident own labels ideals limit start counts after costs costs' may may' used path best kept cut known known' r len tables lab long t p f same n now fresh =
+    let ok = tested-ok regions counts ideals t in
+    let l : Labels (length counts) incident labels = λ i x y hi hx hy. lab i x y hi (omega (arith, hx, long)) (omega (arith, hy, long)) in
+    let is = move-is regions ideals counts limit costs may used path best kept cut known r t p f in
+    let b : In (decoded (getD best 0 0)) (path-of len best) = start-in best len (omega (arith, n)) (let q = f .buffers .best-long in omega (arith, q)) in
+    let first : In (decoded (getD best 0 0)) (round-at regions ideals counts limit .best) = subst (λ (m : List Change). In (decoded (getD best 0 0)) m) (best-path r best (round-at regions ideals counts limit) is len same) b in
+    ready-again regions incident own labels counts after ideals limit (getD labels (getD best 0 0 / 2) 0) costs costs' may may' kept cut known known' (round-at regions ideals counts limit .best) tables ok l
+    (record { priced = p; remembered = f .remembered }) (move-made regions ideals counts after limit r best len is same now)
+    (λ z i. one-part regions incident own labels counts ideals limit tables ok l z (decoded (getD best 0 0)) i first) fresh

@@ -3,7 +3,7 @@ use mathlib.Core.Path.{_≡_}
 use mathlib.Core.Bool.{Bool, true, false}
 use mathlib.Core.List.{List, [], _∷_}
 use Prim.Native.Nat.{ℕ, _+_, _*_}
-use lib.ListN.{getD}
+use lib.ListN.{getD, set}
 use lib.IntN.{pos}
 use lib.Ieee.{Float, nan, add, sub, mul, div, neg, ofBits, ofInt, binary64}
 use Rattle.counts.specs.Move.{EdgeCost, allowed}
@@ -51,6 +51,10 @@ unfolding add square deviation
 energy-from t [] ideals = t
 energy-from t (s ∷ counts) [] = t
 energy-from t (s ∷ counts) (ideal ∷ ideals) = energy-from (add binary64 t (square (deviation (real s) ideal))) counts ideals
+
+-- the two entries of edge e, for +1 and for -1, at 2 * e + 1 and at 2 * e
+abbrev pub set-both : {A : Type 0} → List A → ℕ → A → A → List A
+set-both l e plus minus = set (set l (e * 2 + 1) plus) (e * 2) minus
 
 -- the entries of edge x in a round's tables: what +1 and -1 cost, and whether each is allowed, at 2 * x + 1 and at 2 * x
 pub record Entries (counts : List ℕ) (ideals : List Float) (costs : List Float) (may : List Bool) (x : ℕ) : Type 0 where

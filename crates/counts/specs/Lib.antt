@@ -5,6 +5,7 @@ pub mod Demand
 pub mod Graph
 pub mod Lists
 pub mod Move
+pub mod Parts
 pub mod Refusal
 pub mod Region
 pub mod Round

@@ -10,7 +10,7 @@ use Rattle.counts.specs.Lists.{In, Distinct}
 use Rattle.counts.specs.Move.{Change, edges, allowed}
 use Rattle.counts.specs.Cost.{CostModel, by-ideals}
 use Rattle.counts.specs.Search.{State, run}
-use Rattle.counts.specs.Round.{Found, improves, find-augmentation, find-move, Solved}
+use Rattle.counts.specs.Round.{Found, improves, find-augmentation, Solved}
 use Rattle.counts.specs.Refusal.{is-passed}
 use Rattle.counts.specs.Region.{places}
 use Rattle.counts.specs.Accept.{regions-test}
@@ -137,11 +137,10 @@ pub record TableSizes (costs : List Float) (may : List Bool) (kept : List Float)
   pub cut-long : length cut ≡ 512
   pub known-long : length known ≡ 512
 
-pub record MoveFound (regions : List ℕ) (ideals : List Float) (counts : List ℕ) (limit : ℕ) (costs : List Float) (may : List Bool) (used : List Bool) (path best : List ℕ) (kept : List Float) (cut known : List Bool) (r : FoundMove) : Type 0 where
-  pub answer : found-of r best ≡ find-move (the-graph regions) (by-ideals ideals) counts limit
-  pub len-fits : r .len ≤ 257
-  pub buffers : Buffers used path best
-  pub sized : TableSizes costs may kept cut known
+-- tables that stand for these counts: what changes cost, and what searches gave
+pub record Ready (regions : List ℕ) (ideals : List Float) (limit : ℕ) (counts : List ℕ) (costs : List Float) (may : List Bool) (kept : List Float) (cut known : List Bool) : Type 0 where
+  pub priced : Priced (by-ideals ideals) counts costs may
+  pub remembered : Remembered regions costs may limit kept cut known
 
 -- a solve's moves, with the counts that it leaves
 abbrev pub solved-of : MovesMade → List ℕ → Solved

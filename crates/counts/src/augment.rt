@@ -10,10 +10,11 @@ ghost use Prim.Native.Nat.{ℕ, _+_, _*_, _/_, _%_, _≤_, _<_};
 ghost use lib.Dec.{T, eqb, ltb};
 ghost use lib.Ieee.{inf};
 ghost use lib.ListN.{length, getD, replicate};
+ghost use Rattle.counts.specs.Cost.{by-ideals};
 ghost use Rattle.counts.specs.Move.{changed, apply-changes as changed-counts};
 ghost use Rattle.counts.specs.Round.{improves as improves-on, find-augmentation as found-by};
 ghost use Rattle.counts.specs.Tables.{Tables, the-graph, cost-in, allowed-in, path-of};
-ghost use Rattle.counts.specs.RoundContract.{Buffers, SearchedFrom, Remembered, Recalled, AllKnown, FoundIn, RoundInput, TableSizes, MoveFound, CanApply, start-at, weighed as weighed-of, chosen, found-of};
+ghost use Rattle.counts.specs.RoundContract.{Buffers, SearchedFrom, Remembered, Recalled, AllKnown, FoundIn, Priced, CanApply, start-at, weighed as weighed-of, chosen, found-of};
 
 const NO_START: usize = 512;
 
@@ -219,13 +220,6 @@ fn choose(kept: &[f64; 512], cut: &[bool; 512], n: usize) -> Choice
     out
 }
 
-// Nothing is known any more.
-fn forget(known: &mut [bool; 512])
-    ensures { λ _. ⌜ now (known .exit) ≡ replicate 512 false ⌝ }
-{
-    *known = [false; 512];
-}
-
 // The best move over all starts of n edges, its changes in `best`. The winner is searched once more, for its changes.
 pub(crate) fn find_augmentation(
     regions: &[u16],
@@ -316,42 +310,24 @@ pub(crate) fn apply_changes(counts: &mut [u32], best: &[u16; 257], len: usize)
     }
 }
 
-// The best move on these counts, its changes in `best`. Edge costs are worked out once, here, and not in the search.
-pub(crate) fn find_move(
-    regions: &[u16],
-    incident: &[u16; 512],
-    own: &[u16; 512],
-    ideals: &[f64],
+// Nothing is known any more.
+fn forget(known: &mut [bool; 512])
+    ensures { λ _. ⌜ now (known .exit) ≡ replicate 512 false ⌝ }
+{
+    *known = [false; 512];
+}
+
+// The costs of every edge, and nothing known.
+pub(crate) fn start_tables(
     counts: &[u32],
-    limit: u32,
+    ideals: &[f64],
     costs: &mut [f64; 512],
     allowed: &mut [bool; 512],
-    used: &mut [bool; 257],
-    path: &mut [u16; 257],
-    best: &mut [u16; 257],
-    kept: &mut [f64; 512],
-    cut: &mut [bool; 512],
     known: &mut [bool; 512],
-) -> FoundMove
-    requires { ⌜ Tables (now regions) (now incident) (now own) × RoundInput (now regions) (now counts) (now ideals) ⌝ }
-    requires { ⌜ Buffers (now used) (now path) (now best) × TableSizes (now costs) (now allowed) (now kept) (now cut) (now known) ⌝ }
-    ensures { λ r. ⌜ MoveFound (now (regions .entry)) (now (ideals .entry)) (now (counts .entry)) limit (now (costs .exit)) (now (allowed .exit)) (now (used .exit)) (now (path .exit)) (now (best .exit)) (now (kept .exit)) (now (cut .exit)) (now (known .exit)) r ⌝ }
+)
+    requires { ⌜ (length (now counts) ≤ 256) × (length (now ideals) ≡ length (now counts)) × (length (now costs) ≡ 512) × (length (now allowed) ≡ 512) ⌝ }
+    ensures { λ _. ⌜ Priced (by-ideals (now (ideals .entry))) (now (counts .entry)) (now (costs .exit)) (now (allowed .exit)) × (now (known .exit) ≡ replicate 512 false) ⌝ }
 {
     fill_costs(counts, ideals, costs, allowed);
     forget(known);
-    find_augmentation(
-        regions,
-        incident,
-        own,
-        costs,
-        allowed,
-        limit,
-        used,
-        path,
-        best,
-        kept,
-        cut,
-        known,
-        counts.len(),
-    )
 }

@@ -1,10 +1,12 @@
 // What a change of one edge costs, for every edge of a round, and the energy that the costs are the changes of.
 ghost use mathlib.Core.Path.{_≡_};
+ghost use mathlib.Core.Bool.{true, false};
 ghost use Prim.Native.Nat.{ℕ, _≤_, _<_};
 ghost use lib.ListN.{length};
+ghost use lib.Dec.{ltb};
 ghost use lib.Ieee.{ofBits, binary64};
 ghost use Rattle.counts.specs.Move.{allowed};
-ghost use Rattle.counts.specs.Cost.{deviation, square, step, edge-delta, Entries, energy-from};
+ghost use Rattle.counts.specs.Cost.{deviation, square, step, edge-delta, set-both, Entries, energy-from};
 
 // s/ideal - 1
 fn deviation(s: f64, ideal: f64) -> f64
@@ -39,7 +41,26 @@ pub(crate) fn edge_delta(s: u32, ideal: f64, plus: bool) -> f64
     square(deviation(to, ideal)) - square(deviation(from, ideal))
 }
 
-// For each edge e, entries 2e + 1 are those of +1 and 2e those of -1: what the change costs, and whether it is allowed.
+// The entries of edge e, whose count is s: what +1 and -1 cost, and whether each is allowed, at 2e + 1 and at 2e.
+pub(crate) fn set_costs(
+    s: u32,
+    ideal: f64,
+    e: usize,
+    costs: &mut [f64; 512],
+    allowed: &mut [bool; 512],
+)
+    requires { ⌜ (e < 256) × (length (now costs) ≡ 512) × (length (now allowed) ≡ 512) ⌝ }
+    ensures { λ _. ⌜ (now (costs .exit) ≡ set-both (now (costs .entry)) e (edge-delta s ideal true) (edge-delta s ideal false)) × (now (allowed .exit) ≡ set-both (now (allowed .entry)) e true (ltb 0 s)) ⌝ }
+{
+    let down = e * 2;
+    let up = down + 1;
+    costs[up] = edge_delta(s, ideal, true);
+    costs[down] = edge_delta(s, ideal, false);
+    allowed[up] = true;
+    allowed[down] = s > 0;
+}
+
+// The entries of every edge.
 pub(crate) fn fill_costs(
     counts: &[u32],
     ideals: &[f64],
@@ -56,12 +77,7 @@ pub(crate) fn fill_costs(
     while e < counts.len() {
         let s = counts[e];
         let ideal = ideals[e];
-        let down = e * 2;
-        let up = down + 1;
-        costs[up] = edge_delta(s, ideal, true);
-        costs[down] = edge_delta(s, ideal, false);
-        allowed[up] = true;
-        allowed[down] = s > 0;
+        set_costs(s, ideal, e, costs, allowed);
         e += 1;
     }
 }

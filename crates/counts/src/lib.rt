@@ -5,6 +5,7 @@ pub mod check;
 mod cost;
 mod graph;
 mod measure;
+mod parts;
 pub mod refusal;
 pub mod region;
 mod search;

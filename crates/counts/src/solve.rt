@@ -2,20 +2,26 @@
 use crate::answer::RoundAnswer;
 use crate::answer::SolveAnswer;
 use crate::augment::apply_changes;
-use crate::augment::find_move;
+use crate::augment::find_augmentation;
+use crate::augment::start_tables;
+use crate::parts::label_edges;
+use crate::parts::refresh_part;
 use crate::refusal::Refusal;
+use crate::search::wide;
 ghost use mathlib.Core.Path.{_≡_};
-ghost use Prim.Native.Nat.{_≤_};
+ghost use Prim.Native.Nat.{_/_, _≤_, _<_};
 ghost use lib.Dec.{T};
-ghost use lib.ListN.{length, replicate};
+ghost use lib.ListN.{length, getD, replicate};
 ghost use Rattle.counts.specs.Refusal.{is-passed};
 ghost use Rattle.counts.specs.Region.{places};
 ghost use Rattle.counts.specs.Accept.{regions-test};
+ghost use Rattle.counts.specs.Move.{apply-changes as changed-counts};
 ghost use Rattle.counts.specs.Cost.{by-ideals};
 ghost use Rattle.counts.specs.Round.{find-move, solve-from, solve-zeros, max-moves};
 ghost use Rattle.counts.specs.Solver.{round-of, round-by, solve-of, solve-part};
-ghost use Rattle.counts.specs.Tables.{Tables, the-graph};
-ghost use Rattle.counts.specs.RoundContract.{Buffers, TableSizes, RoundInput, solved-of};
+ghost use Rattle.counts.specs.Tables.{Tables, the-graph, path-of};
+ghost use Rattle.counts.specs.Parts.{Labels, Refreshed};
+ghost use Rattle.counts.specs.RoundContract.{Buffers, TableSizes, RoundInput, CanApply, solved-of};
 
 fn wide_len(x: u32) -> usize
     ensures { λ r. ⌜ r ≡ x ⌝ }
@@ -52,21 +58,21 @@ fn round_in(
     requires { ⌜ Buffers (now used) (now path) (now best) × TableSizes (now costs) (now allowed) (now kept) (now cut) (now known) ⌝ }
     ensures { λ r. ⌜ round-of r (now (counts .exit)) ≡ round-by (find-move (the-graph (now (regions .entry))) (by-ideals (now (ideals .entry))) (now (counts .entry)) limit) (now (counts .entry)) ⌝ }
 {
-    let found = find_move(
+    start_tables(counts, ideals, costs, allowed, known);
+    let found = find_augmentation(
         regions,
         incident,
         own,
-        ideals,
-        counts,
-        limit,
         costs,
         allowed,
+        limit,
         used,
         path,
         best,
         kept,
         cut,
         known,
+        counts.len(),
     );
     let len = wide_len(found.len);
     if len == 0 {
@@ -114,11 +120,35 @@ pub(crate) fn make_round(
     )
 }
 
+// The move made on the counts. The part of the farm that it touches gets new costs, and its results are forgotten.
+fn make_move(
+    counts: &mut [u32],
+    ideals: &[f64],
+    labels: &[u16; 256],
+    best: &[u16; 257],
+    len: usize,
+    costs: &mut [f64; 512],
+    allowed: &mut [bool; 512],
+    known: &mut [bool; 512],
+)
+    requires { ⌜ CanApply (now counts) (path-of len (now best)) × (len ≤ 257) × (length (now best) ≡ 257) ⌝ }
+    requires { ⌜ (0 < len) × (length (now counts) ≤ 256) × (length (now ideals) ≡ length (now counts)) ⌝ }
+    requires { ⌜ (length (now costs) ≡ 512) × (length (now allowed) ≡ 512) × (length (now known) ≡ 512) ⌝ }
+    ensures { λ _. ⌜ now (counts .exit) ≡ changed-counts (path-of len (now (best .entry))) (now (counts .entry)) ⌝ }
+    ensures { λ _. ⌜ Refreshed (length (now (counts .entry))) (now (labels .entry)) (getD (now (labels .entry)) (getD (now (best .entry)) 0 0 / 2) 0) (now (counts .exit)) (now (ideals .entry)) (now (costs .entry)) (now (allowed .entry)) (now (known .entry)) (now (costs .exit)) (now (allowed .exit)) (now (known .exit)) ⌝ }
+{
+    apply_changes(counts, best, len);
+    let first = wide(best[0]) / 2;
+    let part = labels[first];
+    refresh_part(labels, part, counts, ideals, costs, allowed, known);
+}
+
 // Round after round until one finds no move. The buffers are lent.
 fn moves_in(
     regions: &[u16],
     incident: &[u16; 512],
     own: &[u16; 512],
+    labels: &[u16; 256],
     ideals: &[f64],
     counts: &mut [u32],
     limit: u32,
@@ -131,27 +161,27 @@ fn moves_in(
     cut: &mut [bool; 512],
     known: &mut [bool; 512],
 ) -> MovesMade
-    requires { ⌜ Tables (now regions) (now incident) (now own) × RoundInput (now regions) (now counts) (now ideals) × (now counts ≡ replicate (length (now counts)) 0) ⌝ }
+    requires { ⌜ Tables (now regions) (now incident) (now own) × RoundInput (now regions) (now counts) (now ideals) × (now counts ≡ replicate (length (now counts)) 0) × Labels (length (now counts)) (now incident) (now labels) ⌝ }
     requires { ⌜ Buffers (now used) (now path) (now best) × TableSizes (now costs) (now allowed) (now kept) (now cut) (now known) ⌝ }
     ensures { λ r. ⌜ solved-of r (now (counts .exit)) ≡ solve-from (the-graph (now (regions .entry))) (by-ideals (now (ideals .entry))) limit max-moves 0 (now (counts .entry)) ⌝ }
 {
+    start_tables(counts, ideals, costs, allowed, known);
     let mut moves = 0;
     loop {
-        let found = find_move(
+        let found = find_augmentation(
             regions,
             incident,
             own,
-            ideals,
-            counts,
-            limit,
             costs,
             allowed,
+            limit,
             used,
             path,
             best,
             kept,
             cut,
             known,
+            counts.len(),
         );
         let len = wide_len(found.len);
         if len == 0 {
@@ -160,7 +190,7 @@ fn moves_in(
         if moves == MAX_MOVES {
             return MovesMade { moves, more: true };
         }
-        apply_changes(counts, best, len);
+        make_move(counts, ideals, labels, best, len, costs, allowed, known);
         moves += 1;
     }
 }
@@ -185,10 +215,13 @@ pub(crate) fn make_moves(
     let mut kept = [0.0; 512];
     let mut cut = [false; 512];
     let mut known = [false; 512];
+    let mut labels = [0; 256];
+    label_edges(incident, counts.len(), &mut labels);
     moves_in(
         regions,
         incident,
         own,
+        &labels,
         ideals,
         counts,
         limit,

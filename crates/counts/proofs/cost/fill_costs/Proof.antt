@@ -1,14 +1,12 @@
 -- `counts::cost::fill_costs` meets its contract. The loop's invariant: every edge before e has its four entries, and the arrays keep their lengths. Assumes nothing.
-use mathlib.Core.Path.{_≡_, refl, ap, _∙_}
+use mathlib.Core.Path.{_≡_, ap, _∙_}
 use Prim.Native.Nat.{ℕ, _-_, _≤_, _<_}
 use native.Mathlib.Omega.{arith}
 use borrow.Author.Needs.{needs}
-use denote.Ref.{now}
-use mathlib.Core.Bool.{true, false}
-use lib.ListN.{length, getD, length-set}
-use lib.Ieee.{Float, nan}
-use Rattle.counts.specs.Cost.{one, by-ideals, edge-delta, Entries}
-use Rattle.counts.proofs.CostLaws.{getD-default, entries-more}
+use lib.ListN.{length}
+use lib.Ieee.{nan}
+use Rattle.counts.specs.Cost.{one, Entries}
+use Rattle.counts.proofs.CostLaws.{getD-default, length-both, entries-more}
 use Rattle.counts.proofs.cost.fill_costs.Statement.{statement}
 use Rattle.counts.proofs.cost.fill_costs.Tie as tie
 
@@ -34,35 +32,8 @@ mul-ideal c = omega arith
 shared-slice-read-ideal : tie.Need-shared-slice-read-ideal Inv-loop μ-loop
 shared-slice-read-ideal c = omega arith
 
-mul-down : tie.Need-mul-down Inv-loop μ-loop
-mul-down c = omega arith
-
-add-up : tie.Need-add-up Inv-loop μ-loop
-add-up c = omega arith
-
-edge-delta-requires : tie.Need-edge-delta-requires Inv-loop μ-loop
-edge-delta-requires c κs = search needs
-
-mul-costs : tie.Need-mul-costs Inv-loop μ-loop
-mul-costs c = omega arith
-
-element-write-costs : tie.Need-element-write-costs Inv-loop μ-loop
-element-write-costs c = omega arith
-
-edge-delta-requires-2 : tie.Need-edge-delta-requires-2 Inv-loop μ-loop
-edge-delta-requires-2 c κs = search needs
-
-mul-costs-2 : tie.Need-mul-costs-2 Inv-loop μ-loop
-mul-costs-2 c = omega arith
-
-element-write-costs-2 : tie.Need-element-write-costs-2 Inv-loop μ-loop
-element-write-costs-2 c = omega arith
-
-element-write-allowed : tie.Need-element-write-allowed Inv-loop μ-loop
-element-write-allowed c = omega arith
-
-element-write-allowed-2 : tie.Need-element-write-allowed-2 Inv-loop μ-loop
-element-write-allowed-2 c = omega arith
+set-costs-requires : tie.Need-set-costs-requires Inv-loop μ-loop
+set-costs-requires c κs = (omega arith, c .before .before .before .before .before .loop .inv .1, c .before .before .before .before .before .loop .inv .2)
 
 add-e : tie.Need-add-e Inv-loop μ-loop
 add-e c = omega arith
@@ -72,21 +43,16 @@ loop-less c = omega arith
 
 loop-again : tie.Need-loop-again Inv-loop μ-loop
 loop-again c =
-    let s = c .before .before .before .before .before .before .before .before .args in
-    let xs = now (s .counts) in
-    let ys = now (s .ideals) in
-    let e = c .before .before .before .before .before .loop .e in
-    let p : c .before .edge-delta .result ≡ by-ideals ys xs e true = c .before .edge-delta .ensures ∙ ap (λ (x : Float). edge-delta (getD xs e 0) x true) (getD-default ys e nan one (omega arith)) in
-    let q : c .edge-delta2 .result ≡ by-ideals ys xs e false = c .edge-delta2 .ensures ∙ ap (λ (x : Float). edge-delta (getD xs e 0) x false) (getD-default ys e nan one (omega arith)) in
-    (omega arith, simp length-set (c .before .before .before .before .before .loop .inv .1), simp length-set (c .before .before .before .before .before .loop .inv .2), entries-more xs ys (c .before .before .before .before .before .loop .costs) (c .before .before .before .before .before .loop .allowed) e _ _ _ (omega arith) (omega arith) p q refl (c .before .before .before .before .before .loop .inv .3))
+    let e = c .before .before .before .before .before .before .loop .e in
+    let q = c .set-costs .ensures in (
+      omega arith,
+      ap length (q .0) ∙ length-both (c .before .before .before .before .before .before .loop .costs) e _ _ ∙ c .before .before .before .before .before .before .loop .inv .1,
+      ap length (q .1) ∙ length-both (c .before .before .before .before .before .before .loop .allowed) e _ _ ∙ c .before .before .before .before .before .before .loop .inv .2,
+      entries-more _ _ (c .before .before .before .before .before .before .loop .costs) (c .before .before .before .before .before .before .loop .allowed) e _ _ _ (omega arith) (omega arith) (getD-default (c .before .before .before .before .before .before .before .before .before .args .ideals .now) e nan one (omega arith)) q (c .before .before .before .before .before .before .loop .inv .3),
+    )
 
 returns : tie.Need-returns Inv-loop μ-loop
-returns c =
-    let s = c .before .before .before .before .args in
-    let xs = now (s .counts) in
-    let ys = now (s .ideals) in
-    let e = c .before .loop .e in
-    (λ y l. c .before .loop .inv .3 y (omega arith), (c .before .loop .inv .1, c .before .loop .inv .2))
+returns c = (λ y l. c .before .loop .inv .3 y (omega arith), (c .before .loop .inv .1, c .before .loop .inv .2))
 
 pub fill-costs-spec : {M : Type 1} → statement M
 fill-costs-spec =
@@ -99,16 +65,7 @@ fill-costs-spec =
     shared-slice-read-s
     mul-ideal
     shared-slice-read-ideal
-    mul-down
-    add-up
-    edge-delta-requires
-    mul-costs
-    element-write-costs
-    edge-delta-requires-2
-    mul-costs-2
-    element-write-costs-2
-    element-write-allowed
-    element-write-allowed-2
+    set-costs-requires
     add-e
     loop-less
     loop-again
