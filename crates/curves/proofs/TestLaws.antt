@@ -37,6 +37,13 @@ told-passed c e = subst (λ (x : Check). T (is-passed (outcome x))) (sym e) tt
 pub both-passed : (u v w : Verdict) → u ≡ then-test v w → T (is-passed u) → T (is-passed v) × T (is-passed w)
 both-passed u v w e t = let s = subst (λ (x : Verdict). T (is-passed x)) e t in (then-left v w s, then-right v w s)
 
+-- where a chain of four passes, each of them does
+pub four-passed : (a b c d : Verdict) → T (is-passed (then-test a (then-test b (then-test c d)))) → T (is-passed a) × T (is-passed b) × T (is-passed c) × T (is-passed d)
+four-passed a b c d t =
+    let u = then-right a (then-test b (then-test c d)) t in
+    let w = then-right b (then-test c d) u in
+    (then-left a (then-test b (then-test c d)) t, then-left b (then-test c d) u, then-left c d w, then-right c d w)
+
 -- ---- what follows tests
 
 module _ {A : Type 0} (x : A) (refusal : Verdict → A) where

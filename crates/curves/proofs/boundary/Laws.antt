@@ -14,8 +14,8 @@ use Rattle.curves.specs.Boundary.{boundary, boundary-of, boundary-ends, 
 use Rattle.curves.specs.Answers.{Answer, good, turned-away, verdict}
 use Rattle.curves.specs.declared.boundary.BoundaryEnds.{BoundaryEnds}
 use Rattle.curves.specs.declared.boundary.BoundaryAnswer.the-variants as boundary-answer
-use Rattle.counts.proofs.RefusalLaws.{then-left, then-right, refusal-number, chain-stops, chain-goes-on}
-use Rattle.curves.proofs.TestLaws.{in-four, told-passed, both-passed, follows, refuses}
+use Rattle.counts.proofs.RefusalLaws.{then-left, refusal-number, chain-stops, chain-goes-on}
+use Rattle.curves.proofs.TestLaws.{in-four, four-passed, told-passed, both-passed, follows, refuses}
 use Rattle.curves.proofs.curve.Laws.{sampled}
 
 -- ---- the chain over the four curves, as the code makes it from its end
@@ -102,10 +102,8 @@ module _ (b r t l : List Float) where
   pub each-passed : T (is-passed (checked-curves b r t l)) → T (is-passed (curve-test b 0)) × T (is-passed (curve-test r 1)) × T (is-passed (curve-test t 2)) × T (is-passed (curve-test l 3))
   unfolding checked-curves curves-test
   each-passed p =
-      let q = then-left (then-test (curve-test b 0) (then-test (curve-test r 1) (then-test (curve-test t 2) (curve-test l 3)))) (ends-test (boundary-ends (boundary-of b r t l))) p in
-      let q1 = then-right (curve-test b 0) (then-test (curve-test r 1) (then-test (curve-test t 2) (curve-test l 3))) q in
-      let q2 = then-right (curve-test r 1) (then-test (curve-test t 2) (curve-test l 3)) q1 in
-      (then-left (curve-test b 0) (then-test (curve-test r 1) (then-test (curve-test t 2) (curve-test l 3))) q, then-left (curve-test r 1) (then-test (curve-test t 2) (curve-test l 3)) q1, then-left (curve-test t 2) (curve-test l 3) q2, then-right (curve-test t 2) (curve-test l 3) q2)
+      four-passed (curve-test b 0) (curve-test r 1) (curve-test t 2) (curve-test l 3)
+      (then-left (then-test (curve-test b 0) (then-test (curve-test r 1) (then-test (curve-test t 2) (curve-test l 3)))) (ends-test (boundary-ends (boundary-of b r t l))) p)
 
 -- the part of a buffer that holds the table of a curve that has passed
 pub part-sampled : (points : List Float) (side : ℕ) (v : Verdict) (xs : List Float) → v ≡ curve-test points side → T (is-passed v) → xs ≡ cumulative-of points → Sampled points xs

@@ -24,7 +24,7 @@ use Rattle.curves.specs.Coons.{Outcome, outcome-of, refusal, unless, fil
 use Rattle.curves.specs.declared.grid.Layout.{Layout}
 use Rattle.curves.specs.declared.coons.GridAnswer.the-variants as grid-answer
 use Rattle.curves.proofs.ListLaws.{length-tab, take-splice}
-use Rattle.curves.proofs.TestLaws.{in-turn, told-passed, both-passed, follows, refuses}
+use Rattle.curves.proofs.TestLaws.{in-turn, told-passed, both-passed, four-passed, follows, refuses}
 use Rattle.curves.proofs.grid.Filled.{good-grid, no-grid}
 
 -- ---- an answer, by the tests before it
@@ -123,11 +123,8 @@ curve-let-by points p = go (ltb 2048 (length points)) refl p
 pub curves-let-by : (b r t l : List Float) → T (is-passed (curves-limit b r t l)) → (length b ≤ 2048) × (length r ≤ 2048) × (length t ≤ 2048) × (length l ≤ 2048)
 unfolding curves-limit
 curves-let-by b r t l p =
-    let v2 = then-test (curve-limit t) (curve-limit l) in
-    let v1 = then-test (curve-limit r) v2 in
-    let p1 = then-right (curve-limit b) v1 p in
-    let p2 = then-right (curve-limit r) v2 p1 in
-    (curve-let-by b (then-left (curve-limit b) v1 p), curve-let-by r (then-left (curve-limit r) v2 p1), curve-let-by t (then-left (curve-limit t) (curve-limit l) p2), curve-let-by l (then-right (curve-limit t) (curve-limit l) p2))
+    let q = four-passed (curve-limit b) (curve-limit r) (curve-limit t) (curve-limit l) p in
+    (curve-let-by b (q .0), curve-let-by r (q .1), curve-let-by t (q .2), curve-let-by l (q .3))
 
 pub seam-let-by : (values : List Float) → T (is-passed (seam-limit values)) → length values ≤ 1025
 unfolding seam-limit
@@ -136,11 +133,8 @@ seam-let-by values p = let long = ltb 1025 (length values) in ltb-false 1025 (le
 pub seams-let-by : (b t l r : List Float) → T (is-passed (seams-limit (seams b t l r))) → (length b ≤ 1025) × (length t ≤ 1025) × (length l ≤ 1025) × (length r ≤ 1025)
 unfolding seams-limit
 seams-let-by b t l r p =
-    let v2 = then-test (seam-limit l) (seam-limit r) in
-    let v1 = then-test (seam-limit t) v2 in
-    let p1 = then-right (seam-limit b) v1 p in
-    let p2 = then-right (seam-limit t) v2 p1 in
-    (seam-let-by b (then-left (seam-limit b) v1 p), seam-let-by t (then-left (seam-limit t) v2 p1), seam-let-by l (then-left (seam-limit l) (seam-limit r) p2), seam-let-by r (then-right (seam-limit l) (seam-limit r) p2))
+    let q = four-passed (seam-limit b) (seam-limit t) (seam-limit l) (seam-limit r) p in
+    (seam-let-by b (q .0), seam-let-by t (q .1), seam-let-by l (q .2), seam-let-by r (q .3))
 
 -- ---- even seams
 

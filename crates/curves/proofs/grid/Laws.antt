@@ -68,7 +68,7 @@ module _ (c : BoundaryCurves) where
 
 -- ---- a row of n + 1 points, written over d
 
-length-coordinates : (a : Answer Point) → length (coordinates a) ≡ 2
+pub length-coordinates : (a : Answer Point) → length (coordinates a) ≡ 2
 length-coordinates (good p) = refl
 length-coordinates (turned-away v) = refl
 

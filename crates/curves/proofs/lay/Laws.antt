@@ -31,7 +31,7 @@ use Rattle.curves.specs.Lay.{Field, counts-along, seam-of, seams-of, rec
 use Rattle.curves.specs.declared.grid.Layout.the-variants.{Quads}
 use Rattle.curves.specs.declared.coons.GridAnswer.the-variants as grid-answer
 use Rattle.curves.proofs.ListLaws.{part-written, set-splice}
-use Rattle.curves.proofs.TestLaws.{told-passed}
+use Rattle.curves.proofs.TestLaws.{four-passed, told-passed}
 use Rattle.curves.proofs.coons.Laws.{turned-away, goes-on}
 use Rattle.curves.proofs.seam.Laws.{length-edge}
 
@@ -145,12 +145,6 @@ pub record Known (region : List ℕ) (n : ℕ) (f : Field) : Type 0 where
   pub side2 : SideKnown region n 2 (f .breaks2)
   pub side3 : SideKnown region n 3 (f .breaks3)
 
-four : (a b c d : Verdict) → T (is-passed (then-test a (then-test b (then-test c d)))) → T (is-passed a) × T (is-passed b) × T (is-passed c) × T (is-passed d)
-four a b c d t =
-    let u = then-right a (then-test b (then-test c d)) t in
-    let w = then-right b (then-test c d) u in
-    (then-left a (then-test b (then-test c d)) t, then-left b (then-test c d) u, then-left c d w, then-right c d w)
-
 pub known : (region : List ℕ) (n : ℕ) (f : Field) → T (is-passed (lay-test region n f)) → Known region n f
 unfolding lay-test sides-test
 known region n f t =
@@ -160,8 +154,8 @@ known region n f t =
     let short = sides-short region n (then-left (record-test region n) (then-test limit (sides-test region n f)) t) in
     let of-edges = then-test (edges-test region n 0) (then-test (edges-test region n 1) (then-test (edges-test region n 2) (edges-test region n 3))) in
     let of-breaks = then-test (breaks-test region (f .breaks0) 0) (then-test (breaks-test region (f .breaks1) 1) (then-test (breaks-test region (f .breaks2) 2) (breaks-test region (f .breaks3) 3))) in
-    let e = four (edges-test region n 0) (edges-test region n 1) (edges-test region n 2) (edges-test region n 3) (then-left of-edges of-breaks r) in
-    let b = four (breaks-test region (f .breaks0) 0) (breaks-test region (f .breaks1) 1) (breaks-test region (f .breaks2) 2) (breaks-test region (f .breaks3) 3) (then-right of-edges of-breaks r) in
+    let e = four-passed (edges-test region n 0) (edges-test region n 1) (edges-test region n 2) (edges-test region n 3) (then-left of-edges of-breaks r) in
+    let b = four-passed (breaks-test region (f .breaks0) 0) (breaks-test region (f .breaks1) 1) (breaks-test region (f .breaks2) 2) (breaks-test region (f .breaks3) 3) (then-right of-edges of-breaks r) in
     record {
       curves = then-left limit (sides-test region n f) s;
       side0 = record { short = short .0; edges = e .0; fit = b .0 };

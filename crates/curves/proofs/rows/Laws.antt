@@ -22,6 +22,7 @@ use Rattle.curves.specs.declared.grid.Layout.{Layout}
 use Rattle.curves.specs.declared.grid.Layout.the-variants.{Quads, Nodes}
 use Rattle.curves.proofs.ListLaws.{length-tab, length-cat, length-cat-more, cat-grows, splice-none, store-next, cat-step, splice-over}
 use Rattle.curves.proofs.TestLaws.{first-more, first-shifted}
+use Rattle.curves.proofs.grid.Laws.{length-coordinates}
 
 -- ---- stores in a row
 
@@ -113,13 +114,9 @@ below-later low high n (suc j) h = let e : j ≡ suc j - 1 = omega arith in ap (
 
 -- ---- the whole grid
 
-coordinates-length : (a : Answer Point) → length (coordinates a) ≡ 2
-coordinates-length (good p) = refl
-coordinates-length (turned-away v) = refl
-
 pub length-row-points : (f : Row) (n : ℕ) → length (row-points f n) ≡ 2 * (n + 1)
 unfolding row-points
-length-row-points f n = length-cat (λ (i : ℕ). coordinates (f i)) 2 0 (n + 1) (λ i h. coordinates-length (f i)) ∙ mul-comm (n + 1) 2
+length-row-points f n = length-cat (λ (i : ℕ). coordinates (f i)) 2 0 (n + 1) (λ i h. length-coordinates (f i)) ∙ mul-comm (n + 1) 2
 
 pub length-grid : (layout : Layout) (f : Grid) (n m : ℕ) → length (grid-values layout f n m) ≡ needed layout n m
 unfolding grid-values needed
