@@ -1,5 +1,5 @@
 -- 01's bench cases H, I and J, worked out by the definitions that the contracts cite. Assumes nothing.
-use mathlib.Core.Path.{_≡_, refl}
+use mathlib.Core.Path.{refl}
 use lib.Ieee.{ofBits}
 use Rattle.curves.specs.Curve.{cumulative-of}
 use Rattle.curves.specs.Grid.{row-of}

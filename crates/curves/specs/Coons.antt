@@ -98,3 +98,10 @@ unfolding curves-limit cells-limit uniform-parameters coons-from-parameters
 coons-curves layout bottom right top left n m out =
     unless (then-test (curves-limit bottom right top left) (cells-limit n m)) out
     (coons-from-parameters layout bottom right top left (seams (uniform-parameters n) (uniform-parameters n) (uniform-parameters m) (uniform-parameters m)) out)
+
+-- its two layouts by name: the quads, and the points for a mesh
+abbrev pub coons-quads : List Float → List Float → List Float → List Float → ℕ → ℕ → List Float → Outcome
+coons-quads = coons-curves Quads
+
+abbrev pub coons-nodes : List Float → List Float → List Float → List Float → ℕ → ℕ → List Float → Outcome
+coons-nodes = coons-curves Nodes

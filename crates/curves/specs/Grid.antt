@@ -8,7 +8,6 @@ use Rattle.curves.specs.Answers.{Answer, good, turned-away, verdict}
 use Rattle.curves.specs.Scalar.{nought}
 use Rattle.curves.specs.Lists.{cat}
 use Rattle.curves.specs.Tests.{first-of}
-use Rattle.curves.specs.Point.{point}
 use Rattle.curves.specs.Curve.{point-at}
 use Rattle.curves.specs.Crossing.{logical-intersection}
 use Rattle.curves.specs.Boundary.{BoundaryCurves}

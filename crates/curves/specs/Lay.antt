@@ -1,5 +1,5 @@
 -- Lay, which "grids one region, given as just one record, from counts, breaks and curves, and answers and writes what `coons_from_parameters` does on its seams". Definitions only.
-use mathlib.Core.Bool.{Bool, not}
+use mathlib.Core.Bool.{not}
 use mathlib.Core.List.{List, [], _∷_}
 use Prim.Native.Nat.{ℕ, suc}
 use lib.ListN.{length, getD}

@@ -2,11 +2,11 @@
 ghost use mathlib.Core.Path.{_≡_};
 ghost use Prim.Native.Nat.{_*_, _≤_, _<_};
 ghost use lib.ListN.{length};
-ghost use Rattle.counts.specs.Refusal.{outcome, then-test};
+ghost use Rattle.counts.specs.Refusal.{outcome};
 ghost use Rattle.curves.specs.Curve.{curve, Sampled};
 ghost use Rattle.curves.specs.Boundary.{boundary, curve-ends};
 ghost use Rattle.curves.specs.Grid.{seams};
-ghost use Rattle.curves.specs.Coons.{outcome-of, grid-stage, patch, seam-limit, seams-limit, curve-limit, curves-limit, cells-limit, coons-from-parameters, coons-curves};
+ghost use Rattle.curves.specs.Coons.{outcome-of, grid-stage, patch, seam-limit, seams-limit, curve-limit, curves-limit, cells-limit, coons-from-parameters, coons-curves, coons-quads, coons-nodes};
 use crate::boundary::BoundaryAnswer;
 use crate::boundary::Ends;
 use crate::boundary::checked_curves;
@@ -379,7 +379,7 @@ pub fn coons_curves(
     n_v: u32,
     out: &mut [f64],
 ) -> GridAnswer
-    ensures { λ r. ⌜ outcome-of r (now (out .exit)) ≡ coons-curves Layout.Quads (now (bottom .entry)) (now (right .entry)) (now (top .entry)) (now (left .entry)) «n_u» «n_v» (now (out .entry)) ⌝ }
+    ensures { λ r. ⌜ outcome-of r (now (out .exit)) ≡ coons-quads (now (bottom .entry)) (now (right .entry)) (now (top .entry)) (now (left .entry)) «n_u» «n_v» (now (out .entry)) ⌝ }
 {
     from_cells(bottom, right, top, left, n_u, n_v, Layout::Quads, out)
 }
@@ -394,7 +394,7 @@ pub fn coons_nodes(
     n_v: u32,
     out: &mut [f64],
 ) -> GridAnswer
-    ensures { λ r. ⌜ outcome-of r (now (out .exit)) ≡ coons-curves Layout.Nodes (now (bottom .entry)) (now (right .entry)) (now (top .entry)) (now (left .entry)) «n_u» «n_v» (now (out .entry)) ⌝ }
+    ensures { λ r. ⌜ outcome-of r (now (out .exit)) ≡ coons-nodes (now (bottom .entry)) (now (right .entry)) (now (top .entry)) (now (left .entry)) «n_u» «n_v» (now (out .entry)) ⌝ }
 {
     from_cells(bottom, right, top, left, n_u, n_v, Layout::Nodes, out)
 }

@@ -1,5 +1,5 @@
 // The geometry above the counts: the square root, the scalars and points that the curves go by, the curves, their seams, the patch between
-// them and its quads.
+// them, its grid of points and quads, and lay, which grids a region by its counts. Public are `coons`, `lay` and `root`.
 mod boundary;
 mod check;
 mod columns;

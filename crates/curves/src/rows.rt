@@ -5,7 +5,6 @@ ghost use Prim.Native.Nat.{_+_, _*_, _<_, _≤_};
 ghost use lib.ListN.{length};
 ghost use Rattle.counts.specs.Refusal.{outcome};
 ghost use Rattle.curves.specs.Lists.{splice};
-ghost use Rattle.curves.specs.Curve.{point-at};
 ghost use Rattle.curves.specs.Grid.{cell-test, cells-test, below-test, quad-values, quads-between, node-values, nodes-of, row-part, needed};
 use crate::curve::point_at;
 use crate::grid::Layout;

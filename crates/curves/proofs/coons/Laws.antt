@@ -6,7 +6,7 @@ use Prim.Native.Nat.{ℕ, _+_, _-_, _*_, _%_, _≤_, _<_}
 use native.Mathlib.Nat.{mul-le-mul-right}
 use native.Mathlib.Omega.{arith}
 use lib.ListN.{length, take}
-use lib.Dec.{T, T-not, ltb, eqb, ltb→lt, eqb→eq}
+use lib.Dec.{T, T-not, ltb, eqb, eqb→eq}
 use lib.Ieee.{Float}
 use borrow.Author.Tests.{lt-ltb, le-ltb, ltb-false}
 use Rattle.counts.specs.Refusal.{Verdict, passed, refused, verdict-of, outcome, is-passed, then-test, refuse-if}
@@ -17,10 +17,10 @@ use Rattle.counts.specs.declared.refusal.Refusal.the-variants as because
 use Rattle.counts.proofs.BoolLaws.{not-T-false}
 use Rattle.counts.proofs.RefusalLaws.{then-left, then-right, not-refused, was-passed, chain-stops, chain-goes-on}
 use Rattle.curves.specs.Lists.{splice}
-use Rattle.curves.specs.Boundary.{BoundaryCurves, boundary-of, checked-curves}
+use Rattle.curves.specs.Boundary.{BoundaryCurves}
 use Rattle.curves.specs.Seam.{uniform-parameters, seam-test, pair-test, seams-test}
 use Rattle.curves.specs.Grid.{Seams, seams, n-u, n-v, Grid, grid-of, grid-test, needed}
-use Rattle.curves.specs.Coons.{Outcome, outcome-of, refusal, unless, filled, seams-and-room-test, grid-stage, patch, curve-limit, curves-limit, seam-limit, seams-limit, cells-limit, coons-from-parameters, coons-curves}
+use Rattle.curves.specs.Coons.{Outcome, outcome-of, refusal, unless, filled, seams-and-room-test, grid-stage, curve-limit, curves-limit, seam-limit, seams-limit, cells-limit, coons-from-parameters}
 use Rattle.curves.specs.declared.grid.Layout.{Layout}
 use Rattle.curves.specs.declared.coons.GridAnswer.the-variants as grid-answer
 use Rattle.curves.proofs.ListLaws.{length-tab, take-splice}

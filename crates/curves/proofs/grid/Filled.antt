@@ -5,7 +5,7 @@ use Prim.Native.Nat.{ℕ, _+_, _-_, _*_, _≤_, _<_}
 use native.Mathlib.Omega.{arith}
 use lib.ListN.{take}
 use lib.Ieee.{Float}
-use Rattle.counts.specs.Refusal.{Verdict, passed, outcome, then-test}
+use Rattle.counts.specs.Refusal.{Verdict, passed, outcome}
 use Rattle.counts.specs.declared.refusal.Check.{Check}
 use Rattle.counts.specs.declared.refusal.Check.the-variants.{Passed, Refused}
 use Rattle.counts.specs.declared.refusal.Refusal.{Refusal}

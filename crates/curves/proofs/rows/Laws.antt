@@ -13,7 +13,6 @@ use Rattle.counts.specs.declared.refusal.Check.the-variants.{Passed}
 use Rattle.curves.specs.Lists.{cat, splice}
 use Rattle.curves.specs.Tests.{first-of}
 use Rattle.curves.specs.Scalar.{nought}
-use Rattle.curves.specs.Answers.{Answer, good, turned-away}
 use Rattle.curves.specs.Curve.{point-at}
 use Rattle.curves.specs.Quad.{zeros}
 use Rattle.curves.specs.Grid.{Row, Grid, coordinates, row-points, cells-test, below-test, quads-test, quad-values, quads-between, node-values, nodes-of, row-part, grid-part, grid-values, needed}

@@ -11,11 +11,11 @@ use Rattle.curves.specs.Tests.{first-of}
 use Rattle.curves.specs.Quad.{zeros}
 use Rattle.curves.specs.Curve.{curve}
 use Rattle.curves.specs.Boundary.{boundary}
-use Rattle.curves.specs.Grid.{Grid, seams, grid-of, grid-part, row-points, needed}
+use Rattle.curves.specs.Grid.{Grid, seams, grid-of, grid-part, needed}
 use Rattle.curves.proofs.ListLaws.{splice-none}
 use Rattle.curves.proofs.TestLaws.{told-passed}
 use Rattle.curves.proofs.columns.Laws.{fewer}
-use Rattle.curves.proofs.rows.Laws.{RowBefore, none-before, row-passed, cells-below, cells-begin, cells-step, cells-end, row-fits, row-end, row-written, rows-written, rows-cleared, length-row-points}
+use Rattle.curves.proofs.rows.Laws.{RowBefore, none-before, row-passed, cells-below, cells-begin, cells-step, cells-end, row-fits, row-end, row-written, rows-written, rows-cleared}
 use Rattle.curves.proofs.grid.Filled.{row-part-read, RowsLeft, rows-begin, rows-next, row-stops, cells-stop, grid-passes, left-cleared, left-filled}
 use borrow.Author.Needs.{needs}
 use Rattle.curves.proofs.grid.grid_rows.Statement.{statement}

@@ -1,12 +1,10 @@
 -- `seam::side_seam` meets its contract. Before each turn so many values of the seam are written, and what is still to come is that of the
 -- edges from i on. Assumes nothing.
 use mathlib.Core.Path.{_≡_, refl, sym, ap, _∙_}
-use mathlib.Core.List.{List}
 use Prim.Native.Nat.{ℕ, _+_, _-_, _≤_}
 use native.Mathlib.Omega.{arith}
 use lib.ListN.{length, getD, take, drop, length-set}
 use lib.Seq.{take-length}
-use lib.Ieee.{Float}
 use denote.Ref.{now}
 use Rattle.curves.specs.Lists.{splice}
 use Rattle.curves.specs.Seam.{edge-values, seam-from, side-seam}
