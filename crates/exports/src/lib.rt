@@ -2,6 +2,14 @@
 // is a pointer and a length there. Each function returns the refusal's number, 0 if the call is accepted.
 mod telling;
 
+ghost use mathlib.Core.Path.{_≡_};
+ghost use mathlib.Core.List.{[], _∷_};
+ghost use Rattle.counts.specs.Solver.{solve, round, energy, constraints-hold};
+ghost use Rattle.curves.specs.Answers.{verdict, root-answer};
+ghost use Rattle.curves.specs.Grid.{seams};
+ghost use Rattle.curves.specs.Coons.{coons-seamed, coons-quads};
+ghost use Rattle.curves.specs.Lay.{field, lay};
+ghost use Rattle.exports.specs.Told.{solve-told, hold-told, energy-told, round-told, grid-told, cost-of, root-value};
 use crate::telling::tell_energy;
 use crate::telling::tell_grid;
 use crate::telling::tell_hold;
@@ -15,7 +23,11 @@ pub extern "C" fn juplatsk_solve_counts(
     ideals: &[f64],
     counts: &mut [u32],
     answer: &mut [u32; 3],
-) -> u32 {
+) -> u32
+    ensures { λ r. ⌜ r ≡ solve (now (regions .entry)) (now (ideals .entry)) (now (counts .entry)) .verdict .number ⌝ }
+    ensures { λ _. ⌜ now (answer .exit) ≡ solve-told (solve (now (regions .entry)) (now (ideals .entry)) (now (counts .entry))) ⌝ }
+    ensures { λ _. ⌜ now (counts .exit) ≡ solve (now (regions .entry)) (now (ideals .entry)) (now (counts .entry)) .counts ⌝ }
+{
     let solved = counts::solve_counts(regions, ideals, counts);
     tell_solve(solved, answer)
 }
@@ -28,7 +40,12 @@ pub extern "C" fn juplatsk_round(
     limit: u32,
     answer: &mut [u32; 4],
     cost: &mut [f64; 1],
-) -> u32 {
+) -> u32
+    ensures { λ r. ⌜ r ≡ round (now (regions .entry)) (now (ideals .entry)) (now (counts .entry)) limit .verdict .number ⌝ }
+    ensures { λ _. ⌜ now (answer .exit) ≡ round-told (round (now (regions .entry)) (now (ideals .entry)) (now (counts .entry)) limit) ⌝ }
+    ensures { λ _. ⌜ now (cost .exit) ≡ cost-of (round (now (regions .entry)) (now (ideals .entry)) (now (counts .entry)) limit .move) ∷ [] ⌝ }
+    ensures { λ _. ⌜ now (counts .exit) ≡ round (now (regions .entry)) (now (ideals .entry)) (now (counts .entry)) limit .counts ⌝ }
+{
     let made = counts::round(regions, ideals, counts, limit);
     tell_round(made, answer, cost)
 }
@@ -39,7 +56,11 @@ pub extern "C" fn juplatsk_energy(
     ideals: &[f64],
     answer: &mut [u32; 2],
     sum: &mut [f64; 1],
-) -> u32 {
+) -> u32
+    ensures { λ r. ⌜ r ≡ energy (now (counts .entry)) (now (ideals .entry)) .verdict .number ⌝ }
+    ensures { λ _. ⌜ now (answer .exit) ≡ energy-told (energy (now (counts .entry)) (now (ideals .entry))) ⌝ }
+    ensures { λ _. ⌜ now (sum .exit) ≡ energy (now (counts .entry)) (now (ideals .entry)) .total ∷ [] ⌝ }
+{
     let total = counts::energy(counts, ideals);
     tell_energy(total, answer, sum)
 }
@@ -49,13 +70,19 @@ pub extern "C" fn juplatsk_constraints_hold(
     regions: &[u16],
     counts: &[u32],
     answer: &mut [u32; 3],
-) -> u32 {
+) -> u32
+    ensures { λ r. ⌜ r ≡ constraints-hold (now (regions .entry)) (now (counts .entry)) .verdict .number ⌝ }
+    ensures { λ _. ⌜ now (answer .exit) ≡ hold-told (constraints-hold (now (regions .entry)) (now (counts .entry))) ⌝ }
+{
     let held = counts::constraints_hold(regions, counts);
     tell_hold(held, answer)
 }
 
 #[no_mangle]
-pub extern "C" fn juplatsk_root(x: f64, root: &mut [f64; 1]) -> u32 {
+pub extern "C" fn juplatsk_root(x: f64, root: &mut [f64; 1]) -> u32
+    ensures { λ r. ⌜ r ≡ verdict (root-answer x) .number ⌝ }
+    ensures { λ _. ⌜ now (root .exit) ≡ root-value (root-answer x) ∷ [] ⌝ }
+{
     let taken = curves::root::root(x);
     tell_root(taken, root)
 }
@@ -72,7 +99,11 @@ pub extern "C" fn juplatsk_coons_from_parameters(
     right_v: &[f64],
     out: &mut [f64],
     answer: &mut [u32; 3],
-) -> u32 {
+) -> u32
+    ensures { λ r. ⌜ r ≡ coons-seamed (now (bottom .entry)) (now (right .entry)) (now (top .entry)) (now (left .entry)) (seams (now («bottom_u» .entry)) (now («top_u» .entry)) (now («left_v» .entry)) (now («right_v» .entry))) (now (out .entry)) .verdict .number ⌝ }
+    ensures { λ _. ⌜ now (answer .exit) ≡ grid-told (coons-seamed (now (bottom .entry)) (now (right .entry)) (now (top .entry)) (now (left .entry)) (seams (now («bottom_u» .entry)) (now («top_u» .entry)) (now («left_v» .entry)) (now («right_v» .entry))) (now (out .entry))) ⌝ }
+    ensures { λ _. ⌜ now (out .exit) ≡ coons-seamed (now (bottom .entry)) (now (right .entry)) (now (top .entry)) (now (left .entry)) (seams (now («bottom_u» .entry)) (now («top_u» .entry)) (now («left_v» .entry)) (now («right_v» .entry))) (now (out .entry)) .out ⌝ }
+{
     let made = curves::coons::coons_from_parameters(
         bottom,
         right,
@@ -97,7 +128,11 @@ pub extern "C" fn juplatsk_coons_curves(
     n_v: u32,
     out: &mut [f64],
     answer: &mut [u32; 3],
-) -> u32 {
+) -> u32
+    ensures { λ r. ⌜ r ≡ coons-quads (now (bottom .entry)) (now (right .entry)) (now (top .entry)) (now (left .entry)) «n_u» «n_v» (now (out .entry)) .verdict .number ⌝ }
+    ensures { λ _. ⌜ now (answer .exit) ≡ grid-told (coons-quads (now (bottom .entry)) (now (right .entry)) (now (top .entry)) (now (left .entry)) «n_u» «n_v» (now (out .entry))) ⌝ }
+    ensures { λ _. ⌜ now (out .exit) ≡ coons-quads (now (bottom .entry)) (now (right .entry)) (now (top .entry)) (now (left .entry)) «n_u» «n_v» (now (out .entry)) .out ⌝ }
+{
     let made = curves::coons::coons_curves(bottom, right, top, left, n_u, n_v, out);
     tell_grid(made, answer)
 }
@@ -116,7 +151,11 @@ pub extern "C" fn juplatsk_lay_region(
     left: &[f64],
     out: &mut [f64],
     answer: &mut [u32; 3],
-) -> u32 {
+) -> u32
+    ensures { λ r. ⌜ r ≡ lay (now (region .entry)) (now (counts .entry)) (field (now (breaks0 .entry)) (now (breaks1 .entry)) (now (breaks2 .entry)) (now (breaks3 .entry)) (now (bottom .entry)) (now (right .entry)) (now (top .entry)) (now (left .entry))) (now (out .entry)) .verdict .number ⌝ }
+    ensures { λ _. ⌜ now (answer .exit) ≡ grid-told (lay (now (region .entry)) (now (counts .entry)) (field (now (breaks0 .entry)) (now (breaks1 .entry)) (now (breaks2 .entry)) (now (breaks3 .entry)) (now (bottom .entry)) (now (right .entry)) (now (top .entry)) (now (left .entry))) (now (out .entry))) ⌝ }
+    ensures { λ _. ⌜ now (out .exit) ≡ lay (now (region .entry)) (now (counts .entry)) (field (now (breaks0 .entry)) (now (breaks1 .entry)) (now (breaks2 .entry)) (now (breaks3 .entry)) (now (bottom .entry)) (now (right .entry)) (now (top .entry)) (now (left .entry))) (now (out .entry)) .out ⌝ }
+{
     let made = curves::lay::lay_region(
         region,
         counts,
