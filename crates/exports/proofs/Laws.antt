@@ -21,6 +21,7 @@ use Rattle.curves.specs.declared.coons.GridAnswer.{GridAnswer}
 use Rattle.curves.specs.declared.coons.GridAnswer.the-variants as grid-answer
 use Rattle.curves.specs.declared.root.RootAnswer.{RootAnswer}
 use Rattle.curves.specs.declared.root.RootAnswer.the-variants as root-answer
+use Rattle.mesh.specs.Mesh.{Mesh, mesh-of}
 use Rattle.exports.specs.Told.{flag, Tells, solve-told, hold-told, grid-told, energy-told, round-told, cost-of, root-value, TellsSolve, TellsHold, TellsGrid, TellsEnergy, TellsRound, TellsRoot}
 
 -- ---- a verdict's number returned, and its places stored before the rest
@@ -135,3 +136,9 @@ grid-left (grid-answer.Refused r) out = refl
 pub grid-exported : (a : GridAnswer) {out : List Float} {s : Outcome} {r : ℕ} {answer : List ℕ} → TellsGrid a r answer → outcome-of a out ≡ s → (r ≡ s .verdict .number) × ((answer ≡ grid-told s) × (out ≡ s .out))
 grid-exported a {out} t e =
     (t out .0 ∙ ap (λ (x : Outcome). x .verdict .number) e, (t out .1 ∙ ap grid-told e, grid-left a out ∙ ap (λ (x : Outcome). x .out) e))
+
+pub mesh-exported : (a : GridAnswer) {points : List Float} {cells : List ℕ} {s : Mesh} {r : ℕ} {answer : List ℕ} → TellsGrid a r answer → mesh-of a points cells ≡ s → (r ≡ s .grid .verdict .number) × ((answer ≡ grid-told (s .grid)) × ((points ≡ s .grid .out) × (cells ≡ s .cells)))
+unfolding mesh-of
+mesh-exported a t e =
+    let g = grid-exported a t (ap (λ (x : Mesh). x .grid) e) in
+    (g .0, (g .1 .0, (g .1 .1, ap (λ (x : Mesh). x .cells) e)))

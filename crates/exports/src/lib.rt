@@ -9,6 +9,8 @@ ghost use Rattle.curves.specs.Answers.{verdict, root-answer};
 ghost use Rattle.curves.specs.Grid.{seams};
 ghost use Rattle.curves.specs.Coons.{coons-seamed, coons-quads};
 ghost use Rattle.curves.specs.Lay.{field, lay};
+ghost use Rattle.mesh.specs.Mesh.{mesh-tile-curves};
+ghost use Rattle.mesh.specs.Tile.{coons-checked, mesh-tile};
 ghost use Rattle.exports.specs.Told.{solve-told, hold-told, energy-told, round-told, grid-told, cost-of, root-value};
 use crate::telling::tell_energy;
 use crate::telling::tell_grid;
@@ -169,5 +171,60 @@ pub extern "C" fn juplatsk_lay_region(
         left,
         out,
     );
+    tell_grid(made, answer)
+}
+
+#[no_mangle]
+pub extern "C" fn juplatsk_mesh_tile_curves(
+    bottom: &[f64],
+    right: &[f64],
+    top: &[f64],
+    left: &[f64],
+    n_u: u32,
+    n_v: u32,
+    points: &mut [f64],
+    cells: &mut [u32],
+    answer: &mut [u32; 3],
+) -> u32
+    ensures { λ r. ⌜ r ≡ mesh-tile-curves (now (bottom .entry)) (now (right .entry)) (now (top .entry)) (now (left .entry)) «n_u» «n_v» (now (points .entry)) (now (cells .entry)) .grid .verdict .number ⌝ }
+    ensures { λ _. ⌜ now (answer .exit) ≡ grid-told (mesh-tile-curves (now (bottom .entry)) (now (right .entry)) (now (top .entry)) (now (left .entry)) «n_u» «n_v» (now (points .entry)) (now (cells .entry)) .grid) ⌝ }
+    ensures { λ _. ⌜ now (points .exit) ≡ mesh-tile-curves (now (bottom .entry)) (now (right .entry)) (now (top .entry)) (now (left .entry)) «n_u» «n_v» (now (points .entry)) (now (cells .entry)) .grid .out ⌝ }
+    ensures { λ _. ⌜ now (cells .exit) ≡ mesh-tile-curves (now (bottom .entry)) (now (right .entry)) (now (top .entry)) (now (left .entry)) «n_u» «n_v» (now (points .entry)) (now (cells .entry)) .cells ⌝ }
+{
+    let made = mesh::tile::mesh_tile_curves(bottom, right, top, left, n_u, n_v, points, cells);
+    tell_grid(made, answer)
+}
+
+#[no_mangle]
+pub extern "C" fn juplatsk_coons_checked(
+    boundary: &[f64],
+    n_u: u32,
+    n_v: u32,
+    out: &mut [f64],
+    answer: &mut [u32; 3],
+) -> u32
+    ensures { λ r. ⌜ r ≡ coons-checked (now (boundary .entry)) «n_u» «n_v» (now (out .entry)) .verdict .number ⌝ }
+    ensures { λ _. ⌜ now (answer .exit) ≡ grid-told (coons-checked (now (boundary .entry)) «n_u» «n_v» (now (out .entry))) ⌝ }
+    ensures { λ _. ⌜ now (out .exit) ≡ coons-checked (now (boundary .entry)) «n_u» «n_v» (now (out .entry)) .out ⌝ }
+{
+    let made = mesh::tile::coons_checked(boundary, n_u, n_v, out);
+    tell_grid(made, answer)
+}
+
+#[no_mangle]
+pub extern "C" fn juplatsk_mesh_tile(
+    boundary: &[f64],
+    n_u: u32,
+    n_v: u32,
+    points: &mut [f64],
+    cells: &mut [u32],
+    answer: &mut [u32; 3],
+) -> u32
+    ensures { λ r. ⌜ r ≡ mesh-tile (now (boundary .entry)) «n_u» «n_v» (now (points .entry)) (now (cells .entry)) .grid .verdict .number ⌝ }
+    ensures { λ _. ⌜ now (answer .exit) ≡ grid-told (mesh-tile (now (boundary .entry)) «n_u» «n_v» (now (points .entry)) (now (cells .entry)) .grid) ⌝ }
+    ensures { λ _. ⌜ now (points .exit) ≡ mesh-tile (now (boundary .entry)) «n_u» «n_v» (now (points .entry)) (now (cells .entry)) .grid .out ⌝ }
+    ensures { λ _. ⌜ now (cells .exit) ≡ mesh-tile (now (boundary .entry)) «n_u» «n_v» (now (points .entry)) (now (cells .entry)) .cells ⌝ }
+{
+    let made = mesh::tile::mesh_tile(boundary, n_u, n_v, points, cells);
     tell_grid(made, answer)
 }
