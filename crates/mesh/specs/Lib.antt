@@ -1,2 +1,4 @@
 -- The definitions of the crate. Assumes nothing.
 pub mod Loop
+pub mod Mesh
+pub mod Tile
