@@ -217,21 +217,21 @@ fn roots() -> Cases {
     }
     // NaNs with other bits.
     values.extend([0x7FF0_0000_0000_0001, 0xFFF8_0000_0000_0000, 0xFFFF_FFFF_FFFF_FFFF].map(f64::from_bits));
-    // A power of two of each size below 1, its neighbours and four times that.
+    // Every subnormal power of two.
     for power in 0..52 {
         values.push(f64::from_bits(1 << power));
     }
     let mut dice = Dice(0x5EED_0011);
     for _ in 0..60 {
-        let root = f64::from(1 + dice.below(1 << 26));
-        let square = root * root;
-        values.extend([square, square.next_up(), square.next_down()]);
         let bits = u64::from(dice.below(1 << 31)) << 32 | u64::from(dice.below(1 << 31)) << 1;
         let any = f64::from_bits(bits & 0x7FFF_FFFF_FFFF_FFFF);
         values.extend([any, -any, f64::from_bits(bits & 0xF_FFFF_FFFF_FFFF)]);
-        // Next to a number halfway between two roots, where the rounding turns.
-        let half = f64::from_bits(0x3FF0_0000_0000_0000 + (bits & 0xF_FFFF_FFFF_FFFF));
-        values.extend([half * half, (half * half).next_up(), (half * half).next_down()]);
+        // Exact squares, and squares of numbers about halfway between two f64, where the rounding turns; each with its neighbours.
+        let whole = f64::from(1 + dice.below(1 << 26));
+        let root = f64::from_bits(1.0f64.to_bits() + (bits & 0xF_FFFF_FFFF_FFFF));
+        for square in [whole * whole, root * root + root * f64::EPSILON] {
+            values.extend([square, square.next_up(), square.next_down()]);
+        }
     }
     values.into_iter().map(grids::root).collect()
 }

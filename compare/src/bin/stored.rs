@@ -12,9 +12,6 @@ use std::{env, fs};
 /// Cases with more search entries than this would make the replay slow.
 const EFFORT: usize = 500_000;
 
-/// Operations that the replay does not run yet.
-const NOT_YET: [&str; 3] = ["coons_checked", "mesh_tile_curves", "mesh_tile"];
-
 fn main() -> ExitCode {
     match run() {
         Ok(()) => ExitCode::SUCCESS,
@@ -36,7 +33,6 @@ fn run() -> Result<(), String> {
     let generated = generate_geometry::all()?;
     println!("generated: {} of geometry", generated.len());
     cases.extend(generated);
-    cases.retain(|case| !NOT_YET.contains(&case.operation()));
     let (solver, geometry) = cases.into_iter().partition(Case::is_solver);
     write(&format!("{folder}/solver.cases"), distinct(solver)?)?;
     write(&format!("{folder}/geometry.cases"), distinct(geometry)?)

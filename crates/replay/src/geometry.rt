@@ -1,12 +1,13 @@
-// The operations of the root, of grids and of lay: as those of the solver. An output is lent as long as the case says, and compared whole
-// with what should be written to it and what should be left.
+// The operations of the root, of grids, of lay and of meshes: as those of the solver. An output is lent as long as the case says, and
+// compared whole with what should be written to it and what should be left.
 use crate::reading;
+use crate::reading::INPUT;
 use curves::coons::GridAnswer;
 use curves::root::RootAnswer;
 use verdict::Verdict;
 
-// The longest lists of any case: two records, 257 counts, 18 breaks, 1,025 points of a curve, 1,026 values of a seam. The
-// longest output has the quads of 1,025 by 2 cells.
+// The longest lists of any case: two records, 257 counts, 18 breaks, 1,025 points of a curve, 1,026 values of a seam, 4,098 points of a
+// loop. The longest outputs have the quads of 1,025 by 2 cells, and the points and the cells of a mesh of 1,024 by 1 with one value more.
 const PLACES: usize = 136;
 
 const EDGES: usize = 257;
@@ -17,10 +18,13 @@ const CURVE: usize = 2050;
 
 const SEAM: usize = 1026;
 
+const LOOP: usize = 8196;
+
 const QUADS: usize = 16400;
 
-// The first position behind the operation.
-const INPUT: usize = 4;
+const POINTS: usize = 6151;
+
+const CELLS: usize = 4097;
 
 struct RootResult {
     verdict: Verdict,
@@ -249,6 +253,53 @@ fn lay_region(
     is_grid(case, out_at, answer, out)
 }
 
+// Whether the rest of a case of a mesh, from the lengths of its outputs on, is this answer and these outputs.
+fn is_mesh(
+    case: &[u8],
+    points_at: usize,
+    answer: GridAnswer,
+    points: &[f64],
+    cells: &[u32],
+) -> bool {
+    let cells_at = reading::past_number(points_at);
+    let answer_at = reading::past_number(cells_at);
+    if !is_answer(case, answer_at, answer) {
+        return false;
+    }
+    let nodes_at = past_answer(answer_at);
+    if !reading::is_written_floats(case, points_at, nodes_at, points) {
+        return false;
+    }
+    let indices_at = reading::past_floats(case, nodes_at);
+    if !reading::is_written_numbers(case, cells_at, indices_at, cells) {
+        return false;
+    }
+    reading::is_end(case, reading::past_numbers(case, indices_at))
+}
+
+fn mesh_tile_curves(
+    case: &[u8],
+    at: usize,
+    bottom: &[f64],
+    right: &[f64],
+    top: &[f64],
+    left: &[f64],
+) -> bool {
+    let n_v_at = reading::past_number(at);
+    let points_at = reading::past_number(n_v_at);
+    let cells_at = reading::past_number(points_at);
+    let n_u = reading::number(case, at);
+    let n_v = reading::number(case, n_v_at);
+    let mut points_space = [0.0; POINTS];
+    let mut cells_space = [0u32; CELLS];
+    let p = reading::lend_floats(case, points_at, &mut points_space);
+    let c = reading::lend_numbers(case, cells_at, &mut cells_space);
+    let points = &mut points_space[..p];
+    let cells = &mut cells_space[..c];
+    let answer = mesh::tile::mesh_tile_curves(bottom, right, top, left, n_u, n_v, points, cells);
+    is_mesh(case, points_at, answer, points, cells)
+}
+
 // An operation on four curves; they are the first of its lists.
 pub(crate) fn on_curves(operation: usize, case: &[u8]) -> bool {
     let mut bottom = [0.0; CURVE];
@@ -287,6 +338,48 @@ fn between(
         7 => from_parameters(case, at, bottom, right, top, left),
         8 => even(case, at, bottom, right, top, left),
         9 => lay(case, at, bottom, right, top, left),
+        11 => mesh_tile_curves(case, at, bottom, right, top, left),
+        _ => false,
+    }
+}
+
+fn coons_checked(case: &[u8], at: usize, boundary: &[f64]) -> bool {
+    let n_v_at = reading::past_number(at);
+    let out_at = reading::past_number(n_v_at);
+    let n_u = reading::number(case, at);
+    let n_v = reading::number(case, n_v_at);
+    let mut space = [0.0; QUADS];
+    let n = reading::lend_floats(case, out_at, &mut space);
+    let out = &mut space[..n];
+    let answer = mesh::tile::coons_checked(boundary, n_u, n_v, out);
+    is_grid(case, out_at, answer, out)
+}
+
+fn mesh_tile(case: &[u8], at: usize, boundary: &[f64]) -> bool {
+    let n_v_at = reading::past_number(at);
+    let points_at = reading::past_number(n_v_at);
+    let cells_at = reading::past_number(points_at);
+    let n_u = reading::number(case, at);
+    let n_v = reading::number(case, n_v_at);
+    let mut points_space = [0.0; POINTS];
+    let mut cells_space = [0u32; CELLS];
+    let p = reading::lend_floats(case, points_at, &mut points_space);
+    let c = reading::lend_numbers(case, cells_at, &mut cells_space);
+    let points = &mut points_space[..p];
+    let cells = &mut cells_space[..c];
+    let answer = mesh::tile::mesh_tile(boundary, n_u, n_v, points, cells);
+    is_mesh(case, points_at, answer, points, cells)
+}
+
+// An operation on a loop; it is the first of its lists.
+pub(crate) fn on_loop(operation: usize, case: &[u8]) -> bool {
+    let mut space = [0.0; LOOP];
+    let n = reading::floats(case, INPUT, &mut space);
+    let at = reading::past_floats(case, INPUT);
+    let boundary = &space[..n];
+    match operation {
+        10 => coons_checked(case, at, boundary),
+        12 => mesh_tile(case, at, boundary),
         _ => false,
     }
 }

@@ -15,7 +15,7 @@ const MARK_LOW: u32 = 0x6c70_6572;
 const MARK_HIGH: u32 = 0x3120_7961;
 
 // Operations are numbered from 1; 0 stands for those that this program does not know.
-const OPERATIONS: usize = 10;
+const OPERATIONS: usize = 13;
 
 // Whether the functions do on this case what it says.
 fn agrees(operation: usize, case: &[u8]) -> bool {
@@ -26,13 +26,14 @@ fn agrees(operation: usize, case: &[u8]) -> bool {
         4 => solver::energy(case),
         5 => solver::hold(case),
         6 => geometry::root(case),
-        7 | 8 | 9 => geometry::on_curves(operation, case),
+        7 | 8 | 9 | 11 => geometry::on_curves(operation, case),
+        10 | 12 => geometry::on_loop(operation, case),
         _ => false,
     }
 }
 
 fn known(operation: u32) -> usize {
-    if operation < 10 {
+    if operation < 13 {
         operation as usize
     } else {
         0
@@ -177,5 +178,8 @@ fn main() {
     tell(b"coons_from_parameters", run[7], differ[7]);
     tell(b"coons_curves", run[8], differ[8]);
     tell(b"lay", run[9], differ[9]);
+    tell(b"coons_checked", run[10], differ[10]);
+    tell(b"mesh_tile_curves", run[11], differ[11]);
+    tell(b"mesh_tile", run[12], differ[12]);
     tell(b"other", run[0], differ[0]);
 }

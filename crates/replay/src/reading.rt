@@ -4,6 +4,9 @@ ghost use Prim.Native.Nat.{_<_, _≤_};
 ghost use Rattle.replay.specs.Counting.{Counts};
 use verdict::Verdict;
 
+// The first position behind the operation.
+pub(crate) const INPUT: usize = 4;
+
 // No case reaches this far.
 const FAR: usize = 1_000_000_000;
 // No list of a case is this long.
@@ -230,12 +233,32 @@ pub(crate) fn lend_floats(case: &[u8], at: usize, out: &mut [f64]) -> usize
     n
 }
 
+pub(crate) fn lend_numbers(case: &[u8], at: usize, out: &mut [u32]) -> usize
+    ensures { λ r. ⌜ Counts r (now (out .exit)) ⌝ }
+{
+    let n = least(list_length(case, at), out.len());
+    let mut i = 0;
+    while i < n {
+        out[i] = lent_number(i);
+        i += 1;
+    }
+    n
+}
+
 // Whether x is what an output with so many values written from `from` on should hold at index i.
 fn is_left_float(case: &[u8], from: usize, written: usize, i: usize, x: f64) -> bool {
     if i < written {
         is_float(case, from, x)
     } else {
         x == lent_float(i)
+    }
+}
+
+fn is_left_number(case: &[u8], from: usize, written: usize, i: usize, x: u32) -> bool {
+    if i < written {
+        number(case, from) == x
+    } else {
+        x == lent_number(i)
     }
 }
 
@@ -256,6 +279,27 @@ pub(crate) fn is_written_floats(case: &[u8], lent_at: usize, at: usize, values: 
             return false;
         }
         from = past_float(from);
+        i += 1;
+    }
+    true
+}
+
+pub(crate) fn is_written_numbers(case: &[u8], lent_at: usize, at: usize, values: &[u32]) -> bool {
+    let written = list_length(case, at);
+    if list_length(case, lent_at) != values.len() {
+        return false;
+    }
+    if written > values.len() {
+        return false;
+    }
+    let mut from = past_number(at);
+    let mut i = 0;
+    while i < values.len() {
+        let value = values[i];
+        if !is_left_number(case, from, written, i, value) {
+            return false;
+        }
+        from = past_number(from);
         i += 1;
     }
     true
