@@ -382,36 +382,16 @@ fn close_loop(
                             cut: state.cut,
                         };
                     }
-                    return SearchState {
-                        kept: state.kept,
-                        expansions: state.expansions,
-                        len: state.len,
-                        cut: state.cut,
-                    };
+                    return state;
                 }
                 _ => {
-                    return SearchState {
-                        kept: state.kept,
-                        expansions: state.expansions,
-                        len: state.len,
-                        cut: state.cut,
-                    };
+                    return state;
                 }
             }
         }
-        return SearchState {
-            kept: state.kept,
-            expansions: state.expansions,
-            len: state.len,
-            cut: state.cut,
-        };
+        return state;
     }
-    SearchState {
-        kept: state.kept,
-        expansions: state.expansions,
-        len: state.len,
-        cut: state.cut,
-    }
+    state
 }
 
 // ---- the search
@@ -679,12 +659,7 @@ pub(crate) fn run(
         state,
     );
     if second == 256 {
-        return SearchState {
-            kept: r.kept,
-            expansions: r.expansions,
-            len: r.len,
-            cut: r.cut,
-        };
+        return r;
     }
     let t = SearchState {
         kept: r.kept,
