@@ -133,11 +133,14 @@ try-step-entry-requires : (t : ℕ) → try-step-lts.Need-entry-requires (try-st
 try-step-entry-requires t c κs = search needs
 
 try-step-end-chain-requires : (t : ℕ) → try-step-lts.Need-end-chain-requires (try-step-calls t) (try-step-at t) try-step.Post
-try-step-end-chain-requires t c κs = let s = c .before .before .before .before .before .before .before .before .before .before in
-    (s .pre .1 .0, (s .pre .1 .1 .0, ((c .before .before .before .before .before .before .before .before .if1 .left, sym (c .before .before .before .before .before .before .before .is-allowed .ensures) ∙ c .before .before .before .before .before .before .if2 .taken, other-same (sym (c .before .before .before .if3 .taken) ∙ c .before .before .before .before .entry .ensures) (c .before .before .before .before .before .other-place .ensures .3)), s .pre .1 .1 .1)))
+try-step-end-chain-requires t c κs = let s = c .before .before .before .before .before .before .before .before .before in
+    let a = s .pre .1 .1 .0 .room in
+    (omega (arith, a), s .pre .1 .1 .0 .small, s .pre .1 .1 .0 .path-long, s .pre .1 .1 .1)
 
 try-step-returns-2 : (t : ℕ) → try-step-lts.Need-returns-2 (try-step-calls t) (try-step-at t) try-step.Post
-try-step-returns-2 t c = c .end-chain .ensures
+try-step-returns-2 t c = let s = c .before .before .before .before .before .before .before .before .before .before in
+    c .end-chain .ensures (s .args .regions .now) (s .args .incident .now) (s .args .own .now) (s .args .allowed .now) (s .args .used .now) (s .args .current) (s .args .ci) (s .pre .1 .0) (s .pre .1 .1 .0)
+    (c .before .before .before .before .before .before .before .before .if1 .left) (sym (c .before .before .before .before .before .before .before .is-allowed .ensures) ∙ c .before .before .before .before .before .before .if2 .taken) (other-same (sym (c .before .before .before .if3 .taken) ∙ c .before .before .before .before .entry .ensures) (c .before .before .before .before .before .other-place .ensures .3))
 
 try-step-is-used-requires : (t : ℕ) → try-step-lts.Need-is-used-requires (try-step-calls t) (try-step-at t) try-step.Post
 try-step-is-used-requires t c κs = let a = c .before .before .entry .ensures in let o = c .before .before .before .other-place .ensures .2 in (omega (arith, a, o), c .before .before .before .before .before .before .before .before .pre .1 .1 .0 .long)
@@ -170,8 +173,8 @@ try-step-element-write-path t c = let a = c .before .before .before .before .bef
 try-step-edge-cost-requires : (t : ℕ) → try-step-lts.Need-edge-cost-requires (try-step-calls t) (try-step-at t) try-step.Post
 try-step-edge-cost-requires t c κs = search needs
 
-try-step-add-t37 : (t : ℕ) → try-step-lts.Need-add-t37 (try-step-calls t) (try-step-at t) try-step.Post
-try-step-add-t37 t c = search needs
+try-step-add-t36 : (t : ℕ) → try-step-lts.Need-add-t36 (try-step-calls t) (try-step-at t) try-step.Post
+try-step-add-t36 t c = search needs
 
 try-step-add-dfs : (t : ℕ) → try-step-lts.Need-add-dfs (try-step-calls t) (try-step-at t) try-step.Post
 try-step-add-dfs t c = search needs
@@ -237,7 +240,7 @@ pub +dfs+try-step-spec : {M : Type 1} → statement M
     (try-step-mul-path t)
     (try-step-element-write-path t)
     (try-step-edge-cost-requires t)
-    (try-step-add-t37 t)
+    (try-step-add-t36 t)
     (try-step-add-dfs t)
     (try-step-dfs-requires t)
     (try-step-returns-5 t)
