@@ -354,26 +354,19 @@ fn close_loop(
     let change = wide(path[depth - 1]);
     if balances_with_start(regions, incident, own, place, change, start, home) {
         if cost < state.kept - 1e-12 {
-            match changed_in(regions, incident, own, place, path, depth) {
-                Changed::One(edge) => {
-                    if edge == start / 2 {
-                        keep_path(path, depth, best);
-                        let len = depth as u32;
-                        return SearchState {
-                            kept: cost,
-                            expansions: state.expansions,
-                            len,
-                            cut: state.cut,
-                        };
-                    }
-                    return state;
-                }
-                _ => {
-                    return state;
+            if let Changed::One(edge) = changed_in(regions, incident, own, place, path, depth) {
+                if edge == start / 2 {
+                    keep_path(path, depth, best);
+                    let len = depth as u32;
+                    return SearchState {
+                        kept: cost,
+                        expansions: state.expansions,
+                        len,
+                        cut: state.cut,
+                    };
                 }
             }
         }
-        return state;
     }
     state
 }
