@@ -300,24 +300,18 @@ fn end_chain(
             cut: true,
         };
     }
-    if home != 256 {
-        return SearchState {
-            kept: state.kept,
-            expansions: state.expansions + 1,
-            len: state.len,
-            cut: state.cut,
-        };
-    }
-    let c = cost + edge_cost(costs, change);
-    if c < state.kept - 1e-12 {
-        path[depth] = change as u16;
-        keep_path(path, depth + 1, best);
-        return SearchState {
-            kept: c,
-            expansions: state.expansions + 1,
-            len: (depth + 1) as u32,
-            cut: state.cut,
-        };
+    if home == 256 {
+        let c = cost + edge_cost(costs, change);
+        if c < state.kept - 1e-12 {
+            path[depth] = change as u16;
+            keep_path(path, depth + 1, best);
+            return SearchState {
+                kept: c,
+                expansions: state.expansions + 1,
+                len: (depth + 1) as u32,
+                cut: state.cut,
+            };
+        }
     }
     SearchState {
         kept: state.kept,
@@ -397,62 +391,61 @@ fn try_step(
     requires { ⌜ length (now best) ≡ 257 ⌝ }
     ensures { λ r. ⌜ Stepped (now (regions .entry)) (now (costs .entry)) (now (allowed .entry)) limit (now (used .entry)) (now (path .entry)) (now (best .entry)) depth current ci change cost state (now (used .exit)) (now (path .exit)) (now (best .exit)) r ⌝ }
 {
-    if change / 2 == current {
-        return state;
-    }
-    if is_allowed(allowed, change) {
-        let place = other_place(regions, incident, own, change / 2, ci);
-        let other = entry(incident, place);
-        if other == 256 {
+    if change / 2 != current {
+        if is_allowed(allowed, change) {
+            let place = other_place(regions, incident, own, change / 2, ci);
+            let other = entry(incident, place);
+            if other == 256 {
+                let t = SearchState {
+                    kept: state.kept,
+                    expansions: state.expansions,
+                    len: state.len,
+                    cut: state.cut,
+                };
+                return end_chain(costs, limit, path, best, depth, change, cost, home, t);
+            }
+            if is_used(used, other) {
+                return state;
+            }
+            if state.expansions >= limit {
+                return SearchState {
+                    kept: state.kept,
+                    expansions: state.expansions,
+                    len: state.len,
+                    cut: true,
+                };
+            }
+            path[depth] = change as u16;
+            let c = cost + edge_cost(costs, change);
             let t = SearchState {
                 kept: state.kept,
-                expansions: state.expansions,
+                expansions: state.expansions + 1,
                 len: state.len,
                 cut: state.cut,
             };
-            return end_chain(costs, limit, path, best, depth, change, cost, home, t);
-        }
-        if is_used(used, other) {
-            return state;
-        }
-        if state.expansions >= limit {
+            let r = dfs(
+                regions,
+                incident,
+                own,
+                costs,
+                allowed,
+                limit,
+                used,
+                path,
+                best,
+                depth + 1,
+                place,
+                c,
+                home,
+                t,
+            );
             return SearchState {
-                kept: state.kept,
-                expansions: state.expansions,
-                len: state.len,
-                cut: true,
+                kept: r.kept,
+                expansions: r.expansions,
+                len: r.len,
+                cut: r.cut,
             };
         }
-        path[depth] = change as u16;
-        let c = cost + edge_cost(costs, change);
-        let t = SearchState {
-            kept: state.kept,
-            expansions: state.expansions + 1,
-            len: state.len,
-            cut: state.cut,
-        };
-        let r = dfs(
-            regions,
-            incident,
-            own,
-            costs,
-            allowed,
-            limit,
-            used,
-            path,
-            best,
-            depth + 1,
-            place,
-            c,
-            home,
-            t,
-        );
-        return SearchState {
-            kept: r.kept,
-            expansions: r.expansions,
-            len: r.len,
-            cut: r.cut,
-        };
     }
     state
 }
