@@ -78,9 +78,12 @@ was-refused {c} {r} {v} e o =
     (q, sym (ap is-passed q) ∙ refusal-number r)
 
 -- a test that refuses is the whole chain
+pub chain-ends : {c : Check} {r : Refusal} {v : Verdict} (w : Verdict) → c ≡ Refused r → outcome c ≡ v → outcome c ≡ then-test v w
+chain-ends {c} {r} {v} w e o = o ∙ ap (λ (t : Bool). cond t w v) (sym (was-refused e o .1))
+
+-- the same, where the cause is handed on by itself
 pub chain-stops : {c : Check} {r : Refusal} {v : Verdict} (w : Verdict) → c ≡ Refused r → outcome c ≡ v → outcome (Refused r) ≡ then-test v w
-unfolding outcome
-chain-stops {c} {r} {v} w e o = let q = was-refused e o in q .0 ∙ ap (λ (t : Bool). cond t w v) (sym (q .1))
+chain-stops w e o = sym (ap outcome e) ∙ chain-ends w e o
 
 -- a test that is passed leaves the rest of the chain
 pub chain-goes-on : {c : Check} {v w : Verdict} → c ≡ Passed → outcome c ≡ v → w ≡ then-test v w

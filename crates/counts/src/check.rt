@@ -156,11 +156,13 @@ fn check_pair(a: &[u16], b: &[u16], n: usize, region: u32, first: u32) -> Check
     ensures { λ r. ⌜ outcome r ≡ pair-test n region first (first + 2) (now (a .entry)) (now (b .entry)) ⌝ }
 {
     let second = first + 2;
-    if let Check::Refused(r) = check_side(a, n, region, first) {
-        return Check::Refused(r);
+    let on_first = check_side(a, n, region, first);
+    if let Check::Refused(_) = on_first {
+        return on_first;
     }
-    if let Check::Refused(r) = check_side(b, n, region, second) {
-        return Check::Refused(r);
+    let on_second = check_side(b, n, region, second);
+    if let Check::Refused(_) = on_second {
+        return on_second;
     }
     if has_shared_edge(a, b) {
         return Check::Refused(Refusal::EdgeOnBothSides(region, first));
@@ -178,8 +180,9 @@ fn check_region(records: &[u16], n: usize, region: u32) -> Check
     let right = side(records, 1);
     let top = side(records, 2);
     let left = side(records, 3);
-    if let Check::Refused(r) = check_pair(bottom, top, n, region, 0) {
-        return Check::Refused(r);
+    let pair = check_pair(bottom, top, n, region, 0);
+    if let Check::Refused(_) = pair {
+        return pair;
     }
     check_pair(right, left, n, region, 1)
 }
@@ -194,8 +197,9 @@ pub(crate) fn check_pairs(regions: &[u16], n: usize) -> Check
     while r < m {
         let at = r * RECORD_SIZE;
         let region = r as u32;
-        if let Check::Refused(c) = check_region(&regions[at..], n, region) {
-            return Check::Refused(c);
+        let record = check_region(&regions[at..], n, region);
+        if let Check::Refused(_) = record {
+            return record;
         }
         r += 1;
     }
@@ -211,8 +215,9 @@ fn check_values(counts: &[u32], ideals: &[f64]) -> Check
     if counts.len() != ideals.len() {
         return Check::Refused(Refusal::LengthsDiffer);
     }
-    if let Check::Refused(r) = check_ideals(ideals) {
-        return Check::Refused(r);
+    let of_ideals = check_ideals(ideals);
+    if let Check::Refused(_) = of_ideals {
+        return of_ideals;
     }
     check_counts(counts)
 }
@@ -222,18 +227,21 @@ pub(crate) fn check_round(regions: &[u16], ideals: &[f64], counts: &[u32], limit
     ensures { λ r. ⌜ outcome r ≡ round-test-head places (now (regions .entry)) (now (ideals .entry)) (now (counts .entry)) limit ⌝ }
 {
     let n = ideals.len();
-    if let Check::Refused(r) = check_limits(regions, n) {
-        return Check::Refused(r);
+    let by_ideals = check_limits(regions, n);
+    if let Check::Refused(_) = by_ideals {
+        return by_ideals;
     }
     let m = counts.len();
-    if let Check::Refused(r) = check_limits(regions, m) {
-        return Check::Refused(r);
+    let by_counts = check_limits(regions, m);
+    if let Check::Refused(_) = by_counts {
+        return by_counts;
     }
     if limit > MAX_LIMIT {
         return Check::Refused(Refusal::LimitTooLarge);
     }
-    if let Check::Refused(r) = check_values(counts, ideals) {
-        return Check::Refused(r);
+    let values = check_values(counts, ideals);
+    if let Check::Refused(_) = values {
+        return values;
     }
     check_pairs(regions, n)
 }
@@ -243,14 +251,16 @@ pub(crate) fn check_solve(regions: &[u16], ideals: &[f64], room: usize) -> Check
     ensures { λ r. ⌜ outcome r ≡ solve-test-head places (now (regions .entry)) (now (ideals .entry)) room ⌝ }
 {
     let n = ideals.len();
-    if let Check::Refused(r) = check_limits(regions, n) {
-        return Check::Refused(r);
+    let by_ideals = check_limits(regions, n);
+    if let Check::Refused(_) = by_ideals {
+        return by_ideals;
     }
     if room < n {
         return Check::Refused(Refusal::OutputTooShort);
     }
-    if let Check::Refused(r) = check_ideals(ideals) {
-        return Check::Refused(r);
+    let values = check_ideals(ideals);
+    if let Check::Refused(_) = values {
+        return values;
     }
     check_pairs(regions, n)
 }
@@ -269,11 +279,13 @@ fn check_edges(n: usize) -> Check
 pub(crate) fn check_energy(counts: &[u32], ideals: &[f64]) -> Check
     ensures { λ r. ⌜ outcome r ≡ energy-test (now (counts .entry)) (now (ideals .entry)) ⌝ }
 {
-    if let Check::Refused(r) = check_edges(ideals.len()) {
-        return Check::Refused(r);
+    let by_ideals = check_edges(ideals.len());
+    if let Check::Refused(_) = by_ideals {
+        return by_ideals;
     }
-    if let Check::Refused(r) = check_edges(counts.len()) {
-        return Check::Refused(r);
+    let by_counts = check_edges(counts.len());
+    if let Check::Refused(_) = by_counts {
+        return by_counts;
     }
     check_values(counts, ideals)
 }

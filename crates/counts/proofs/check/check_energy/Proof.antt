@@ -9,48 +9,48 @@ use Rattle.counts.specs.Region.{places}
 use Rattle.counts.specs.Accept.{limits-test, values-test}
 use Rattle.counts.specs.Solver.{energy-test}
 use Rattle.counts.proofs.AcceptLaws.{limits-passed}
-use Rattle.counts.proofs.RefusalLaws.{chain-stops, chain-goes-on, was-passed}
+use Rattle.counts.proofs.RefusalLaws.{chain-ends, chain-goes-on, was-passed}
 use Rattle.counts.proofs.check.check_energy.Statement.{statement}
 use Rattle.counts.proofs.check.check_energy.Tie as tie
 
 check-edges-requires : tie.Need-check-edges-requires
 check-edges-requires c κs = search needs
 
-enum-known-r : tie.Need-enum-known-r
-enum-known-r c = search needs
+enum-told : tie.Need-enum-told
+enum-told c = search needs
 
 returns : tie.Need-returns
 unfolding energy-test
 returns c =
-    let xs = now (c .before .before .before .before .before .before .args .counts) in
-    let ys = now (c .before .before .before .before .before .before .args .ideals) in
-    chain-stops (then-test (limits-test places (length xs) []) (values-test xs ys)) (c .before .r .given .1) (c .before .before .before .check-edges .ensures)
+    let xs = now (c .before .before .before .before .before .args .counts) in
+    let ys = now (c .before .before .before .before .before .args .ideals) in
+    chain-ends (then-test (limits-test places (length xs) []) (values-test xs ys)) (c .enum-told .given .1) (c .before .before .check-edges .ensures)
 
-enum-told : tie.Need-enum-told
-enum-told c = search needs
+enum-told-2 : tie.Need-enum-told-2
+enum-told-2 c = search needs
 
 check-edges-requires-2 : tie.Need-check-edges-requires-2
 check-edges-requires-2 c κs = search needs
 
-enum-known-r-2 : tie.Need-enum-known-r-2
-enum-known-r-2 c = search needs
+enum-told-3 : tie.Need-enum-told-3
+enum-told-3 c = search needs
 
 returns-2 : tie.Need-returns-2
 unfolding energy-test
 returns-2 c =
-    let xs = now (c .before .before .before .before .before .before .before .before .before .args .counts) in
-    let ys = now (c .before .before .before .before .before .before .before .before .before .args .ideals) in
-    chain-stops (values-test xs ys) (c .before .r2 .given .1) (c .before .before .before .check-edges2 .ensures)
-    ∙ chain-goes-on (c .before .before .before .before .enum-told .given .1) (c .before .before .before .before .before .before .check-edges .ensures)
+    let xs = now (c .before .before .before .before .before .before .before .before .args .counts) in
+    let ys = now (c .before .before .before .before .before .before .before .before .args .ideals) in
+    chain-ends (values-test xs ys) (c .enum-told3 .given .1) (c .before .before .check-edges2 .ensures)
+    ∙ chain-goes-on (c .before .before .before .enum-told2 .given .1) (c .before .before .before .before .before .check-edges .ensures)
 
-enum-told-2 : tie.Need-enum-told-2
-enum-told-2 c = search needs
+enum-told-4 : tie.Need-enum-told-4
+enum-told-4 c = search needs
 
 check-values-requires : tie.Need-check-values-requires
 check-values-requires c κs =
     let xs = now (c .before .before .before .before .before .before .before .before .args .counts) in
     let ys = now (c .before .before .before .before .before .before .before .before .args .ideals) in
-    (limits-passed (length xs) [] (was-passed (c .enum-told2 .given .1) (c .before .before .check-edges2 .ensures)) .0, limits-passed (length ys) [] (was-passed (c .before .before .before .enum-told .given .1) (c .before .before .before .before .before .check-edges .ensures)) .0)
+    (limits-passed (length xs) [] (was-passed (c .enum-told4 .given .1) (c .before .before .check-edges2 .ensures)) .0, limits-passed (length ys) [] (was-passed (c .before .before .before .enum-told2 .given .1) (c .before .before .before .before .before .check-edges .ensures)) .0)
 
 returns-3 : tie.Need-returns-3
 unfolding energy-test
@@ -58,20 +58,20 @@ returns-3 c =
     let xs = now (c .before .before .before .before .before .before .before .before .before .args .counts) in
     let ys = now (c .before .before .before .before .before .before .before .before .before .args .ideals) in
     c .check-values .ensures
-    ∙ chain-goes-on (c .before .enum-told2 .given .1) (c .before .before .before .check-edges2 .ensures)
-    ∙ chain-goes-on (c .before .before .before .before .enum-told .given .1) (c .before .before .before .before .before .before .check-edges .ensures)
+    ∙ chain-goes-on (c .before .enum-told4 .given .1) (c .before .before .before .check-edges2 .ensures)
+    ∙ chain-goes-on (c .before .before .before .before .enum-told2 .given .1) (c .before .before .before .before .before .before .check-edges .ensures)
 
 pub check-energy-spec : {M : Type 1} → statement M
 check-energy-spec =
     tie.close
     (tie.spec
     check-edges-requires
-    enum-known-r
-    returns
     enum-told
-    check-edges-requires-2
-    enum-known-r-2
-    returns-2
+    returns
     enum-told-2
+    check-edges-requires-2
+    enum-told-3
+    returns-2
+    enum-told-4
     check-values-requires
     returns-3)

@@ -11,7 +11,7 @@ use Rattle.counts.specs.Refusal.{outcome}
 use Rattle.counts.specs.Region.{places}
 use Rattle.counts.specs.Accept.{sides-fit, region-test, pairs-test}
 use Rattle.counts.proofs.AcceptLaws.{whole-few, whole-sides, rest, sides-now, sides-after, pairs-turn, pairs-end}
-use Rattle.counts.proofs.RefusalLaws.{chain-stops, chain-goes-on}
+use Rattle.counts.proofs.RefusalLaws.{chain-ends, chain-goes-on}
 use Rattle.counts.proofs.check.check_pairs.Statement.{statement}
 use Rattle.counts.proofs.check.check_pairs.Tie as tie
 
@@ -55,23 +55,23 @@ check-region-requires c κs =
     let r = c .before .before .loop .r in
     simp (rest (r * 68) l) (simp length-drop (omega arith), sides-now m r l (c .before .loop-test .taken) (c .before .before .loop .inv .1))
 
-enum-known-c : tie.Need-enum-known-c Inv-loop μ-loop
-enum-known-c c = search needs
+enum-told : tie.Need-enum-told Inv-loop μ-loop
+enum-told c = search needs
 
 returns : tie.Need-returns Inv-loop μ-loop
 returns c =
-    let a = c .before .before .before .before .before .before .before .before .args in
+    let a = c .before .before .before .before .before .before .before .args in
     let l = now (a .regions) in
     let m : ℕ = length l / 68 in
-    let r = c .before .before .before .before .before .before .loop .r in
-    let p : outcome (c .before .before .before .check-region .result) ≡ region-test places (a .n) r (drop (r * 68) l) = simp (rest (r * 68) l) at (c .before .before .before .check-region .ensures) in
+    let r = c .before .before .before .before .before .loop .r in
+    let p : outcome (c .before .before .check-region .result) ≡ region-test places (a .n) r (drop (r * 68) l) = simp (rest (r * 68) l) at (c .before .before .check-region .ensures) in
     let v = region-test places (a .n) r (drop (r * 68) l) in
     let w = pairs-test places (a .n) (r + 1) (m - (r + 1)) (drop ((r + 1) * 68) l) in
-    chain-stops w (c .before .c .given .1) p
-    ∙ sym (c .before .before .before .before .before .before .loop .inv .2 ∙ pairs-turn m r l (c .before .before .before .before .before .loop-test .taken) (a .n))
+    chain-ends w (c .enum-told .given .1) p
+    ∙ sym (c .before .before .before .before .before .loop .inv .2 ∙ pairs-turn m r l (c .before .before .before .before .loop-test .taken) (a .n))
 
-enum-told : tie.Need-enum-told Inv-loop μ-loop
-enum-told c = search needs
+enum-told-2 : tie.Need-enum-told-2 Inv-loop μ-loop
+enum-told-2 c = search needs
 
 add-r : tie.Need-add-r Inv-loop μ-loop
 add-r c = omega arith
@@ -88,7 +88,7 @@ loop-again c =
     let p : outcome (c .before .before .check-region .result) ≡ region-test places (a .n) r (drop (r * 68) l) = simp (rest (r * 68) l) at (c .before .before .check-region .ensures) in
     let v = region-test places (a .n) r (drop (r * 68) l) in
     let w = pairs-test places (a .n) (r + 1) (m - (r + 1)) (drop ((r + 1) * 68) l) in
-    (omega arith, sides-after m r l (c .before .before .before .before .loop-test .taken) (c .before .before .before .before .before .loop .inv .1), c .before .before .before .before .before .loop .inv .2 ∙ pairs-turn m r l (c .before .before .before .before .loop-test .taken) (a .n) ∙ sym (chain-goes-on (c .enum-told .given .1) p))
+    (omega arith, sides-after m r l (c .before .before .before .before .loop-test .taken) (c .before .before .before .before .before .loop .inv .1), c .before .before .before .before .before .loop .inv .2 ∙ pairs-turn m r l (c .before .before .before .before .loop-test .taken) (a .n) ∙ sym (chain-goes-on (c .enum-told2 .given .1) p))
 
 returns-2 : tie.Need-returns-2 Inv-loop μ-loop
 unfolding outcome
@@ -113,9 +113,9 @@ check-pairs-spec =
     part-check-region-start
     part-check-region-end
     check-region-requires
-    enum-known-c
-    returns
     enum-told
+    returns
+    enum-told-2
     add-r
     loop-less
     loop-again

@@ -5,7 +5,7 @@ use borrow.Author.Needs.{needs}
 use denote.Ref.{now}
 use Rattle.counts.specs.Region.{places, side}
 use Rattle.counts.specs.Accept.{pair-test}
-use Rattle.counts.proofs.RefusalLaws.{chain-stops, chain-goes-on}
+use Rattle.counts.proofs.RefusalLaws.{chain-ends, chain-goes-on}
 use Rattle.counts.proofs.check.check_region.Statement.{statement}
 use Rattle.counts.proofs.check.check_region.Tie as tie
 
@@ -24,20 +24,20 @@ side-requires-4 c κs = search needs
 check-pair-requires : tie.Need-check-pair-requires
 check-pair-requires c κs = search needs
 
-enum-known-r : tie.Need-enum-known-r
-enum-known-r c = search needs
+enum-told : tie.Need-enum-told
+enum-told c = search needs
 
 returns : tie.Need-returns
 returns c =
-    let a = c .before .before .before .before .before .before .before .before .before .args in
+    let a = c .before .before .before .before .before .before .before .before .args in
     let l = now (a .records) in
     let v = pair-test (a .n) (a .region) 0 2 (side places l 0) (side places l 2) in
     let w = pair-test (a .n) (a .region) 1 3 (side places l 1) (side places l 3) in
-    let p : outcome (c .before .before .before .check-pair .result) ≡ v = simp (c .before .before .before .before .before .before .before .side .ensures, c .before .before .before .before .before .side3 .ensures) at (c .before .before .before .check-pair .ensures) in
-    chain-stops w (c .before .r .given .1) p
+    let p : outcome (c .before .before .check-pair .result) ≡ v = simp (c .before .before .before .before .before .before .side .ensures, c .before .before .before .before .side3 .ensures) at (c .before .before .check-pair .ensures) in
+    chain-ends w (c .enum-told .given .1) p
 
-enum-told : tie.Need-enum-told
-enum-told c = search needs
+enum-told-2 : tie.Need-enum-told-2
+enum-told-2 c = search needs
 
 check-pair-requires-2 : tie.Need-check-pair-requires-2
 check-pair-requires-2 c κs = search needs
@@ -50,7 +50,7 @@ returns-2 c =
     let w = pair-test (a .n) (a .region) 1 3 (side places l 1) (side places l 3) in
     let p : outcome (c .before .before .before .check-pair .result) ≡ v = simp (c .before .before .before .before .before .before .before .side .ensures, c .before .before .before .before .before .side3 .ensures) at (c .before .before .before .check-pair .ensures) in
     (simp (c .before .before .before .before .before .before .side2 .ensures, c .before .before .before .before .side4 .ensures) at (c .check-pair2 .ensures))
-    ∙ chain-goes-on (c .before .enum-told .given .1) p
+    ∙ chain-goes-on (c .before .enum-told2 .given .1) p
 
 pub check-region-spec : {M : Type 1} → statement M
 check-region-spec =
@@ -61,8 +61,8 @@ check-region-spec =
     side-requires-3
     side-requires-4
     check-pair-requires
-    enum-known-r
-    returns
     enum-told
+    returns
+    enum-told-2
     check-pair-requires-2
     returns-2)

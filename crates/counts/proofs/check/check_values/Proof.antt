@@ -7,7 +7,7 @@ use denote.Ref.{now}
 use lib.ListN.{length}
 use Rattle.counts.specs.Refusal.{outcome, verdict-of, then-test, refuse-if, refused}
 use Rattle.counts.specs.Accept.{ideals-test, counts-test}
-use Rattle.counts.proofs.RefusalLaws.{chain-stops, chain-goes-on}
+use Rattle.counts.proofs.RefusalLaws.{chain-ends, chain-goes-on}
 use Rattle.counts.proofs.check.check_values.Statement.{statement}
 use Rattle.counts.proofs.check.check_values.Tie as tie
 
@@ -21,18 +21,18 @@ returns c =
 check-ideals-requires : tie.Need-check-ideals-requires
 check-ideals-requires c κs = search needs
 
-enum-known-r : tie.Need-enum-known-r
-enum-known-r c = search needs
+enum-told : tie.Need-enum-told
+enum-told c = search needs
 
 returns-2 : tie.Need-returns-2
 returns-2 c =
-    let xs = now (c .before .before .before .before .before .before .before .args .counts) in
-    let ys = now (c .before .before .before .before .before .before .before .args .ideals) in
-    chain-stops (counts-test xs) (c .before .r .given .1) (c .before .before .before .check-ideals .ensures)
-    ∙ ap (λ (b : Bool). then-test (refuse-if (not b) (refused 8 0 0)) (then-test (ideals-test ys) (counts-test xs))) (sym (eq-eqb (length xs) (length ys) (c .before .before .before .before .if1 .left)))
+    let xs = now (c .before .before .before .before .before .before .args .counts) in
+    let ys = now (c .before .before .before .before .before .before .args .ideals) in
+    chain-ends (counts-test xs) (c .enum-told .given .1) (c .before .before .check-ideals .ensures)
+    ∙ ap (λ (b : Bool). then-test (refuse-if (not b) (refused 8 0 0)) (then-test (ideals-test ys) (counts-test xs))) (sym (eq-eqb (length xs) (length ys) (c .before .before .before .if1 .left)))
 
-enum-told : tie.Need-enum-told
-enum-told c = search needs
+enum-told-2 : tie.Need-enum-told-2
+enum-told-2 c = search needs
 
 check-counts-requires : tie.Need-check-counts-requires
 check-counts-requires c κs = search needs
@@ -42,7 +42,7 @@ returns-3 c =
     let xs = now (c .before .before .before .before .before .before .before .args .counts) in
     let ys = now (c .before .before .before .before .before .before .before .args .ideals) in
     c .check-counts .ensures
-    ∙ chain-goes-on (c .before .enum-told .given .1) (c .before .before .before .check-ideals .ensures)
+    ∙ chain-goes-on (c .before .enum-told2 .given .1) (c .before .before .before .check-ideals .ensures)
     ∙ ap (λ (b : Bool). then-test (refuse-if (not b) (refused 8 0 0)) (then-test (ideals-test ys) (counts-test xs))) (sym (eq-eqb (length xs) (length ys) (c .before .before .before .before .if1 .left)))
 
 pub check-values-spec : {M : Type 1} → statement M
@@ -51,8 +51,8 @@ check-values-spec =
     (tie.spec
     returns
     check-ideals-requires
-    enum-known-r
-    returns-2
     enum-told
+    returns-2
+    enum-told-2
     check-counts-requires
     returns-3)
