@@ -5,6 +5,8 @@
 // the sides ci / 2 * 4 + ci % 2 and, two further on, the opposite one.
 use crate::refusal::Check;
 use crate::refusal::Refusal;
+use crate::region::RECORD_SIZE;
+use crate::region::SIDE_SIZE;
 ghost use mathlib.Core.Path.{_≡_};
 ghost use mathlib.Core.List.{List, [], _∷_};
 ghost use Prim.Native.Nat.{ℕ, _≤_, _<_};
@@ -52,7 +54,7 @@ fn place_side(
     requires { ⌜ Sized (now incident) (now own) (now uses) × ((y : ℕ) → y < 256 → getD (now uses) y 0 ≤ 512) ⌝ }
     ensures { λ _. ⌜ Placed ci s (edges-of (now (regions .entry)) s) (now (incident .entry)) (now (own .entry)) (now (uses .entry)) (now (incident .exit)) (now (own .exit)) (now (uses .exit)) ⌝ }
 {
-    let start = s * 17;
+    let start = s * SIDE_SIZE;
     let count = regions[start] as usize;
     let mut j = 0;
     while j < count {
@@ -73,7 +75,7 @@ fn place_constraints(
     requires { ⌜ (now incident ≡ replicate 512 none) × (length (now own) ≡ 512) × (now uses ≡ replicate 256 0) ⌝ }
     ensures { λ _. ⌜ Filled (the-graph (now (regions .entry))) (the-graph (now (regions .entry))) (now (incident .exit)) (now (own .exit)) (now (uses .exit)) ⌝ }
 {
-    let m = regions.len() / 68 * 2;
+    let m = regions.len() / RECORD_SIZE * 2;
     let mut ci = 0;
     while ci < m {
         let s = ci / 2 * 4 + ci % 2;

@@ -8,7 +8,7 @@ pub(crate) const PLACES: u16 = 16;
 
 pub(crate) const SIDE_SIZE: usize = 17;
 
-pub(crate) const RECORD_SIZE: usize = 68;
+pub const RECORD_SIZE: usize = 68;
 
 // The edges of side k of the record that stands first: as many as there are, where the list ends before them.
 pub fn side<'a>(records: &'a [u16], k: u32) -> &'a [u16]

@@ -5,6 +5,7 @@
 // `home` is the constraint of the start's edge that is still open, 256 if there is none: only there can a loop close.
 // The state is handed over in fresh structs and not lent: a struct that a call is given as it stands lives in memory from then on, which makes the
 // search two to three times as slow.
+use crate::region::SIDE_SIZE;
 ghost use mathlib.Core.Logic.{_≢_};
 ghost use mathlib.Core.Path.{_≡_};
 ghost use mathlib.Core.Bool.{true, false};
@@ -143,12 +144,12 @@ fn sides_of(regions: &[u16], incident: &[u16; 512], own: &[u16; 512], place: usi
 {
     let here = entry(own, place);
     let there = opposite(here);
-    let split = number_at(regions, there * 17);
-    let count = number_at(regions, here * 17);
+    let split = number_at(regions, there * SIDE_SIZE);
+    let count = number_at(regions, here * SIDE_SIZE);
     Sides {
-        opposite: there * 17 + 1,
+        opposite: there * SIDE_SIZE + 1,
         split,
-        own: here * 17 + 1,
+        own: here * SIDE_SIZE + 1,
         total: split + count,
     }
 }

@@ -19,9 +19,8 @@ use crate::seam::side_seam;
 use counts::check::check_limits;
 use counts::refusal::Check;
 use counts::refusal::Refusal;
+use counts::region::RECORD_SIZE;
 use counts::region::side;
-
-const RECORD_SIZE: usize = 68;
 
 // 1: not just one record, or a limit exceeded; n is the number of counts.
 fn check_record(region: &[u16], n: usize) -> Check
