@@ -130,15 +130,15 @@ same-sign c d = go (c % 2) (d % 2) (let q : c % 2 < 2 = omega arith in q) (let q
     go (suc zero) (suc (suc b)) h h' = absurd (omega (arith, h'))
     go (suc (suc a)) b h h' = absurd (omega (arith, h))
 
-pub like-signs : (c d : ℕ) → eqb (c % 2) (d % 2) ≡ Bool·beq false (not (Bool·beq (eqb (c % 2) 1) (eqb (d % 2) 1)))
-like-signs c d = same-sign c d ∙ go (Bool·beq (eqb (c % 2) 1) (eqb (d % 2) 1))
+pub like-signs : (c d : ℕ) (b : Bool) → b ≡ false → eqb (c % 2) (d % 2) ≡ Bool·beq b (not (Bool·beq (eqb (c % 2) 1) (eqb (d % 2) 1)))
+like-signs c d b e = same-sign c d ∙ go (Bool·beq (eqb (c % 2) 1) (eqb (d % 2) 1)) ∙ ap (λ (k : Bool). Bool·beq k (not (Bool·beq (eqb (c % 2) 1) (eqb (d % 2) 1)))) (sym e)
   where
     go : (b : Bool) → b ≡ Bool·beq false (not b)
     go true = refl
     go false = refl
 
-pub unlike-signs : (c d : ℕ) → not (eqb (c % 2) (d % 2)) ≡ Bool·beq true (not (Bool·beq (eqb (c % 2) 1) (eqb (d % 2) 1)))
-unlike-signs c d = ap not (same-sign c d) ∙ go (Bool·beq (eqb (c % 2) 1) (eqb (d % 2) 1))
+pub unlike-signs : (c d : ℕ) (b : Bool) → b ≡ true → not (eqb (c % 2) (d % 2)) ≡ Bool·beq b (not (Bool·beq (eqb (c % 2) 1) (eqb (d % 2) 1)))
+unlike-signs c d b e = ap not (same-sign c d) ∙ go (Bool·beq (eqb (c % 2) 1) (eqb (d % 2) 1)) ∙ ap (λ (k : Bool). Bool·beq k (not (Bool·beq (eqb (c % 2) 1) (eqb (d % 2) 1)))) (sym e)
   where
     go : (b : Bool) → not b ≡ Bool·beq true (not b)
     go true = refl

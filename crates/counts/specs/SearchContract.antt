@@ -14,7 +14,7 @@ use Rattle.counts.specs.Lists.{any, each}
 use Rattle.counts.specs.Region.{Constraint, constraint, holds, own-side, opposite-side, incidence}
 use Rattle.counts.specs.Move.{Change, select}
 use Rattle.counts.specs.Search.{Go, Act, State, skip, turned-back, entered, record-path, differs, signed, others-changed, is-used, free, try-step, visit, dfs, run}
-use Rattle.counts.specs.Tables.{decoded, path-of, state-of, the-graph, cost-in, allowed-in, none}
+use Rattle.counts.specs.Tables.{decoded, path-of, state-of, the-graph, cost-in, allowed-in, none, Other, Tables}
 use Rattle.counts.specs.declared.search.SearchState.{SearchState}
 use Rattle.counts.specs.declared.search.Changed.{Changed}
 use Rattle.counts.specs.declared.search.Changed.the-variants.{Nothing, One, Many}
@@ -116,6 +116,12 @@ pub record Stepped (regions : List ℕ) (costs : List Float) (allowed : List Boo
   pub best-kept : length best' ≡ length best
   pub short : st .len ≤ 257 → r .len ≤ 257
   pub answer : state-of r best' ≡ try-partner-of regions costs allowed limit (getD path 0 0) (suc (free used)) used (path-of n path) e t i (decoded d) (state-of st best)
+
+-- the entry to an edge whose constraints are all used: a step, whatever tables and marks led there
+abbrev pub Ended : List Float → ℕ → List ℕ → List ℕ → ℕ → ℕ → Float → ℕ → SearchState → List ℕ → List ℕ → SearchState → Type 0
+Ended costs limit path best n d t home st path' best' r =
+    (regions incident own : List ℕ) (allowed used : List Bool) (e i : ℕ) → Tables regions incident own → MayStep (the-graph regions) used path n e i d home
+    → d / 2 ≢ e → getD allowed d false ≡ true → Other (the-graph regions) (d / 2) i none → Stepped regions costs allowed limit used path best n e i d t st used path' best' r
 
 -- ---- the whole search from one start
 

@@ -5,16 +5,15 @@ use crate::search::infinity;
 use crate::search::run;
 use crate::search::wide;
 ghost use mathlib.Core.Path.{_≡_};
-ghost use mathlib.Core.Bool.{true, false, _||_};
-ghost use Prim.Native.Nat.{ℕ, _+_, _*_, _/_, _%_, _≤_, _<_};
-ghost use lib.Dec.{T, eqb, ltb};
-ghost use lib.Ieee.{inf};
-ghost use lib.ListN.{length, getD, replicate};
+ghost use mathlib.Core.Bool.{false, _||_};
+ghost use Prim.Native.Nat.{_*_, _/_, _≤_, _<_};
+ghost use lib.Dec.{T, ltb};
+ghost use lib.ListN.{length, replicate};
 ghost use Rattle.counts.specs.Cost.{by-ideals};
 ghost use Rattle.counts.specs.Move.{changed, apply-changes as changed-counts};
-ghost use Rattle.counts.specs.Round.{improves as improves-on, find-augmentation as found-by};
-ghost use Rattle.counts.specs.Tables.{Tables, the-graph, cost-in, allowed-in, path-of};
-ghost use Rattle.counts.specs.RoundContract.{Buffers, SearchedFrom, Remembered, Recalled, AllKnown, FoundIn, Priced, CanApply, start-at, weighed as weighed-of, chosen, found-of};
+ghost use Rattle.counts.specs.Round.{improves as improves-on};
+ghost use Rattle.counts.specs.Tables.{Tables, path-of};
+ghost use Rattle.counts.specs.RoundContract.{Buffers, SearchedFrom, Remembered, Recalled, AllKnown, FoundIn, Priced, CanApply, start-at, weighed as weighed-of, chosen};
 
 const NO_START: usize = 512;
 

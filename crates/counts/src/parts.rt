@@ -3,7 +3,7 @@
 use crate::cost::set_costs;
 use crate::search::wide;
 ghost use mathlib.Core.Path.{_≡_};
-ghost use Prim.Native.Nat.{ℕ, _+_, _*_, _≤_, _<_};
+ghost use Prim.Native.Nat.{ℕ, _*_, _≤_, _<_};
 ghost use lib.ListN.{length, getD};
 ghost use Rattle.counts.specs.Tables.{none};
 ghost use Rattle.counts.specs.Parts.{Labels, StillEqual, OneMark, Taken, EdgeRefreshed, Refreshed, renamed as renamed-to};

@@ -8,7 +8,7 @@
 ghost use mathlib.Core.Logic.{_≢_};
 ghost use mathlib.Core.Path.{_≡_};
 ghost use mathlib.Core.Bool.{true, false};
-ghost use Prim.Native.Nat.{_+_, _-_, _*_, _/_, _%_, _≤_, _<_};
+ghost use Prim.Native.Nat.{_/_, _%_, _≤_, _<_};
 ghost use lib.ListN.{length, take, getD};
 ghost use lib.Dec.{T, eqb};
 ghost use lib.Ieee.{nan, inf};
@@ -17,7 +17,7 @@ ghost use Rattle.counts.specs.Region.{constraint, holds};
 ghost use Rattle.counts.specs.Move.{balances};
 ghost use Rattle.counts.specs.Search.{is-used, others-changed};
 ghost use Rattle.counts.specs.Tables.{decoded, path-of, the-graph, across, Other, Tables};
-ghost use Rattle.counts.specs.SearchContract.{both-sides, both-signed, changed-by, SidesAt, MayCross, MayStep, Crossed, Stepped, no-marks, fresh-state, Entered, CrossedAll, Searched};
+ghost use Rattle.counts.specs.SearchContract.{both-sides, both-signed, changed-by, SidesAt, MayCross, MayStep, Crossed, Stepped, Ended, no-marks, fresh-state, Entered, CrossedAll, Searched};
 
 // The kept cost and the length of the kept reading, how many entries there were, and whether one was turned back.
 pub struct SearchState {
@@ -215,16 +215,10 @@ fn balances_with_start(
     let start_place = place_in(regions, incident, own, start / 2, home);
     let start_first = on_first_side(regions, incident, own, start_place);
     let first = on_first_side(regions, incident, own, place);
-    if start_first {
-        if first {
-            return start % 2 != change % 2;
-        }
-        return start % 2 == change % 2;
+    if start_first == first {
+        return start % 2 != change % 2;
     }
-    if first {
-        return start % 2 == change % 2;
-    }
-    start % 2 != change % 2
+    start % 2 == change % 2
 }
 
 // The changed edges that the constraint at a place holds besides the place's own edge; left at the second one found.
@@ -285,28 +279,18 @@ fn keep_path(path: &[u16; 257], depth: usize, best: &mut [u16; 257])
 
 // The entry to an edge whose constraints are all used: a chain ends there, complete if the start has no open constraint.
 fn end_chain(
-    regions: &[u16],
-    incident: &[u16; 512],
-    own: &[u16; 512],
     costs: &[f64; 512],
-    allowed: &[bool; 512],
     limit: u32,
-    used: &[bool; 257],
     path: &mut [u16; 257],
     best: &mut [u16; 257],
     depth: usize,
-    current: usize,
     change: usize,
     cost: f64,
-    ci: usize,
     home: usize,
     state: SearchState,
 ) -> SearchState
-    requires { ⌜ Tables (now regions) (now incident) (now own) ⌝ }
-    requires { ⌜ MayStep (the-graph (now regions)) (now used) (now path) depth current ci change home ⌝ }
-    requires { ⌜ (change / 2 ≢ current) × (getD (now allowed) change false ≡ true) × Other (the-graph (now regions)) (change / 2) ci 256 ⌝ }
-    requires { ⌜ length (now best) ≡ 257 ⌝ }
-    ensures { λ r. ⌜ Stepped (now (regions .entry)) (now (costs .entry)) (now (allowed .entry)) limit (now (used .entry)) (now (path .entry)) (now (best .entry)) depth current ci change cost state (now (used .entry)) (now (path .exit)) (now (best .exit)) r ⌝ }
+    requires { ⌜ (depth < 257) × (change < 512) × (length (now path) ≡ 257) × (length (now best) ≡ 257) ⌝ }
+    ensures { λ r. ⌜ Ended (now (costs .entry)) limit (now (path .entry)) (now (best .entry)) depth change cost home state (now (path .exit)) (now (best .exit)) r ⌝ }
 {
     if state.expansions >= limit {
         return SearchState {
@@ -316,24 +300,18 @@ fn end_chain(
             cut: true,
         };
     }
-    if home != 256 {
-        return SearchState {
-            kept: state.kept,
-            expansions: state.expansions + 1,
-            len: state.len,
-            cut: state.cut,
-        };
-    }
-    let c = cost + edge_cost(costs, change);
-    if c < state.kept - 1e-12 {
-        path[depth] = change as u16;
-        keep_path(path, depth + 1, best);
-        return SearchState {
-            kept: c,
-            expansions: state.expansions + 1,
-            len: (depth + 1) as u32,
-            cut: state.cut,
-        };
+    if home == 256 {
+        let c = cost + edge_cost(costs, change);
+        if c < state.kept - 1e-12 {
+            path[depth] = change as u16;
+            keep_path(path, depth + 1, best);
+            return SearchState {
+                kept: c,
+                expansions: state.expansions + 1,
+                len: (depth + 1) as u32,
+                cut: state.cut,
+            };
+        }
     }
     SearchState {
         kept: state.kept,
@@ -370,26 +348,19 @@ fn close_loop(
     let change = wide(path[depth - 1]);
     if balances_with_start(regions, incident, own, place, change, start, home) {
         if cost < state.kept - 1e-12 {
-            match changed_in(regions, incident, own, place, path, depth) {
-                Changed::One(edge) => {
-                    if edge == start / 2 {
-                        keep_path(path, depth, best);
-                        let len = depth as u32;
-                        return SearchState {
-                            kept: cost,
-                            expansions: state.expansions,
-                            len,
-                            cut: state.cut,
-                        };
-                    }
-                    return state;
-                }
-                _ => {
-                    return state;
+            if let Changed::One(edge) = changed_in(regions, incident, own, place, path, depth) {
+                if edge == start / 2 {
+                    keep_path(path, depth, best);
+                    let len = depth as u32;
+                    return SearchState {
+                        kept: cost,
+                        expansions: state.expansions,
+                        len,
+                        cut: state.cut,
+                    };
                 }
             }
         }
-        return state;
     }
     state
 }
@@ -420,20 +391,39 @@ fn try_step(
     requires { ⌜ length (now best) ≡ 257 ⌝ }
     ensures { λ r. ⌜ Stepped (now (regions .entry)) (now (costs .entry)) (now (allowed .entry)) limit (now (used .entry)) (now (path .entry)) (now (best .entry)) depth current ci change cost state (now (used .exit)) (now (path .exit)) (now (best .exit)) r ⌝ }
 {
-    if change / 2 == current {
-        return state;
-    }
-    if is_allowed(allowed, change) {
-        let place = other_place(regions, incident, own, change / 2, ci);
-        let other = entry(incident, place);
-        if other == 256 {
+    if change / 2 != current {
+        if is_allowed(allowed, change) {
+            let place = other_place(regions, incident, own, change / 2, ci);
+            let other = entry(incident, place);
+            if other == 256 {
+                let t = SearchState {
+                    kept: state.kept,
+                    expansions: state.expansions,
+                    len: state.len,
+                    cut: state.cut,
+                };
+                return end_chain(costs, limit, path, best, depth, change, cost, home, t);
+            }
+            if is_used(used, other) {
+                return state;
+            }
+            if state.expansions >= limit {
+                return SearchState {
+                    kept: state.kept,
+                    expansions: state.expansions,
+                    len: state.len,
+                    cut: true,
+                };
+            }
+            path[depth] = change as u16;
+            let c = cost + edge_cost(costs, change);
             let t = SearchState {
                 kept: state.kept,
-                expansions: state.expansions,
+                expansions: state.expansions + 1,
                 len: state.len,
                 cut: state.cut,
             };
-            return end_chain(
+            let r = dfs(
                 regions,
                 incident,
                 own,
@@ -443,56 +433,19 @@ fn try_step(
                 used,
                 path,
                 best,
-                depth,
-                current,
-                change,
-                cost,
-                ci,
+                depth + 1,
+                place,
+                c,
                 home,
                 t,
             );
-        }
-        if is_used(used, other) {
-            return state;
-        }
-        if state.expansions >= limit {
             return SearchState {
-                kept: state.kept,
-                expansions: state.expansions,
-                len: state.len,
-                cut: true,
+                kept: r.kept,
+                expansions: r.expansions,
+                len: r.len,
+                cut: r.cut,
             };
         }
-        path[depth] = change as u16;
-        let c = cost + edge_cost(costs, change);
-        let t = SearchState {
-            kept: state.kept,
-            expansions: state.expansions + 1,
-            len: state.len,
-            cut: state.cut,
-        };
-        let r = dfs(
-            regions,
-            incident,
-            own,
-            costs,
-            allowed,
-            limit,
-            used,
-            path,
-            best,
-            depth + 1,
-            place,
-            c,
-            home,
-            t,
-        );
-        return SearchState {
-            kept: r.kept,
-            expansions: r.expansions,
-            len: r.len,
-            cut: r.cut,
-        };
     }
     state
 }

@@ -14,6 +14,7 @@ pub mod Patch
 pub mod Columns
 pub mod Quad
 pub mod Grid
+pub mod Rows
 pub mod Coons
 pub mod Lay
 pub mod Demand

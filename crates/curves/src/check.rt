@@ -7,8 +7,8 @@ use counts::refusal::Check;
 pub(crate) fn first_refused(first: Check, second: Check) -> Check
     ensures { λ r. ⌜ outcome r ≡ then-test (outcome first) (outcome second) ⌝ }
 {
-    if let Check::Refused(cause) = first {
-        return Check::Refused(cause);
+    if let Check::Refused(_) = first {
+        return first;
     }
     second
 }

@@ -1,6 +1,6 @@
 // The grid of a patch: its points row by row, the tests of its points and quads (23 to 25), and what is written of it.
 ghost use mathlib.Core.Path.{_≡_};
-ghost use mathlib.Core.Bool.{true};
+ghost use mathlib.Core.Bool.{true, cond};
 ghost use Prim.Native.Nat.{_+_, _*_, _≤_};
 ghost use lib.Dec.{T};
 ghost use lib.ListN.{length};
@@ -13,6 +13,8 @@ ghost use Rattle.curves.specs.Crossing.{logical-intersection};
 ghost use Rattle.curves.specs.Patch.{row-at};
 ghost use Rattle.curves.specs.Columns.{Holds, Table};
 ghost use Rattle.curves.specs.Grid.{mapped, row-of, row-points, row-test, seams, n-u, n-v, grid-of, grid-test, needed};
+ghost use Rattle.curves.specs.Quad.{zeros};
+ghost use Rattle.curves.specs.Rows.{Laid};
 ghost use Rattle.curves.specs.Coons.{filled};
 use crate::boundary::Ends;
 use crate::check::first_refused;
@@ -259,7 +261,8 @@ fn all_rising(lengths0: &[f64], lengths1: &[f64], lengths2: &[f64], lengths3: &[
     false
 }
 
-// The rows of a grid from the bottom. All points are tested before any quad is refused, so a quad's refusal waits for the end.
+// The rows of a grid from the bottom. All points are tested before any quad is refused, so a quad's refusal waits for the end. What a
+// refusal leaves of them in the output is still to be cleared.
 fn grid_rows(
     bottom: &[f64],
     lengths0: &[f64],
@@ -290,7 +293,7 @@ fn grid_rows(
     requires { ⌜ (2 ≤ length (now «bottom_u»)) × (length (now «bottom_u») ≤ 1025) × (length (now «bottom_u») ≡ length (now «top_u»)) × (2 ≤ length (now «left_v»)) × (length (now «left_v») ≤ 1025) × (length (now «left_v») ≡ length (now «right_v»)) ⌝ }
     requires { ⌜ needed layout (n-u (seams (now «bottom_u») (now «top_u») (now «left_v») (now «right_v»))) (n-v (seams (now «bottom_u») (now «top_u») (now «left_v») (now «right_v»))) ≤ length (now out) ⌝ }
     ensures { λ r. ⌜ outcome r ≡ grid-test (grid-of (boundary (curve (now (bottom .entry)) (now (lengths0 .entry))) (curve (now (right .entry)) (now (lengths1 .entry))) (curve (now (top .entry)) (now (lengths2 .entry))) (curve (now (left .entry)) (now (lengths3 .entry)))) (seams (now («bottom_u» .entry)) (now («top_u» .entry)) (now («left_v» .entry)) (now («right_v» .entry)))) (n-u (seams (now («bottom_u» .entry)) (now («top_u» .entry)) (now («left_v» .entry)) (now («right_v» .entry)))) (n-v (seams (now («bottom_u» .entry)) (now («top_u» .entry)) (now («left_v» .entry)) (now («right_v» .entry)))) ⌝ }
-    ensures { λ r. ⌜ now (out .exit) ≡ filled layout (grid-of (boundary (curve (now (bottom .entry)) (now (lengths0 .entry))) (curve (now (right .entry)) (now (lengths1 .entry))) (curve (now (top .entry)) (now (lengths2 .entry))) (curve (now (left .entry)) (now (lengths3 .entry)))) (seams (now («bottom_u» .entry)) (now («top_u» .entry)) (now («left_v» .entry)) (now («right_v» .entry)))) (n-u (seams (now («bottom_u» .entry)) (now («top_u» .entry)) (now («left_v» .entry)) (now («right_v» .entry)))) (n-v (seams (now («bottom_u» .entry)) (now («top_u» .entry)) (now («left_v» .entry)) (now («right_v» .entry)))) (now (out .entry)) .out ⌝ }
+    ensures { λ r. ⌜ Laid layout (grid-of (boundary (curve (now (bottom .entry)) (now (lengths0 .entry))) (curve (now (right .entry)) (now (lengths1 .entry))) (curve (now (top .entry)) (now (lengths2 .entry))) (curve (now (left .entry)) (now (lengths3 .entry)))) (seams (now («bottom_u» .entry)) (now («top_u» .entry)) (now («left_v» .entry)) (now («right_v» .entry)))) (n-u (seams (now («bottom_u» .entry)) (now («top_u» .entry)) (now («left_v» .entry)) (now («right_v» .entry)))) (n-v (seams (now («bottom_u» .entry)) (now («top_u» .entry)) (now («left_v» .entry)) (now («right_v» .entry)))) (now (out .entry)) (now (out .exit)) (outcome r) ⌝ }
 {
     let n = bottom_u.len() - 1;
     let m = left_v.len() - 1;
@@ -325,23 +328,30 @@ fn grid_rows(
             j,
             &mut high,
         );
-        if let Check::Refused(cause) = points {
-            let need = needed(layout, n, m);
-            clear(need, out);
-            return Check::Refused(cause);
+        if let Check::Refused(_) = points {
+            return points;
         }
-        let below = check_row(&low[..width], &high[..width], n, j);
+        let lower = &low[..width];
+        let upper = &high[..width];
+        let below = check_row(lower, upper, n, j);
         cells = first_refused(cells, below);
-        at = write_row(layout, &low[..width], &high[..width], n, j, at, out);
+        at = write_row(layout, lower, upper, n, j, at, out);
         low = high;
         j += 1;
     }
-    if let Check::Refused(cause) = cells {
-        let need = needed(layout, n, m);
-        clear(need, out);
-        return Check::Refused(cause);
+    cells
+}
+
+// Where the grid of n by m cells is refused, the needed output is cleared.
+fn clear_refused(answer: Check, layout: Layout, n: usize, m: usize, out: &mut [f64])
+    requires { ⌜ (n ≤ 1024) × (m ≤ 1024) × (needed layout n m ≤ length (now out)) ⌝ }
+    ensures { λ _. ⌜ now (out .exit) ≡ cond (is-passed (outcome answer)) (now (out .entry)) (splice (now (out .entry)) 0 (zeros (needed layout n m))) ⌝ }
+{
+    if let Check::Passed = answer {
+        return;
     }
-    Check::Passed
+    let need = needed(layout, n, m);
+    clear(need, out);
 }
 
 // The grid of a patch between the curves of sides 0 to 3, each with its table of lengths, and the ends b and t of bottom and top. A
@@ -387,7 +397,7 @@ pub(crate) fn coons_grid(
         &mut hints,
         &mut table,
     );
-    grid_rows(
+    let answer = grid_rows(
         bottom,
         lengths0,
         right,
@@ -407,5 +417,9 @@ pub(crate) fn coons_grid(
         right_v,
         layout,
         out,
-    )
+    );
+    let n = bottom_u.len() - 1;
+    let m = left_v.len() - 1;
+    clear_refused(answer, layout, n, m, out);
+    answer
 }

@@ -1,5 +1,6 @@
 // Lay: the grid of one region, given as just one record, from counts, breaks and curves.
 ghost use mathlib.Core.Path.{_≡_};
+ghost use mathlib.Core.Bool.{false, _||_};
 ghost use Prim.Native.Nat.{ℕ, _*_, _≤_};
 ghost use lib.ListN.{length, take};
 ghost use lib.Dec.{T, ltb};
@@ -153,6 +154,26 @@ fn lay_side(region: &[u16], counts: &[u32], k: u32, breaks: &[f64], out: &mut [f
     side_seam(breaks, &along[..n], out)
 }
 
+// Whether a seam has too many values, of the four numbers of them.
+fn any_too_long(bottom: usize, top: usize, left: usize, right: usize) -> bool
+    ensures { λ r. ⌜ r ≡ (ltb 1025 bottom || (ltb 1025 top || (ltb 1025 left || ltb 1025 right))) ⌝ }
+    ensures { λ r. ⌜ (r ≡ false → (bottom ≤ 1025) × (top ≤ 1025) × (left ≤ 1025) × (right ≤ 1025)) ⌝ }
+{
+    if bottom > MAX_SEAM {
+        return true;
+    }
+    if top > MAX_SEAM {
+        return true;
+    }
+    if left > MAX_SEAM {
+        return true;
+    }
+    if right > MAX_SEAM {
+        return true;
+    }
+    false
+}
+
 // The grid of one region: its seams from counts and breaks, then the grid of its curves by them.
 pub fn lay_region(
     region: &[u16],
@@ -191,16 +212,7 @@ pub fn lay_region(
     let n1 = lay_side(region, counts, 1, breaks1, &mut right_v);
     let n2 = lay_side(region, counts, 2, breaks2, &mut top_u);
     let n3 = lay_side(region, counts, 3, breaks3, &mut left_v);
-    if n0 > MAX_SEAM {
-        return GridAnswer::Refused(Refusal::Malformed);
-    }
-    if n2 > MAX_SEAM {
-        return GridAnswer::Refused(Refusal::Malformed);
-    }
-    if n3 > MAX_SEAM {
-        return GridAnswer::Refused(Refusal::Malformed);
-    }
-    if n1 > MAX_SEAM {
+    if any_too_long(n0, n2, n3, n1) {
         return GridAnswer::Refused(Refusal::Malformed);
     }
     coons_from_parameters(

@@ -1,24 +1,27 @@
 -- A grid row by row: its tests by the outcomes of the rows, and what the output is left with. Assumes nothing.
-use mathlib.Core.Path.{_≡_, refl, sym, ap, _∙_}
+use mathlib.Core.Path.{_≡_, refl, sym, ap, subst, _∙_}
+use mathlib.Core.Bool.{Bool, cond}
 use mathlib.Core.List.{List}
 use Prim.Native.Nat.{ℕ, _+_, _-_, _*_, _≤_, _<_}
 use native.Mathlib.Omega.{arith}
-use lib.ListN.{take}
+use lib.ListN.{length, take}
+use lib.Dec.{T}
 use lib.Ieee.{Float}
-use Rattle.counts.specs.Refusal.{Verdict, passed, outcome}
+use Rattle.counts.specs.Refusal.{Verdict, passed, outcome, is-passed}
 use Rattle.counts.specs.declared.refusal.Check.{Check}
 use Rattle.counts.specs.declared.refusal.Check.the-variants.{Passed, Refused}
 use Rattle.counts.specs.declared.refusal.Refusal.{Refusal}
-use Rattle.counts.proofs.RefusalLaws.{chain-stops, chain-goes-on}
-use Rattle.curves.specs.Lists.{splice}
+use Rattle.counts.proofs.RefusalLaws.{refusal-number, chain-stops, chain-goes-on}
+use Rattle.curves.specs.Lists.{cat, splice}
 use Rattle.curves.specs.Tests.{first-of}
 use Rattle.curves.specs.Quad.{zeros}
-use Rattle.curves.specs.Grid.{Row, Grid, row-points, row-test, points-test, quads-test, grid-test, grid-values, needed}
+use Rattle.curves.specs.Grid.{Row, Grid, row-points, row-test, points-test, quads-test, grid-test, grid-part, grid-values, needed}
+use Rattle.curves.specs.Rows.{Laid}
 use Rattle.curves.specs.Coons.{Outcome, refusal, filled}
 use Rattle.curves.specs.declared.grid.Layout.{Layout}
 use Rattle.curves.proofs.ListLaws.{take-splice}
 use Rattle.curves.proofs.TestLaws.{first-start, first-next, first-stops, first-done, follows, refuses}
-use Rattle.curves.proofs.rows.Laws.{length-row-points}
+use Rattle.curves.proofs.rows.Laws.{length-row-points, rows-written, rows-cleared}
 
 -- the front of the buffer that a row was written to
 pub row-part-read : (f : Row) (n : ℕ) (d xs : List Float) → xs ≡ splice d 0 (row-points f n) → take (2 * (n + 1)) xs ≡ row-points f n
@@ -39,23 +42,19 @@ module _ (f : Grid) (n m : ℕ) where
   pub rows-next : (j : ℕ) (c : Check) → RowsLeft j → j ≤ m → c ≡ Passed → outcome c ≡ row-test (f j) n → RowsLeft (j + 1)
   rows-next j c l h e o = l ∙ first-next row-tests j (m + 1) c (omega arith) e o
 
-  pub row-stops : (j : ℕ) (c : Check) (cause : Refusal) → RowsLeft j → j ≤ m → c ≡ Refused cause → outcome c ≡ row-test (f j) n → outcome (Refused cause) ≡ grid-test f n m
+  pub row-stops : (j : ℕ) (c : Check) (cause : Refusal) → RowsLeft j → j ≤ m → c ≡ Refused cause → outcome c ≡ row-test (f j) n → outcome c ≡ grid-test f n m
   unfolding grid-test
   row-stops j c cause l h e o =
       let q : outcome (Refused cause) ≡ points-test f n m = first-stops row-tests j (m + 1) c cause (omega arith) e o ∙ sym l in
-      chain-stops (quads-test f n m) refl q
+      ap outcome e ∙ chain-stops (quads-test f n m) refl q
 
   rows-passed : (j : ℕ) → RowsLeft j → m < j → outcome Passed ≡ points-test f n m
   unfolding outcome
   rows-passed j l h = first-done row-tests j (m + 1) (omega arith) ∙ sym l
 
-  pub cells-stop : (j : ℕ) (c : Check) (cause : Refusal) → RowsLeft j → m < j → c ≡ Refused cause → outcome c ≡ quads-test f n m → outcome (Refused cause) ≡ grid-test f n m
+  pub grid-told : (j : ℕ) (c : Check) → RowsLeft j → m < j → outcome c ≡ quads-test f n m → outcome c ≡ grid-test f n m
   unfolding grid-test
-  cells-stop j c cause l h e o = ap outcome (sym e) ∙ o ∙ chain-goes-on refl (rows-passed j l h)
-
-  pub grid-passes : (j : ℕ) (c : Check) → RowsLeft j → m < j → c ≡ Passed → outcome c ≡ quads-test f n m → outcome Passed ≡ grid-test f n m
-  unfolding grid-test
-  grid-passes j c l h e o = ap outcome (sym e) ∙ o ∙ chain-goes-on refl (rows-passed j l h)
+  grid-told j c l h o = o ∙ chain-goes-on refl (rows-passed j l h)
 
   module _ (layout : Layout) (d : List Float) where
     -- what `filled` comes to
@@ -65,10 +64,28 @@ module _ (f : Grid) (n m : ℕ) where
     abbrev pub no-grid : Verdict → Outcome
     no-grid = refusal (splice d 0 (zeros (needed layout n m)))
 
-    pub left-cleared : (last : List Float) (cause : Refusal) → outcome (Refused cause) ≡ grid-test f n m → last ≡ splice d 0 (zeros (needed layout n m)) → last ≡ filled layout f n m d .out
+    left-cleared : (last : List Float) (cause : Refusal) → outcome (Refused cause) ≡ grid-test f n m → last ≡ splice d 0 (zeros (needed layout n m)) → last ≡ filled layout f n m d .out
     unfolding filled
     left-cleared last cause o e = e ∙ ap (λ (x : Outcome). x .out) (refuses good-grid no-grid (Refused cause) cause (grid-test f n m) refl o)
 
-    pub left-filled : (last : List Float) → outcome Passed ≡ grid-test f n m → last ≡ splice d 0 (grid-values layout f n m) → last ≡ filled layout f n m d .out
+    left-filled : (last : List Float) → outcome Passed ≡ grid-test f n m → last ≡ splice d 0 (grid-values layout f n m) → last ≡ filled layout f n m d .out
     unfolding filled
     left-filled last o e = e ∙ ap (λ (x : Outcome). x .out) (follows good-grid no-grid Passed (grid-test f n m) refl o)
+
+    -- the rows that were laid before a refused one
+    pub laid-until : (j : ℕ) (out : List Float) (c : Check) (cause : Refusal) → c ≡ Refused cause → j ≤ m + 1 → out ≡ splice d 0 (cat (grid-part layout f n) 0 j) → Laid layout f n m d out (outcome c)
+    unfolding outcome
+    laid-until j out c cause e h o =
+        record { rows = j; up-to = h; all = λ t. absurd (subst T (ap is-passed (ap outcome e) ∙ refusal-number cause) t); written = o }
+
+    -- all rows laid
+    pub laid-all : (j : ℕ) (out : List Float) (c : Check) → m < j → j ≤ m + 1 → out ≡ splice d 0 (cat (grid-part layout f n) 0 j) → Laid layout f n m d out (outcome c)
+    laid-all j out c h k o = record { rows = j; up-to = k; all = λ t. omega arith; written = o }
+
+    -- what is left once a refusal has cleared the needed output
+    pub laid-filled : (c : Check) (out last : List Float) → outcome c ≡ grid-test f n m → Laid layout f n m d out (outcome c) → needed layout n m ≤ length d
+        → last ≡ cond (is-passed (outcome c)) out (splice out 0 (zeros (needed layout n m))) → last ≡ filled layout f n m d .out
+    unfolding outcome
+    laid-filled Passed out last o l r e = let a = l .all tt in left-filled last o (e ∙ rows-written f n layout d out m (l .rows) (l .written) (omega (arith, a)) (l .up-to))
+    laid-filled (Refused cause) out last o l r e =
+        left-cleared last cause o (rows-cleared f n layout d out last m (l .rows) (l .written) (l .up-to) r (e ∙ ap (λ (b : Bool). cond b out (splice out 0 (zeros (needed layout n m)))) (refusal-number cause)))

@@ -1,6 +1,6 @@
 -- Laws of lay: how long its seams are, its tests one by one, what they let by, and its answer by them. Assumes nothing.
 use mathlib.Core.Path.{_≡_, refl, sym, ap, subst, _∙_}
-use mathlib.Core.Bool.{Bool, true, false, not, cond}
+use mathlib.Core.Bool.{Bool, true, false, true≢false, not, _||_, cond}
 use mathlib.Core.List.{List, [], _∷_, _++_}
 use Prim.Native.Nat.{ℕ, zero, suc, _+_, _/_, _≤_, _<_}
 use native.Mathlib.Nat.{add-suc}
@@ -171,14 +171,26 @@ module _ (s : Seams) where
   limits b t l r =
       then-test (refuse-if b (refused 1 0 0)) (then-test (refuse-if t (refused 1 0 0)) (then-test (refuse-if l (refused 1 0 0)) (refuse-if r (refused 1 0 0))))
 
-  pub limits-by : (n0 n2 n3 n1 : ℕ) → n0 ≡ length (s .bottom) → n2 ≡ length (s .top) → n3 ≡ length (s .left) → n1 ≡ length (s .right)
-      → (b t l r : Bool) → ltb 1025 n0 ≡ b → ltb 1025 n2 ≡ t → ltb 1025 n3 ≡ l → ltb 1025 n1 ≡ r → limits b t l r ≡ seams-limit s
+  limits-by : (n0 n2 n3 n1 : ℕ) → n0 ≡ length (s .bottom) → n2 ≡ length (s .top) → n3 ≡ length (s .left) → n1 ≡ length (s .right)
+      → limits (ltb 1025 n0) (ltb 1025 n2) (ltb 1025 n3) (ltb 1025 n1) ≡ seams-limit s
   unfolding seams-limit seam-limit
-  limits-by n0 n2 n3 n1 e0 e2 e3 e1 b t l r f0 f2 f3 f1 =
-      ap (λ (x : Bool). limits x t l r) (sym f0 ∙ ap (ltb 1025) e0)
-      ∙ ap (λ (x : Bool). limits (ltb 1025 (length (s .bottom))) x l r) (sym f2 ∙ ap (ltb 1025) e2)
-      ∙ ap (λ (x : Bool). limits (ltb 1025 (length (s .bottom))) (ltb 1025 (length (s .top))) x r) (sym f3 ∙ ap (ltb 1025) e3)
-      ∙ ap (limits (ltb 1025 (length (s .bottom))) (ltb 1025 (length (s .top))) (ltb 1025 (length (s .left)))) (sym f1 ∙ ap (ltb 1025) e1)
+  limits-by n0 n2 n3 n1 e0 e2 e3 e1 =
+      ap (λ (x : ℕ). limits (ltb 1025 x) (ltb 1025 n2) (ltb 1025 n3) (ltb 1025 n1)) e0
+      ∙ ap (λ (x : ℕ). limits (ltb 1025 (length (s .bottom))) (ltb 1025 x) (ltb 1025 n3) (ltb 1025 n1)) e2
+      ∙ ap (λ (x : ℕ). limits (ltb 1025 (length (s .bottom))) (ltb 1025 (length (s .top))) (ltb 1025 x) (ltb 1025 n1)) e3
+      ∙ ap (λ (x : ℕ). limits (ltb 1025 (length (s .bottom))) (ltb 1025 (length (s .top))) (ltb 1025 (length (s .left))) (ltb 1025 x)) e1
+
+  some-limit : (b t l r : Bool) → (b || (t || (l || r))) ≡ true → refused 1 0 0 ≡ limits b t l r
+  some-limit true t l r h = refl
+  some-limit false true l r h = refl
+  some-limit false false true r h = refl
+  some-limit false false false true h = refl
+  some-limit false false false false h = absurd (true≢false (sym h))
+
+  -- one of the seams is too long
+  pub limit-passed : (n0 n2 n3 n1 : ℕ) → n0 ≡ length (s .bottom) → n2 ≡ length (s .top) → n3 ≡ length (s .left) → n1 ≡ length (s .right)
+      → (ltb 1025 n0 || (ltb 1025 n2 || (ltb 1025 n3 || ltb 1025 n1))) ≡ true → refused 1 0 0 ≡ seams-limit s
+  limit-passed n0 n2 n3 n1 e0 e2 e3 e1 h = some-limit (ltb 1025 n0) (ltb 1025 n2) (ltb 1025 n3) (ltb 1025 n1) h ∙ limits-by n0 n2 n3 n1 e0 e2 e3 e1
 
 -- ---- lay's answer, by its tests
 

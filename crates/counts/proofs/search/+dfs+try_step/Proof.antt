@@ -120,9 +120,6 @@ dfs-returns-2 t c = let s = c .before .before .before .before .before .before .b
     walk-ends _ _ _ _ _ _ _ _ _ _ _ _ _ _ _ _ _ _ _ _ _ _ _ _ _
     (s .pre .1 .0) (s .pre .1 .1 .0) (c .before .before .before .before .before .before .entry .ensures) (c .before .before .before .before .before .if1 .left) (c .before .before .before .wide .ensures .0) (omega (arith, n)) (c .before .before .sides-of .ensures) (c .before .loop .inv)
 
-try-step-returns : (t : ℕ) → try-step-lts.Need-returns (try-step-calls t) (try-step-at t) try-step.Post
-try-step-returns t c = step-back _ _ _ _ _ _ _ _ _ _ _ _ _ (c .if1 .taken)
-
 try-step-is-allowed-requires : (t : ℕ) → try-step-lts.Need-is-allowed-requires (try-step-calls t) (try-step-at t) try-step.Post
 try-step-is-allowed-requires t c κs = search needs
 
@@ -133,30 +130,33 @@ try-step-entry-requires : (t : ℕ) → try-step-lts.Need-entry-requires (try-st
 try-step-entry-requires t c κs = search needs
 
 try-step-end-chain-requires : (t : ℕ) → try-step-lts.Need-end-chain-requires (try-step-calls t) (try-step-at t) try-step.Post
-try-step-end-chain-requires t c κs = let s = c .before .before .before .before .before .before .before .before .before .before in
-    (s .pre .1 .0, (s .pre .1 .1 .0, ((c .before .before .before .before .before .before .before .before .if1 .left, sym (c .before .before .before .before .before .before .before .is-allowed .ensures) ∙ c .before .before .before .before .before .before .if2 .taken, other-same (sym (c .before .before .before .if3 .taken) ∙ c .before .before .before .before .entry .ensures) (c .before .before .before .before .before .other-place .ensures .3)), s .pre .1 .1 .1)))
+try-step-end-chain-requires t c κs = let s = c .before .before .before .before .before .before .before .before .before in
+    let a = s .pre .1 .1 .0 .room in
+    (omega (arith, a), s .pre .1 .1 .0 .small, s .pre .1 .1 .0 .path-long, s .pre .1 .1 .1)
 
-try-step-returns-2 : (t : ℕ) → try-step-lts.Need-returns-2 (try-step-calls t) (try-step-at t) try-step.Post
-try-step-returns-2 t c = c .end-chain .ensures
+try-step-returns : (t : ℕ) → try-step-lts.Need-returns (try-step-calls t) (try-step-at t) try-step.Post
+try-step-returns t c = let s = c .before .before .before .before .before .before .before .before .before .before in
+    c .end-chain .ensures (s .args .regions .now) (s .args .incident .now) (s .args .own .now) (s .args .allowed .now) (s .args .used .now) (s .args .current) (s .args .ci) (s .pre .1 .0) (s .pre .1 .1 .0)
+    (c .before .before .before .before .before .before .before .before .if1 .taken) (sym (c .before .before .before .before .before .before .before .is-allowed .ensures) ∙ c .before .before .before .before .before .before .if2 .taken) (other-same (sym (c .before .before .before .if3 .taken) ∙ c .before .before .before .before .entry .ensures) (c .before .before .before .before .before .other-place .ensures .3))
 
 try-step-is-used-requires : (t : ℕ) → try-step-lts.Need-is-used-requires (try-step-calls t) (try-step-at t) try-step.Post
 try-step-is-used-requires t c κs = let a = c .before .before .entry .ensures in let o = c .before .before .before .other-place .ensures .2 in (omega (arith, a, o), c .before .before .before .before .before .before .before .before .pre .1 .1 .0 .long)
 
-try-step-returns-3 : (t : ℕ) → try-step-lts.Need-returns-3 (try-step-calls t) (try-step-at t) try-step.Post
-try-step-returns-3 t c = let s = c .before .before .before .before .before .before .before .before .before .before in
+try-step-returns-2 : (t : ℕ) → try-step-lts.Need-returns-2 (try-step-calls t) (try-step-at t) try-step.Post
+try-step-returns-2 t c = let s = c .before .before .before .before .before .before .before .before .before .before in
     let a = c .before .before .before .before .entry .ensures in
     let o = c .before .before .before .before .before .other-place .ensures in
     let m = o .2 in
     let n = c .before .before .before .if3 .left in
-    step-shut _ _ _ _ _ _ _ _ _ _ _ _ _ _ _ (s .pre .1 .1 .0) (c .before .before .before .before .before .before .before .before .if1 .left) (sym (c .before .before .before .before .before .before .before .is-allowed .ensures) ∙ c .before .before .before .before .before .before .if2 .taken) (omega (arith, a, m, n)) (other-same a (o .3)) (sym (c .before .is-used .ensures) ∙ c .if4 .taken)
+    step-shut _ _ _ _ _ _ _ _ _ _ _ _ _ _ _ (s .pre .1 .1 .0) (c .before .before .before .before .before .before .before .before .if1 .taken) (sym (c .before .before .before .before .before .before .before .is-allowed .ensures) ∙ c .before .before .before .before .before .before .if2 .taken) (omega (arith, a, m, n)) (other-same a (o .3)) (sym (c .before .is-used .ensures) ∙ c .if4 .taken)
 
-try-step-returns-4 : (t : ℕ) → try-step-lts.Need-returns-4 (try-step-calls t) (try-step-at t) try-step.Post
-try-step-returns-4 t c = let s = c .before .before .before .before .before .before .before .before .before .before .before .before in
+try-step-returns-3 : (t : ℕ) → try-step-lts.Need-returns-3 (try-step-calls t) (try-step-at t) try-step.Post
+try-step-returns-3 t c = let s = c .before .before .before .before .before .before .before .before .before .before .before .before in
     let a = c .before .before .before .before .before .before .entry .ensures in
     let o = c .before .before .before .before .before .before .before .other-place .ensures in
     let m = o .2 in
     let n = c .before .before .before .before .before .if3 .left in
-    step-turned-back _ _ _ _ _ _ _ _ _ _ _ _ _ _ _ (s .pre .1 .1 .0) (c .before .before .before .before .before .before .before .before .before .before .if1 .left) (sym (c .before .before .before .before .before .before .before .before .before .is-allowed .ensures) ∙ c .before .before .before .before .before .before .before .before .if2 .taken) (omega (arith, a, m, n)) (other-same a (o .3)) (sym (c .before .before .before .is-used .ensures) ∙ c .before .before .if4 .left) (c .if5 .taken)
+    step-turned-back _ _ _ _ _ _ _ _ _ _ _ _ _ _ _ (s .pre .1 .1 .0) (c .before .before .before .before .before .before .before .before .before .before .if1 .taken) (sym (c .before .before .before .before .before .before .before .before .before .is-allowed .ensures) ∙ c .before .before .before .before .before .before .before .before .if2 .taken) (omega (arith, a, m, n)) (other-same a (o .3)) (sym (c .before .before .before .is-used .ensures) ∙ c .before .before .if4 .left) (c .if5 .taken)
 
 try-step-cast-path : (t : ℕ) → try-step-lts.Need-cast-path (try-step-calls t) (try-step-at t) try-step.Post
 try-step-cast-path t c = let a = c .before .before .before .before .before .before .before .before .before .before .before .before .pre .1 .1 .0 .small in record { fits = omega (arith, a) }
@@ -170,8 +170,8 @@ try-step-element-write-path t c = let a = c .before .before .before .before .bef
 try-step-edge-cost-requires : (t : ℕ) → try-step-lts.Need-edge-cost-requires (try-step-calls t) (try-step-at t) try-step.Post
 try-step-edge-cost-requires t c κs = search needs
 
-try-step-add-t37 : (t : ℕ) → try-step-lts.Need-add-t37 (try-step-calls t) (try-step-at t) try-step.Post
-try-step-add-t37 t c = search needs
+try-step-add-t36 : (t : ℕ) → try-step-lts.Need-add-t36 (try-step-calls t) (try-step-at t) try-step.Post
+try-step-add-t36 t c = search needs
 
 try-step-add-dfs : (t : ℕ) → try-step-lts.Need-add-dfs (try-step-calls t) (try-step-at t) try-step.Post
 try-step-add-dfs t c = search needs
@@ -183,20 +183,23 @@ try-step-dfs-requires t c κs = let s = c .before .before .before .before .befor
     let m = o .2 in
     let n = c .before .before .before .before .before .before .before .before .before .before .if3 .left in
     let h = s .pre .0 in
-    let r = may-cross-next _ _ _ _ _ _ _ _ _ _ _ (s .pre .1 .1 .0) (c .before .before .before .before .before .before .before .before .before .before .before .before .before .before .before .if1 .left) (omega (arith, a, m, n)) (other-same a (o .3)) (sym (c .before .before .before .before .before .before .before .before .is-used .ensures) ∙ c .before .before .before .before .before .before .before .if4 .left) a (o .0) (o .1) in
+    let r = may-cross-next _ _ _ _ _ _ _ _ _ _ _ (s .pre .1 .1 .0) (c .before .before .before .before .before .before .before .before .before .before .before .before .before .before .before .if1 .taken) (omega (arith, a, m, n)) (other-same a (o .3)) (sym (c .before .before .before .before .before .before .before .before .is-used .ensures) ∙ c .before .before .before .before .before .before .before .if4 .left) a (o .0) (o .1) in
     (omega (arith, h), (s .pre .1 .0, (r, s .pre .1 .1 .1)))
 
-try-step-returns-5 : (t : ℕ) → try-step-lts.Need-returns-5 (try-step-calls t) (try-step-at t) try-step.Post
-try-step-returns-5 t c = let s = c .before .before .before .before .before .before .before .before .before .before .before .before .before .before .before .before .before .before in
+try-step-returns-4 : (t : ℕ) → try-step-lts.Need-returns-4 (try-step-calls t) (try-step-at t) try-step.Post
+try-step-returns-4 t c = let s = c .before .before .before .before .before .before .before .before .before .before .before .before .before .before .before .before .before .before in
     let a = c .before .before .before .before .before .before .before .before .before .before .before .before .entry .ensures in
     let o = c .before .before .before .before .before .before .before .before .before .before .before .before .before .other-place .ensures in
     let m = o .2 in
     let n = c .before .before .before .before .before .before .before .before .before .before .before .if3 .left in
     let h = c .before .before .before .before .before .before .if5 .left in
-    step-crosses _ _ _ _ _ _ _ _ _ _ _ _ _ _ _ _ _ _ _ _ _ _ (s .pre .1 .1 .0) (c .before .before .before .before .before .before .before .before .before .before .before .before .before .before .before .before .if1 .left) (sym (c .before .before .before .before .before .before .before .before .before .before .before .before .before .before .before .is-allowed .ensures) ∙ c .before .before .before .before .before .before .before .before .before .before .before .before .before .before .if2 .taken) (omega (arith, a, m, n)) (other-same a (o .3)) (sym (c .before .before .before .before .before .before .before .before .before .is-used .ensures) ∙ c .before .before .before .before .before .before .before .before .if4 .left) (omega (arith, h)) a (c .before .before .before .before .before .edge-cost .ensures) (c .dfs .ensures)
+    step-crosses _ _ _ _ _ _ _ _ _ _ _ _ _ _ _ _ _ _ _ _ _ _ (s .pre .1 .1 .0) (c .before .before .before .before .before .before .before .before .before .before .before .before .before .before .before .before .if1 .taken) (sym (c .before .before .before .before .before .before .before .before .before .before .before .before .before .before .before .is-allowed .ensures) ∙ c .before .before .before .before .before .before .before .before .before .before .before .before .before .before .if2 .taken) (omega (arith, a, m, n)) (other-same a (o .3)) (sym (c .before .before .before .before .before .before .before .before .before .is-used .ensures) ∙ c .before .before .before .before .before .before .before .before .if4 .left) (omega (arith, h)) a (c .before .before .before .before .before .edge-cost .ensures) (c .dfs .ensures)
+
+try-step-returns-5 : (t : ℕ) → try-step-lts.Need-returns-5 (try-step-calls t) (try-step-at t) try-step.Post
+try-step-returns-5 t c = step-barred _ _ _ _ _ _ _ _ _ _ _ _ _ (c .before .before .if1 .taken) _ (c .before .is-allowed .ensures) (c .if2 .left)
 
 try-step-returns-6 : (t : ℕ) → try-step-lts.Need-returns-6 (try-step-calls t) (try-step-at t) try-step.Post
-try-step-returns-6 t c = step-barred _ _ _ _ _ _ _ _ _ _ _ _ _ (c .before .before .if1 .left) _ (c .before .is-allowed .ensures) (c .if2 .left)
+try-step-returns-6 t c = step-back _ _ _ _ _ _ _ _ _ _ _ _ _ (c .if1 .left)
 
 pub +dfs+try-step-spec : {M : Type 1} → statement M
 +dfs+try-step-spec = close μ-dfs μ-try-step (λ t. dfs-lts.spec (dfs-calls t)
@@ -224,21 +227,21 @@ pub +dfs+try-step-spec : {M : Type 1} → statement M
     (λ t. try-step-lts.spec (try-step-calls t)
     (try-step-at t)
     try-step.Post
-    (try-step-returns t)
     (try-step-is-allowed-requires t)
     (try-step-other-place-requires t)
     (try-step-entry-requires t)
     (try-step-end-chain-requires t)
-    (try-step-returns-2 t)
+    (try-step-returns t)
     (try-step-is-used-requires t)
+    (try-step-returns-2 t)
     (try-step-returns-3 t)
-    (try-step-returns-4 t)
     (try-step-cast-path t)
     (try-step-mul-path t)
     (try-step-element-write-path t)
     (try-step-edge-cost-requires t)
-    (try-step-add-t37 t)
+    (try-step-add-t36 t)
     (try-step-add-dfs t)
     (try-step-dfs-requires t)
+    (try-step-returns-4 t)
     (try-step-returns-5 t)
     (try-step-returns-6 t))

@@ -1,5 +1,3 @@
-use mathlib.Core.Path.{sym, _∙_}
-use mathlib.Core.Bool.{true, false}
 use Rattle.counts.specs.Tables.{the-graph}
 use Rattle.counts.proofs.Endings.{balances-by, like-signs, unlike-signs}
 use borrow.Author.Needs.{needs}
@@ -20,41 +18,18 @@ on-first-side-requires-2 : tie.Need-on-first-side-requires-2
 on-first-side-requires-2 c κs = search needs
 
 returns : tie.Need-returns
-returns c = let s = c .before .before .before .before .before .before in
-    balances-by (the-graph (s .args .regions .now)) (s .args .incident .now) _ _ _ (s .args .change) (s .args .start) true true _
-    (c .before .before .before .before .place-in .ensures .1) (s .pre .1 .1) (c .before .before .before .before .place-in .ensures .2) (s .pre .1 .2)
-    (sym (c .before .if1 .taken) ∙ c .before .before .before .on-first-side .ensures) (sym (c .if2 .taken) ∙ c .before .before .on-first-side2 .ensures)
-    (unlike-signs (s .args .start) (s .args .change))
+returns c = let s = c .before .before .before .before .before in
+    balances-by (the-graph (s .args .regions .now)) (s .args .incident .now) _ _ _ (s .args .change) (s .args .start) (c .before .before .on-first-side .result) (c .before .on-first-side2 .result) _
+    (c .before .before .before .place-in .ensures .1) (s .pre .1 .1) (c .before .before .before .place-in .ensures .2) (s .pre .1 .2)
+    (c .before .before .on-first-side .ensures) (c .before .on-first-side2 .ensures) (unlike-signs (s .args .start) (s .args .change) _ (c .if1 .taken))
 
 returns-2 : tie.Need-returns-2
-returns-2 c = let s = c .before .before .before .before .before .before in
-    balances-by (the-graph (s .args .regions .now)) (s .args .incident .now) _ _ _ (s .args .change) (s .args .start) true false _
-    (c .before .before .before .before .place-in .ensures .1) (s .pre .1 .1) (c .before .before .before .before .place-in .ensures .2) (s .pre .1 .2)
-    (sym (c .before .if1 .taken) ∙ c .before .before .before .on-first-side .ensures) (sym (c .if2 .left) ∙ c .before .before .on-first-side2 .ensures)
-    (like-signs (s .args .start) (s .args .change))
-
-returns-3 : tie.Need-returns-3
-returns-3 c = let s = c .before .before .before .before .before .before in
-    balances-by (the-graph (s .args .regions .now)) (s .args .incident .now) _ _ _ (s .args .change) (s .args .start) false true _
-    (c .before .before .before .before .place-in .ensures .1) (s .pre .1 .1) (c .before .before .before .before .place-in .ensures .2) (s .pre .1 .2)
-    (sym (c .before .if1 .left) ∙ c .before .before .before .on-first-side .ensures) (sym (c .if3 .taken) ∙ c .before .before .on-first-side2 .ensures)
-    (like-signs (s .args .start) (s .args .change))
-
-returns-4 : tie.Need-returns-4
-returns-4 c = let s = c .before .before .before .before .before .before in
-    balances-by (the-graph (s .args .regions .now)) (s .args .incident .now) _ _ _ (s .args .change) (s .args .start) false false _
-    (c .before .before .before .before .place-in .ensures .1) (s .pre .1 .1) (c .before .before .before .before .place-in .ensures .2) (s .pre .1 .2)
-    (sym (c .before .if1 .left) ∙ c .before .before .before .on-first-side .ensures) (sym (c .if3 .left) ∙ c .before .before .on-first-side2 .ensures)
-    (unlike-signs (s .args .start) (s .args .change))
+returns-2 c = let s = c .before .before .before .before .before in
+    balances-by (the-graph (s .args .regions .now)) (s .args .incident .now) _ _ _ (s .args .change) (s .args .start) (c .before .before .on-first-side .result) (c .before .on-first-side2 .result) _
+    (c .before .before .before .place-in .ensures .1) (s .pre .1 .1) (c .before .before .before .place-in .ensures .2) (s .pre .1 .2)
+    (c .before .before .on-first-side .ensures) (c .before .on-first-side2 .ensures) (like-signs (s .args .start) (s .args .change) _ (c .if1 .left))
 
 pub balances-with-start-spec : {M : Type 1} → statement M
 balances-with-start-spec =
     tie.close
-    (tie.spec
-    place-in-requires
-    on-first-side-requires
-    on-first-side-requires-2
-    returns
-    returns-2
-    returns-3
-    returns-4)
+    (tie.spec place-in-requires on-first-side-requires on-first-side-requires-2 returns returns-2)

@@ -8,15 +8,14 @@ use lib.Seq.{length-take-le}
 use Rattle.counts.specs.Refusal.{outcome}
 use Rattle.curves.specs.Lists.{cat, splice}
 use Rattle.curves.specs.Tests.{first-of}
-use Rattle.curves.specs.Quad.{zeros}
 use Rattle.curves.specs.Curve.{curve}
 use Rattle.curves.specs.Boundary.{boundary}
-use Rattle.curves.specs.Grid.{Grid, seams, grid-of, grid-part, needed}
+use Rattle.curves.specs.Grid.{Grid, seams, grid-of, grid-part}
 use Rattle.curves.proofs.ListLaws.{splice-none}
 use Rattle.curves.proofs.TestLaws.{told-passed}
 use Rattle.curves.proofs.columns.Laws.{fewer}
-use Rattle.curves.proofs.rows.Laws.{RowBefore, none-before, row-passed, cells-below, cells-begin, cells-step, cells-end, row-fits, row-end, row-written, rows-written, rows-cleared}
-use Rattle.curves.proofs.grid.Filled.{row-part-read, RowsLeft, rows-begin, rows-next, row-stops, cells-stop, grid-passes, left-cleared, left-filled}
+use Rattle.curves.proofs.rows.Laws.{RowBefore, none-before, row-passed, cells-below, cells-begin, cells-step, cells-end, row-fits, row-end, row-written}
+use Rattle.curves.proofs.grid.Filled.{row-part-read, RowsLeft, rows-begin, rows-next, row-stops, grid-told, laid-until, laid-all}
 use borrow.Author.Needs.{needs}
 use Rattle.curves.proofs.grid.grid_rows.Statement.{statement}
 use Rattle.curves.proofs.grid.grid_rows.Tie as tie
@@ -77,44 +76,36 @@ fill-row-requires c κs =
     let tab = fewer (curve (now (a .bottom)) (now (a .lengths0))) (curve (now (a .top)) (now (a .lengths2))) (a .b) (a .t) (length (now (a .bottom-u)) - 1 + 1) (length (now (a .bottom-u))) (now (a .table)) few (p .1 .1 .1 .1 .0) in
     (p .0, (p .1 .0, (p .1 .1 .0, (p .1 .1 .1 .0, (p .1 .1 .1 .1 .1 .0, (tab, omega (arith, p .1 .1 .1 .1 .1 .1 .0, c .before .before .before .before .before .loop .inv .0, c .before .before .before .before .before .loop .inv .3, c .before .before .before .before .loop-test .taken)))))))
 
-enum-known-points : tie.Need-enum-known-points Inv-loop μ-loop
-enum-known-points c = search needs
-
-needed-requires : tie.Need-needed-requires Inv-loop μ-loop
-needed-requires c κs = omega (arith, c .before .before .before .before .before .before .before .before .before .before .before .before .before .before .before .before .before .before .before .before .before .before .before .before .before .pre .1 .1 .1 .1 .1 .1 .0)
-
-clear-requires : tie.Need-clear-requires Inv-loop μ-loop
-clear-requires c κs = omega (arith, c .before .before .before .before .before .before .before .before .before .before .before .before .before .before .before .before .before .before .before .before .before .before .before .before .before .before .before .pre .1 .1 .1 .1 .1 .1 .1, c .before .before .before .before .before .before .before .before .before .before .before .before .loop .inv .1, c .before .needed .ensures)
+enum-told : tie.Need-enum-told Inv-loop μ-loop
+enum-told c = search needs
 
 same-length : tie.Need-same-length Inv-loop μ-loop
-same-length c = c .before .before .clear .kept .1 .0 ∙ c .before .before .before .before .before .before .before .before .before .before .before .before .before .before .before .loop .inv .1
+same-length c = c .before .before .before .before .before .before .before .before .before .loop .inv .1
 
 returns : tie.Need-returns Inv-loop μ-loop
 returns c =
-    let a = c .before .before .before .before .before .before .before .before .before .before .before .before .before .before .before .before .before .before .before .before .before .before .before .before .before .before .before .before .before .before .args in
+    let a = c .before .before .before .before .before .before .before .before .before .before .before .before .before .before .before .before .before .before .before .before .before .before .before .before .args in
     let f : Grid = grid-of (boundary (curve (now (a .bottom)) (now (a .lengths0))) (curve (now (a .right)) (now (a .lengths1))) (curve (now (a .top)) (now (a .lengths2))) (curve (now (a .left)) (now (a .lengths3)))) (seams (now (a .bottom-u)) (now (a .top-u)) (now (a .left-v)) (now (a .right-v))) in
     let n : ℕ = length (now (a .bottom-u)) - 1 in
     let m : ℕ = length (now (a .left-v)) - 1 in
-    let l = c .before .before .before .before .before .before .before .before .before .before .before .before .before .before .before .loop in
-    let h : l .j ≤ m = omega (arith, c .before .before .before .before .before .before .before .before .before .before .before .before .before .before .loop-test .taken) in
-    let q = row-stops f n m (l .j) _ _ (l .inv .7) h (c .before .before .before .before .before .before .points .given .1) (c .before .before .before .before .before .before .before .before .before .fill-row .ensures .0) in
-    let z = c .before .before .clear .ensures ∙ ap (λ (k : ℕ). splice (l .out) 0 (zeros k)) (c .before .before .before .before .needed .ensures) in
-    (q, left-cleared f n m (a .layout) (now (a .out)) _ _ q (rows-cleared f n (a .layout) (now (a .out)) (l .out) _ m (l .j) (l .inv .5) (l .inv .0) (c .before .before .before .before .before .before .before .before .before .before .before .before .before .before .before .before .before .before .before .before .before .before .before .before .before .before .before .before .before .before .pre .1 .1 .1 .1 .1 .1 .1) z))
+    let l = c .before .before .before .before .before .before .before .before .before .loop in
+    let h : l .j ≤ m = omega (arith, c .before .before .before .before .before .before .before .before .loop-test .taken) in
+    (row-stops f n m (l .j) _ _ (l .inv .7) h (c .enum-told .given .1) (c .before .before .before .fill-row .ensures .0), laid-until f n m (a .layout) (now (a .out)) (l .j) (l .out) _ _ (c .enum-told .given .1) (l .inv .0) (l .inv .5))
 
-enum-told : tie.Need-enum-told Inv-loop μ-loop
-enum-told c = search needs
+enum-told-2 : tie.Need-enum-told-2 Inv-loop μ-loop
+enum-told-2 c = search needs
 
 array-share-prefix-low : tie.Need-array-share-prefix-low Inv-loop μ-loop
 array-share-prefix-low c = omega (arith, c .before .before .before .before .before .before .before .before .before .before .before .before .before .before .before .before .before .before .before .before .before .before .before .before .pre .1 .1 .1 .1 .1 .1 .0, c .before .before .before .before .before .before .before .before .before .loop .inv .2)
 
-slice-aggregate-check-row : tie.Need-slice-aggregate-check-row Inv-loop μ-loop
-slice-aggregate-check-row c = sym (length-take-le (2 * (length (now (c .before .before .before .before .before .before .before .before .before .before .before .before .before .before .before .before .before .before .before .before .before .before .before .before .before .args .bottom-u)) - 1 + 1)) (c .before .before .before .before .before .before .before .before .before .before .loop .low) (omega (arith, c .before .before .before .before .before .before .before .before .before .before .before .before .before .before .before .before .before .before .before .before .before .before .before .before .before .pre .1 .1 .1 .1 .1 .1 .0, c .before .before .before .before .before .before .before .before .before .before .loop .inv .2)))
+slice-aggregate-lower : tie.Need-slice-aggregate-lower Inv-loop μ-loop
+slice-aggregate-lower c = sym (length-take-le (2 * (length (now (c .before .before .before .before .before .before .before .before .before .before .before .before .before .before .before .before .before .before .before .before .before .before .before .before .before .args .bottom-u)) - 1 + 1)) (c .before .before .before .before .before .before .before .before .before .before .loop .low) (omega (arith, c .before .before .before .before .before .before .before .before .before .before .before .before .before .before .before .before .before .before .before .before .before .before .before .before .before .pre .1 .1 .1 .1 .1 .1 .0, c .before .before .before .before .before .before .before .before .before .before .loop .inv .2)))
 
 array-share-prefix-high : tie.Need-array-share-prefix-high Inv-loop μ-loop
 array-share-prefix-high c = omega (arith, c .before .before .before .before .before .before .before .before .before .before .before .before .before .before .before .before .before .before .before .before .before .before .before .before .before .pre .1 .1 .1 .1 .1 .1 .0, c .before .before .before .before .fill-row .kept .1 .1 .1 .1 .1 .1 .1 .1 .1 .1 .1 .1 .1 .1 .1 .1 .1 .1 .1 .0, c .before .before .before .before .before .before .before .before .before .before .loop .inv .3)
 
-slice-aggregate-check-row-2 : tie.Need-slice-aggregate-check-row-2 Inv-loop μ-loop
-slice-aggregate-check-row-2 c = sym (length-take-le (2 * (length (now (c .before .before .before .before .before .before .before .before .before .before .before .before .before .before .before .before .before .before .before .before .before .before .before .before .before .before .args .bottom-u)) - 1 + 1)) (c .before .before .before .before .before .fill-row .last .1 .1 .1 .1 .1 .1 .1 .1 .1 .1 .1 .1 .1 .1 .1 .1 .1 .1 .1 .0) (omega (arith, c .before .before .before .before .before .before .before .before .before .before .before .before .before .before .before .before .before .before .before .before .before .before .before .before .before .before .pre .1 .1 .1 .1 .1 .1 .0, c .before .before .before .before .before .fill-row .kept .1 .1 .1 .1 .1 .1 .1 .1 .1 .1 .1 .1 .1 .1 .1 .1 .1 .1 .1 .0, c .before .before .before .before .before .before .before .before .before .before .before .loop .inv .3)))
+slice-aggregate-upper : tie.Need-slice-aggregate-upper Inv-loop μ-loop
+slice-aggregate-upper c = sym (length-take-le (2 * (length (now (c .before .before .before .before .before .before .before .before .before .before .before .before .before .before .before .before .before .before .before .before .before .before .before .before .before .before .args .bottom-u)) - 1 + 1)) (c .before .before .before .before .before .fill-row .last .1 .1 .1 .1 .1 .1 .1 .1 .1 .1 .1 .1 .1 .1 .1 .1 .1 .1 .1 .0) (omega (arith, c .before .before .before .before .before .before .before .before .before .before .before .before .before .before .before .before .before .before .before .before .before .before .before .before .before .before .pre .1 .1 .1 .1 .1 .1 .0, c .before .before .before .before .before .fill-row .kept .1 .1 .1 .1 .1 .1 .1 .1 .1 .1 .1 .1 .1 .1 .1 .1 .1 .1 .1 .0, c .before .before .before .before .before .before .before .before .before .before .before .loop .inv .3)))
 
 check-row-requires : tie.Need-check-row-requires Inv-loop μ-loop
 check-row-requires c κs = omega (arith, c .before .before .before .before .before .before .before .before .before .before .before .before .before .before .before .before .before .before .before .before .before .before .before .before .before .before .pre .1 .1 .1 .1 .1 .1 .0, c .before .before .before .before .before .before .before .before .before .before .before .loop .inv .0, c .before .before .before .before .before .before .before .before .before .before .loop-test .taken, length-take-le (2 * (length (now (c .before .before .before .before .before .before .before .before .before .before .before .before .before .before .before .before .before .before .before .before .before .before .before .before .before .before .args .bottom-u)) - 1 + 1)) (c .before .before .before .before .before .before .before .before .before .before .before .loop .low) (omega (arith, c .before .before .before .before .before .before .before .before .before .before .before .before .before .before .before .before .before .before .before .before .before .before .before .before .before .before .pre .1 .1 .1 .1 .1 .1 .0, c .before .before .before .before .before .before .before .before .before .before .before .loop .inv .2)), length-take-le (2 * (length (now (c .before .before .before .before .before .before .before .before .before .before .before .before .before .before .before .before .before .before .before .before .before .before .before .before .before .before .args .bottom-u)) - 1 + 1)) (c .before .before .before .before .before .fill-row .last .1 .1 .1 .1 .1 .1 .1 .1 .1 .1 .1 .1 .1 .1 .1 .1 .1 .1 .1 .0) (omega (arith, c .before .before .before .before .before .before .before .before .before .before .before .before .before .before .before .before .before .before .before .before .before .before .before .before .before .before .pre .1 .1 .1 .1 .1 .1 .0, c .before .before .before .before .before .fill-row .kept .1 .1 .1 .1 .1 .1 .1 .1 .1 .1 .1 .1 .1 .1 .1 .1 .1 .1 .1 .0, c .before .before .before .before .before .before .before .before .before .before .before .loop .inv .3)))
@@ -122,99 +113,59 @@ check-row-requires c κs = omega (arith, c .before .before .before .before .befo
 first-refused-requires : tie.Need-first-refused-requires Inv-loop μ-loop
 first-refused-requires c κs = search needs
 
-array-share-prefix-low-2 : tie.Need-array-share-prefix-low-2 Inv-loop μ-loop
-array-share-prefix-low-2 c = omega (arith, c .before .before .before .before .before .before .before .before .before .before .before .before .before .before .before .before .before .before .before .before .before .before .before .before .before .before .before .before .pre .1 .1 .1 .1 .1 .1 .0, c .before .before .before .before .before .before .before .before .before .before .before .before .before .loop .inv .2)
-
-slice-aggregate-write-row : tie.Need-slice-aggregate-write-row Inv-loop μ-loop
-slice-aggregate-write-row c = sym (length-take-le (2 * (length (now (c .before .before .before .before .before .before .before .before .before .before .before .before .before .before .before .before .before .before .before .before .before .before .before .before .before .before .before .before .before .args .bottom-u)) - 1 + 1)) (c .before .before .before .before .before .before .before .before .before .before .before .before .before .before .loop .low) (omega (arith, c .before .before .before .before .before .before .before .before .before .before .before .before .before .before .before .before .before .before .before .before .before .before .before .before .before .before .before .before .before .pre .1 .1 .1 .1 .1 .1 .0, c .before .before .before .before .before .before .before .before .before .before .before .before .before .before .loop .inv .2)))
-
-array-share-prefix-high-2 : tie.Need-array-share-prefix-high-2 Inv-loop μ-loop
-array-share-prefix-high-2 c = omega (arith, c .before .before .before .before .before .before .before .before .before .before .before .before .before .before .before .before .before .before .before .before .before .before .before .before .before .before .before .before .before .pre .1 .1 .1 .1 .1 .1 .0, c .before .before .before .before .before .before .before .before .fill-row .kept .1 .1 .1 .1 .1 .1 .1 .1 .1 .1 .1 .1 .1 .1 .1 .1 .1 .1 .1 .0, c .before .before .before .before .before .before .before .before .before .before .before .before .before .before .loop .inv .3)
-
-slice-aggregate-write-row-2 : tie.Need-slice-aggregate-write-row-2 Inv-loop μ-loop
-slice-aggregate-write-row-2 c = sym (length-take-le (2 * (length (now (c .before .before .before .before .before .before .before .before .before .before .before .before .before .before .before .before .before .before .before .before .before .before .before .before .before .before .before .before .before .before .args .bottom-u)) - 1 + 1)) (c .before .before .before .before .before .before .before .before .before .fill-row .last .1 .1 .1 .1 .1 .1 .1 .1 .1 .1 .1 .1 .1 .1 .1 .1 .1 .1 .1 .0) (omega (arith, c .before .before .before .before .before .before .before .before .before .before .before .before .before .before .before .before .before .before .before .before .before .before .before .before .before .before .before .before .before .before .pre .1 .1 .1 .1 .1 .1 .0, c .before .before .before .before .before .before .before .before .before .fill-row .kept .1 .1 .1 .1 .1 .1 .1 .1 .1 .1 .1 .1 .1 .1 .1 .1 .1 .1 .1 .0, c .before .before .before .before .before .before .before .before .before .before .before .before .before .before .before .loop .inv .3)))
-
 write-row-requires : tie.Need-write-row-requires Inv-loop μ-loop
 write-row-requires c κs =
-    let a = c .before .before .before .before .before .before .before .before .before .before .before .before .before .before .before .before .before .before .before .before .before .before .before .before .before .before .before .before .before .before .before .args in
+    let a = c .before .before .before .before .before .before .before .before .before .before .before .before .before .before .before .before .before .before .before .before .before .before .before .before .before .before .before .before .before .args in
     let f : Grid = grid-of (boundary (curve (now (a .bottom)) (now (a .lengths0))) (curve (now (a .right)) (now (a .lengths1))) (curve (now (a .top)) (now (a .lengths2))) (curve (now (a .left)) (now (a .lengths3)))) (seams (now (a .bottom-u)) (now (a .top-u)) (now (a .left-v)) (now (a .right-v))) in
     let n : ℕ = length (now (a .bottom-u)) - 1 in
     let m : ℕ = length (now (a .left-v)) - 1 in
-    let l = c .before .before .before .before .before .before .before .before .before .before .before .before .before .before .before .before .loop in
-    let h : l .j ≤ m = omega (arith, c .before .before .before .before .before .before .before .before .before .before .before .before .before .before .before .loop-test .taken) in
-    let high = c .before .before .before .before .before .before .before .before .before .before .fill-row .last .1 .1 .1 .1 .1 .1 .1 .1 .1 .1 .1 .1 .1 .1 .1 .1 .1 .1 .1 .0 in
-    let row = row-part-read (f (l .j)) n (l .high) high (c .before .before .before .before .before .before .before .before .before .before .fill-row .ensures .1 (told-passed _ (c .before .before .before .before .before .before .before .enum-told .given .1))) in
-    let fits = row-fits f n (a .layout) (now (a .out)) m (l .j) (l .at) (take (2 * (n + 1)) (l .low)) (take (2 * (n + 1)) high) (l .inv .6) row (l .inv .4) h (c .before .before .before .before .before .before .before .before .before .before .before .before .before .before .before .before .before .before .before .before .before .before .before .before .before .before .before .before .before .before .before .pre .1 .1 .1 .1 .1 .1 .1) in
-    let wide = length-take-le (2 * (n + 1)) (l .low) (omega (arith, c .before .before .before .before .before .before .before .before .before .before .before .before .before .before .before .before .before .before .before .before .before .before .before .before .before .before .before .before .before .before .before .pre .1 .1 .1 .1 .1 .1 .0, l .inv .2)) in
-    let tall = length-take-le (2 * (n + 1)) high (omega (arith, c .before .before .before .before .before .before .before .before .before .before .before .before .before .before .before .before .before .before .before .before .before .before .before .before .before .before .before .before .before .before .before .pre .1 .1 .1 .1 .1 .1 .0, c .before .before .before .before .before .before .before .before .before .before .fill-row .kept .1 .1 .1 .1 .1 .1 .1 .1 .1 .1 .1 .1 .1 .1 .1 .1 .1 .1 .1 .0, l .inv .3)) in
+    let l = c .before .before .before .before .before .before .before .before .before .before .before .before .before .before .loop in
+    let h : l .j ≤ m = omega (arith, c .before .before .before .before .before .before .before .before .before .before .before .before .before .loop-test .taken) in
+    let high = c .before .before .before .before .before .before .before .before .fill-row .last .1 .1 .1 .1 .1 .1 .1 .1 .1 .1 .1 .1 .1 .1 .1 .1 .1 .1 .1 .0 in
+    let row = row-part-read (f (l .j)) n (l .high) high (c .before .before .before .before .before .before .before .before .fill-row .ensures .1 (told-passed _ (c .before .before .before .before .before .enum-told2 .given .1))) in
+    let fits = row-fits f n (a .layout) (now (a .out)) m (l .j) (l .at) (take (2 * (n + 1)) (l .low)) (take (2 * (n + 1)) high) (l .inv .6) row (l .inv .4) h (c .before .before .before .before .before .before .before .before .before .before .before .before .before .before .before .before .before .before .before .before .before .before .before .before .before .before .before .before .before .pre .1 .1 .1 .1 .1 .1 .1) in
+    let wide = length-take-le (2 * (n + 1)) (l .low) (omega (arith, c .before .before .before .before .before .before .before .before .before .before .before .before .before .before .before .before .before .before .before .before .before .before .before .before .before .before .before .before .before .pre .1 .1 .1 .1 .1 .1 .0, l .inv .2)) in
+    let tall = length-take-le (2 * (n + 1)) high (omega (arith, c .before .before .before .before .before .before .before .before .before .before .before .before .before .before .before .before .before .before .before .before .before .before .before .before .before .before .before .before .before .pre .1 .1 .1 .1 .1 .1 .0, c .before .before .before .before .before .before .before .before .fill-row .kept .1 .1 .1 .1 .1 .1 .1 .1 .1 .1 .1 .1 .1 .1 .1 .1 .1 .1 .1 .0, l .inv .3)) in
     (omega (arith, wide), omega (arith, tall), omega (arith, fits, l .inv .1))
 
 add-j : tie.Need-add-j Inv-loop μ-loop
-add-j c = omega (arith, c .before .before .before .before .before .before .before .before .before .before .before .before .before .before .before .before .before .before .before .before .before .before .before .before .before .before .before .before .before .before .before .before .before .before .pre .1 .1 .1 .1 .1 .1 .0, c .before .before .before .before .before .before .before .before .before .before .before .before .before .before .before .before .before .before .before .loop .inv .0, c .before .before .before .before .before .before .before .before .before .before .before .before .before .before .before .before .before .before .loop-test .taken)
+add-j c = omega (arith, c .before .before .before .before .before .before .before .before .before .before .before .before .before .before .before .before .before .before .before .before .before .before .before .before .before .before .before .before .before .before .before .before .pre .1 .1 .1 .1 .1 .1 .0, c .before .before .before .before .before .before .before .before .before .before .before .before .before .before .before .before .before .loop .inv .0, c .before .before .before .before .before .before .before .before .before .before .before .before .before .before .before .before .loop-test .taken)
 
 loop-less : tie.Need-loop-less Inv-loop μ-loop
-loop-less c = omega (arith, c .before .before .before .before .before .before .before .before .before .before .before .before .before .before .before .before .before .before .loop-test .taken)
+loop-less c = omega (arith, c .before .before .before .before .before .before .before .before .before .before .before .before .before .before .before .before .loop-test .taken)
 
 loop-again : tie.Need-loop-again Inv-loop μ-loop
 loop-again c =
-    let a = c .before .before .before .before .before .before .before .before .before .before .before .before .before .before .before .before .before .before .before .before .before .before .before .before .before .before .before .before .before .before .before .before .before .before .args in
+    let a = c .before .before .before .before .before .before .before .before .before .before .before .before .before .before .before .before .before .before .before .before .before .before .before .before .before .before .before .before .before .before .before .before .args in
     let f : Grid = grid-of (boundary (curve (now (a .bottom)) (now (a .lengths0))) (curve (now (a .right)) (now (a .lengths1))) (curve (now (a .top)) (now (a .lengths2))) (curve (now (a .left)) (now (a .lengths3)))) (seams (now (a .bottom-u)) (now (a .top-u)) (now (a .left-v)) (now (a .right-v))) in
     let n : ℕ = length (now (a .bottom-u)) - 1 in
     let m : ℕ = length (now (a .left-v)) - 1 in
-    let l = c .before .before .before .before .before .before .before .before .before .before .before .before .before .before .before .before .before .before .before .loop in
-    let h : l .j ≤ m = omega (arith, c .before .before .before .before .before .before .before .before .before .before .before .before .before .before .before .before .before .before .loop-test .taken) in
-    let row = row-part-read (f (l .j)) n (l .high) (c .before .before .before .before .before .before .before .before .before .before .before .before .before .fill-row .last .1 .1 .1 .1 .1 .1 .1 .1 .1 .1 .1 .1 .1 .1 .1 .1 .1 .1 .1 .0) (c .before .before .before .before .before .before .before .before .before .before .before .before .before .fill-row .ensures .1 (told-passed _ (c .before .before .before .before .before .before .before .before .before .before .enum-told .given .1))) in (
+    let l = c .before .before .before .before .before .before .before .before .before .before .before .before .before .before .before .before .before .loop in
+    let h : l .j ≤ m = omega (arith, c .before .before .before .before .before .before .before .before .before .before .before .before .before .before .before .before .loop-test .taken) in
+    let row = row-part-read (f (l .j)) n (l .high) (c .before .before .before .before .before .before .before .before .before .before .before .fill-row .last .1 .1 .1 .1 .1 .1 .1 .1 .1 .1 .1 .1 .1 .1 .1 .1 .1 .1 .1 .0) (c .before .before .before .before .before .before .before .before .before .before .before .fill-row .ensures .1 (told-passed _ (c .before .before .before .before .before .before .before .before .enum-told2 .given .1))) in (
       omega arith,
       c .before .before .write-row .kept .1 .1 .1 .1 .1 .1 .0 ∙ l .inv .1,
-      c .before .before .before .before .before .before .before .before .before .before .before .before .before .fill-row .kept .1 .1 .1 .1 .1 .1 .1 .1 .1 .1 .1 .1 .1 .1 .1 .1 .1 .1 .1 .0 ∙ l .inv .3,
-      c .before .before .before .before .before .before .before .before .before .before .before .before .before .fill-row .kept .1 .1 .1 .1 .1 .1 .1 .1 .1 .1 .1 .1 .1 .1 .1 .1 .1 .1 .1 .0 ∙ l .inv .3,
+      c .before .before .before .before .before .before .before .before .before .before .before .fill-row .kept .1 .1 .1 .1 .1 .1 .1 .1 .1 .1 .1 .1 .1 .1 .1 .1 .1 .1 .1 .0 ∙ l .inv .3,
+      c .before .before .before .before .before .before .before .before .before .before .before .fill-row .kept .1 .1 .1 .1 .1 .1 .1 .1 .1 .1 .1 .1 .1 .1 .1 .1 .1 .1 .1 .0 ∙ l .inv .3,
       row-end f n (a .layout) (l .j) (l .at) _ _ _ (l .inv .6) row (l .inv .4) (c .before .before .write-row .ensures .0),
-      row-written f n (a .layout) (now (a .out)) (l .out) _ m (l .j) (l .at) _ _ (l .inv .6) row (l .inv .4) h (c .before .before .before .before .before .before .before .before .before .before .before .before .before .before .before .before .before .before .before .before .before .before .before .before .before .before .before .before .before .before .before .before .before .before .pre .1 .1 .1 .1 .1 .1 .1) (l .inv .5) (c .before .before .write-row .ensures .1),
+      row-written f n (a .layout) (now (a .out)) (l .out) _ m (l .j) (l .at) _ _ (l .inv .6) row (l .inv .4) h (c .before .before .before .before .before .before .before .before .before .before .before .before .before .before .before .before .before .before .before .before .before .before .before .before .before .before .before .before .before .before .before .before .pre .1 .1 .1 .1 .1 .1 .1) (l .inv .5) (c .before .before .write-row .ensures .1),
       row-passed f n (l .j) _ row,
-      rows-next f n m (l .j) _ (l .inv .7) h (c .before .before .before .before .before .before .before .before .before .before .enum-told .given .1) (c .before .before .before .before .before .before .before .before .before .before .before .before .before .fill-row .ensures .0),
-      cells-step f n (l .j) _ _ _ _ _ (l .inv .6) row (l .inv .8) (c .before .before .before .before .before .before .before .check-row .ensures) (c .before .before .before .before .before .before .first-refused .ensures),
+      rows-next f n m (l .j) _ (l .inv .7) h (c .before .before .before .before .before .before .before .before .enum-told2 .given .1) (c .before .before .before .before .before .before .before .before .before .before .before .fill-row .ensures .0),
+      cells-step f n (l .j) _ _ _ _ _ (l .inv .6) row (l .inv .8) (c .before .before .before .before .before .check-row .ensures) (c .before .before .before .before .first-refused .ensures),
     )
 
-enum-known-cells : tie.Need-enum-known-cells Inv-loop μ-loop
-enum-known-cells c = search needs
-
-needed-requires-2 : tie.Need-needed-requires-2 Inv-loop μ-loop
-needed-requires-2 c κs = omega (arith, c .before .before .before .before .before .before .before .before .before .before .before .before .before .before .before .before .before .before .before .pre .1 .1 .1 .1 .1 .1 .0)
-
-clear-requires-2 : tie.Need-clear-requires-2 Inv-loop μ-loop
-clear-requires-2 c κs = omega (arith, c .before .before .before .before .before .before .before .before .before .before .before .before .before .before .before .before .before .before .before .before .before .pre .1 .1 .1 .1 .1 .1 .1, c .before .before .before .before .before .before .loop .inv .1, c .before .needed2 .ensures)
-
 same-length-2 : tie.Need-same-length-2 Inv-loop μ-loop
-same-length-2 c = c .before .before .clear2 .kept .1 .0 ∙ c .before .before .before .before .before .before .before .before .before .loop .inv .1
+same-length-2 c = c .before .loop .inv .1
 
 returns-2 : tie.Need-returns-2 Inv-loop μ-loop
 returns-2 c =
-    let a = c .before .before .before .before .before .before .before .before .before .before .before .before .before .before .before .before .before .before .before .before .before .before .before .before .args in
+    let a = c .before .before .before .before .before .before .before .before .before .before .before .before .before .before .before .before .args in
     let f : Grid = grid-of (boundary (curve (now (a .bottom)) (now (a .lengths0))) (curve (now (a .right)) (now (a .lengths1))) (curve (now (a .top)) (now (a .lengths2))) (curve (now (a .left)) (now (a .lengths3)))) (seams (now (a .bottom-u)) (now (a .top-u)) (now (a .left-v)) (now (a .right-v))) in
     let n : ℕ = length (now (a .bottom-u)) - 1 in
     let m : ℕ = length (now (a .left-v)) - 1 in
-    let l = c .before .before .before .before .before .before .before .before .before .loop in
-    let h : m < l .j = omega (arith, c .before .before .before .before .before .before .before .before .loop-test .left) in
-    let q = cells-stop f n m (l .j) _ _ (l .inv .7) h (c .before .before .before .before .before .before .cells .given .1) (cells-end f n m (l .j) _ (l .inv .8) h (l .inv .0)) in
-    let z = c .before .before .clear2 .ensures ∙ ap (λ (k : ℕ). splice (l .out) 0 (zeros k)) (c .before .before .before .before .needed2 .ensures) in
-    (q, left-cleared f n m (a .layout) (now (a .out)) _ _ q (rows-cleared f n (a .layout) (now (a .out)) (l .out) _ m (l .j) (l .inv .5) (l .inv .0) (c .before .before .before .before .before .before .before .before .before .before .before .before .before .before .before .before .before .before .before .before .before .before .before .before .pre .1 .1 .1 .1 .1 .1 .1) z))
-
-enum-told-2 : tie.Need-enum-told-2 Inv-loop μ-loop
-enum-told-2 c = search needs
-
-same-length-3 : tie.Need-same-length-3 Inv-loop μ-loop
-same-length-3 c = c .before .before .before .loop .inv .1
-
-returns-3 : tie.Need-returns-3 Inv-loop μ-loop
-returns-3 c =
-    let a = c .before .before .before .before .before .before .before .before .before .before .before .before .before .before .before .before .before .before .args in
-    let f : Grid = grid-of (boundary (curve (now (a .bottom)) (now (a .lengths0))) (curve (now (a .right)) (now (a .lengths1))) (curve (now (a .top)) (now (a .lengths2))) (curve (now (a .left)) (now (a .lengths3)))) (seams (now (a .bottom-u)) (now (a .top-u)) (now (a .left-v)) (now (a .right-v))) in
-    let n : ℕ = length (now (a .bottom-u)) - 1 in
-    let m : ℕ = length (now (a .left-v)) - 1 in
-    let l = c .before .before .before .loop in
-    let h : m < l .j = omega (arith, c .before .before .loop-test .left) in
-    let q = grid-passes f n m (l .j) _ (l .inv .7) h (c .enum-told2 .given .1) (cells-end f n m (l .j) _ (l .inv .8) h (l .inv .0)) in
-    (q, left-filled f n m (a .layout) (now (a .out)) _ q (rows-written f n (a .layout) (now (a .out)) (l .out) m (l .j) (l .inv .5) h (l .inv .0)))
+    let l = c .before .loop in
+    let h : m < l .j = omega (arith, c .loop-test .left) in
+    (grid-told f n m (l .j) _ (l .inv .7) h (cells-end f n m (l .j) _ (l .inv .8) h (l .inv .0)), laid-all f n m (a .layout) (now (a .out)) (l .j) (l .out) (l .cells) h (l .inv .0) (l .inv .5))
 
 pub grid-rows-spec : {M : Type 1} → statement M
 grid-rows-spec =
@@ -233,31 +184,19 @@ grid-rows-spec =
     shared-slice-read-v1
     slice-aggregate-fill-row
     fill-row-requires
-    enum-known-points
-    needed-requires
-    clear-requires
+    enum-told
     same-length
     returns
-    enum-told
+    enum-told-2
     array-share-prefix-low
-    slice-aggregate-check-row
+    slice-aggregate-lower
     array-share-prefix-high
-    slice-aggregate-check-row-2
+    slice-aggregate-upper
     check-row-requires
     first-refused-requires
-    array-share-prefix-low-2
-    slice-aggregate-write-row
-    array-share-prefix-high-2
-    slice-aggregate-write-row-2
     write-row-requires
     add-j
     loop-less
     loop-again
-    enum-known-cells
-    needed-requires-2
-    clear-requires-2
     same-length-2
-    returns-2
-    enum-told-2
-    same-length-3
-    returns-3)
+    returns-2)

@@ -1,14 +1,12 @@
 -- `lay::lay_region` meets its contract: once its tests are passed, the front of each buffer is the definition's seam, unless one is too long. Assumes nothing.
-use mathlib.Core.Path.{refl, sym}
-use mathlib.Core.Bool.{true, false}
+use mathlib.Core.Path.{refl, sym, _∙_}
 use native.Mathlib.Omega.{arith}
 use denote.Ref.{now}
 use lib.ListN.{length}
 use lib.Seq.{length-take-le}
 use borrow.Author.Needs.{needs}
-use borrow.Author.Tests.{lt-ltb, le-ltb}
 use Rattle.curves.specs.Lay.{field, seams-of}
-use Rattle.curves.proofs.lay.Laws.{tested, known, limits-by, lay-refused, seam-too-long, laid-by}
+use Rattle.curves.proofs.lay.Laws.{tested, known, limit-passed, lay-refused, seam-too-long, laid-by}
 use Rattle.curves.proofs.lay.lay_region.Statement.{statement}
 use Rattle.curves.proofs.lay.lay_region.Tie as tie
 
@@ -81,65 +79,42 @@ lay-side-requires-4 c κs =
     let k = known region (length counts) f t .side3 in
     (k .short, (k .edges, (k .fit, omega arith)))
 
+any-too-long-requires : tie.Need-any-too-long-requires
+any-too-long-requires c κs = search needs
+
 returns-2 : tie.Need-returns-2
 returns-2 c =
-    let a = c .before .before .before .before .before .before .before .before .before .before .before .before .before .before .before .before .before .before .before .before .before .before .before .before .before .before .before .args in
-    let region = now (a .region) in
-    let counts = now (a .counts) in
-    let f = field (now (a .breaks0)) (now (a .breaks1)) (now (a .breaks2)) (now (a .breaks3)) (now (a .bottom)) (now (a .right)) (now (a .top)) (now (a .left)) in
-    let t = tested region (length counts) f (c .before .before .before .before .before .before .before .before .before .before .before .before .before .before .before .check-lay .result) (c .before .before .before .before .before .before .before .before .before .before .before .before .before .enum-told .given .1) (c .before .before .before .before .before .before .before .before .before .before .before .before .before .before .before .check-lay .ensures) in
-    seam-too-long region counts f (now (a .out)) t (limits-by (seams-of region counts f) (c .before .before .before .before .before .before .before .before .before .before .before .lay-side .result) (c .before .before .before .before .before .lay-side3 .result) (c .before .before .lay-side4 .result) (c .before .before .before .before .before .before .before .before .lay-side2 .result) (c .before .before .before .before .before .before .before .before .before .before .before .lay-side .ensures .0) (c .before .before .before .before .before .lay-side3 .ensures .0) (c .before .before .lay-side4 .ensures .0) (c .before .before .before .before .before .before .before .before .lay-side2 .ensures .0) true _ _ _ (lt-ltb 1025 (c .before .before .before .before .before .before .before .before .before .before .before .lay-side .result) (c .if1 .taken)) refl refl refl)
-
-returns-3 : tie.Need-returns-3
-returns-3 c =
     let a = c .before .before .before .before .before .before .before .before .before .before .before .before .before .before .before .before .before .before .before .before .before .before .before .before .before .before .before .before .args in
     let region = now (a .region) in
     let counts = now (a .counts) in
     let f = field (now (a .breaks0)) (now (a .breaks1)) (now (a .breaks2)) (now (a .breaks3)) (now (a .bottom)) (now (a .right)) (now (a .top)) (now (a .left)) in
     let t = tested region (length counts) f (c .before .before .before .before .before .before .before .before .before .before .before .before .before .before .before .before .check-lay .result) (c .before .before .before .before .before .before .before .before .before .before .before .before .before .before .enum-told .given .1) (c .before .before .before .before .before .before .before .before .before .before .before .before .before .before .before .before .check-lay .ensures) in
-    seam-too-long region counts f (now (a .out)) t (limits-by (seams-of region counts f) (c .before .before .before .before .before .before .before .before .before .before .before .before .lay-side .result) (c .before .before .before .before .before .before .lay-side3 .result) (c .before .before .before .lay-side4 .result) (c .before .before .before .before .before .before .before .before .before .lay-side2 .result) (c .before .before .before .before .before .before .before .before .before .before .before .before .lay-side .ensures .0) (c .before .before .before .before .before .before .lay-side3 .ensures .0) (c .before .before .before .lay-side4 .ensures .0) (c .before .before .before .before .before .before .before .before .before .lay-side2 .ensures .0) false true _ _ (le-ltb 1025 (c .before .before .before .before .before .before .before .before .before .before .before .before .lay-side .result) (c .before .if1 .left)) (lt-ltb 1025 (c .before .before .before .before .before .before .lay-side3 .result) (c .if2 .taken)) refl refl)
-
-returns-4 : tie.Need-returns-4
-returns-4 c =
-    let a = c .before .before .before .before .before .before .before .before .before .before .before .before .before .before .before .before .before .before .before .before .before .before .before .before .before .before .before .before .before .args in
-    let region = now (a .region) in
-    let counts = now (a .counts) in
-    let f = field (now (a .breaks0)) (now (a .breaks1)) (now (a .breaks2)) (now (a .breaks3)) (now (a .bottom)) (now (a .right)) (now (a .top)) (now (a .left)) in
-    let t = tested region (length counts) f (c .before .before .before .before .before .before .before .before .before .before .before .before .before .before .before .before .before .check-lay .result) (c .before .before .before .before .before .before .before .before .before .before .before .before .before .before .before .enum-told .given .1) (c .before .before .before .before .before .before .before .before .before .before .before .before .before .before .before .before .before .check-lay .ensures) in
-    seam-too-long region counts f (now (a .out)) t (limits-by (seams-of region counts f) (c .before .before .before .before .before .before .before .before .before .before .before .before .before .lay-side .result) (c .before .before .before .before .before .before .before .lay-side3 .result) (c .before .before .before .before .lay-side4 .result) (c .before .before .before .before .before .before .before .before .before .before .lay-side2 .result) (c .before .before .before .before .before .before .before .before .before .before .before .before .before .lay-side .ensures .0) (c .before .before .before .before .before .before .before .lay-side3 .ensures .0) (c .before .before .before .before .lay-side4 .ensures .0) (c .before .before .before .before .before .before .before .before .before .before .lay-side2 .ensures .0) false false true _ (le-ltb 1025 (c .before .before .before .before .before .before .before .before .before .before .before .before .before .lay-side .result) (c .before .before .if1 .left)) (le-ltb 1025 (c .before .before .before .before .before .before .before .lay-side3 .result) (c .before .if2 .left)) (lt-ltb 1025 (c .before .before .before .before .lay-side4 .result) (c .if3 .taken)) refl)
-
-returns-5 : tie.Need-returns-5
-returns-5 c =
-    let a = c .before .before .before .before .before .before .before .before .before .before .before .before .before .before .before .before .before .before .before .before .before .before .before .before .before .before .before .before .before .before .args in
-    let region = now (a .region) in
-    let counts = now (a .counts) in
-    let f = field (now (a .breaks0)) (now (a .breaks1)) (now (a .breaks2)) (now (a .breaks3)) (now (a .bottom)) (now (a .right)) (now (a .top)) (now (a .left)) in
-    let t = tested region (length counts) f (c .before .before .before .before .before .before .before .before .before .before .before .before .before .before .before .before .before .before .check-lay .result) (c .before .before .before .before .before .before .before .before .before .before .before .before .before .before .before .before .enum-told .given .1) (c .before .before .before .before .before .before .before .before .before .before .before .before .before .before .before .before .before .before .check-lay .ensures) in
-    seam-too-long region counts f (now (a .out)) t (limits-by (seams-of region counts f) (c .before .before .before .before .before .before .before .before .before .before .before .before .before .before .lay-side .result) (c .before .before .before .before .before .before .before .before .lay-side3 .result) (c .before .before .before .before .before .lay-side4 .result) (c .before .before .before .before .before .before .before .before .before .before .before .lay-side2 .result) (c .before .before .before .before .before .before .before .before .before .before .before .before .before .before .lay-side .ensures .0) (c .before .before .before .before .before .before .before .before .lay-side3 .ensures .0) (c .before .before .before .before .before .lay-side4 .ensures .0) (c .before .before .before .before .before .before .before .before .before .before .before .lay-side2 .ensures .0) false false false true (le-ltb 1025 (c .before .before .before .before .before .before .before .before .before .before .before .before .before .before .lay-side .result) (c .before .before .before .if1 .left)) (le-ltb 1025 (c .before .before .before .before .before .before .before .before .lay-side3 .result) (c .before .before .if2 .left)) (le-ltb 1025 (c .before .before .before .before .before .lay-side4 .result) (c .before .if3 .left)) (lt-ltb 1025 (c .before .before .before .before .before .before .before .before .before .before .before .lay-side2 .result) (c .if4 .taken)))
+    seam-too-long region counts f (now (a .out)) t
+    (limit-passed (seams-of region counts f) _ _ _ _ (c .before .before .before .before .before .before .before .before .before .before .before .before .lay-side .ensures .0) (c .before .before .before .before .before .before .lay-side3 .ensures .0) (c .before .before .before .lay-side4 .ensures .0) (c .before .before .before .before .before .before .before .before .before .lay-side2 .ensures .0) (sym (c .before .any-too-long .ensures .0) ∙ c .if1 .taken))
 
 array-share-prefix-bottom-u : tie.Need-array-share-prefix-bottom-u
-array-share-prefix-bottom-u c = omega (arith, c .before .before .before .before .before .before .before .before .before .before .before .before .before .before .lay-side .kept .1 .1 .1 .1 .0, c .before .before .before .if1 .left)
+array-share-prefix-bottom-u c = omega (arith, c .before .before .before .before .before .before .before .before .before .before .before .before .lay-side .kept .1 .1 .1 .1 .0, (c .before .any-too-long .ensures .1 (c .if1 .left) .0))
 
 slice-aggregate-coons-from-parameters : tie.Need-slice-aggregate-coons-from-parameters
-slice-aggregate-coons-from-parameters c = sym (length-take-le (c .before .before .before .before .before .before .before .before .before .before .before .before .before .before .before .lay-side .result) (c .before .before .before .before .before .before .before .before .before .before .before .before .before .before .before .lay-side .last .1 .1 .1 .1 .0) (omega (arith, c .before .before .before .before .before .before .before .before .before .before .before .before .before .before .before .lay-side .kept .1 .1 .1 .1 .0, c .before .before .before .before .if1 .left)))
+slice-aggregate-coons-from-parameters c = sym (length-take-le (c .before .before .before .before .before .before .before .before .before .before .before .before .before .lay-side .result) (c .before .before .before .before .before .before .before .before .before .before .before .before .before .lay-side .last .1 .1 .1 .1 .0) (omega (arith, c .before .before .before .before .before .before .before .before .before .before .before .before .before .lay-side .kept .1 .1 .1 .1 .0, (c .before .before .any-too-long .ensures .1 (c .before .if1 .left) .0))))
 
 array-share-prefix-top-u : tie.Need-array-share-prefix-top-u
-array-share-prefix-top-u c = omega (arith, c .before .before .before .before .before .before .before .before .before .lay-side3 .kept .1 .1 .1 .1 .0, c .before .before .before .if2 .left)
+array-share-prefix-top-u c = omega (arith, c .before .before .before .before .before .before .before .lay-side3 .kept .1 .1 .1 .1 .0, (c .before .before .any-too-long .ensures .1 (c .before .if1 .left) .1))
 
 slice-aggregate-coons-from-parameters-2 : tie.Need-slice-aggregate-coons-from-parameters-2
-slice-aggregate-coons-from-parameters-2 c = sym (length-take-le (c .before .before .before .before .before .before .before .before .before .before .lay-side3 .result) (c .before .before .before .before .before .before .before .before .before .before .lay-side3 .last .1 .1 .1 .1 .0) (omega (arith, c .before .before .before .before .before .before .before .before .before .before .lay-side3 .kept .1 .1 .1 .1 .0, c .before .before .before .before .if2 .left)))
+slice-aggregate-coons-from-parameters-2 c = sym (length-take-le (c .before .before .before .before .before .before .before .before .lay-side3 .result) (c .before .before .before .before .before .before .before .before .lay-side3 .last .1 .1 .1 .1 .0) (omega (arith, c .before .before .before .before .before .before .before .before .lay-side3 .kept .1 .1 .1 .1 .0, (c .before .before .before .any-too-long .ensures .1 (c .before .before .if1 .left) .1))))
 
 array-share-prefix-left-v : tie.Need-array-share-prefix-left-v
-array-share-prefix-left-v c = omega (arith, c .before .before .before .before .before .before .before .lay-side4 .kept .1 .1 .1 .1 .0, c .before .before .before .if3 .left)
+array-share-prefix-left-v c = omega (arith, c .before .before .before .before .before .lay-side4 .kept .1 .1 .1 .1 .0, (c .before .before .before .any-too-long .ensures .1 (c .before .before .if1 .left) .2))
 
 slice-aggregate-coons-from-parameters-3 : tie.Need-slice-aggregate-coons-from-parameters-3
-slice-aggregate-coons-from-parameters-3 c = sym (length-take-le (c .before .before .before .before .before .before .before .before .lay-side4 .result) (c .before .before .before .before .before .before .before .before .lay-side4 .last .1 .1 .1 .1 .0) (omega (arith, c .before .before .before .before .before .before .before .before .lay-side4 .kept .1 .1 .1 .1 .0, c .before .before .before .before .if3 .left)))
+slice-aggregate-coons-from-parameters-3 c = sym (length-take-le (c .before .before .before .before .before .before .lay-side4 .result) (c .before .before .before .before .before .before .lay-side4 .last .1 .1 .1 .1 .0) (omega (arith, c .before .before .before .before .before .before .lay-side4 .kept .1 .1 .1 .1 .0, (c .before .before .before .before .any-too-long .ensures .1 (c .before .before .before .if1 .left) .2))))
 
 array-share-prefix-right-v : tie.Need-array-share-prefix-right-v
-array-share-prefix-right-v c = omega (arith, c .before .before .before .before .before .before .before .before .before .before .before .before .before .before .lay-side2 .kept .1 .1 .1 .1 .0, c .before .before .before .if4 .left)
+array-share-prefix-right-v c = omega (arith, c .before .before .before .before .before .before .before .before .before .before .before .before .lay-side2 .kept .1 .1 .1 .1 .0, (c .before .before .before .before .any-too-long .ensures .1 (c .before .before .before .if1 .left) .3))
 
 slice-aggregate-coons-from-parameters-4 : tie.Need-slice-aggregate-coons-from-parameters-4
-slice-aggregate-coons-from-parameters-4 c = sym (length-take-le (c .before .before .before .before .before .before .before .before .before .before .before .before .before .before .before .lay-side2 .result) (c .before .before .before .before .before .before .before .before .before .before .before .before .before .before .before .lay-side2 .last .1 .1 .1 .1 .0) (omega (arith, c .before .before .before .before .before .before .before .before .before .before .before .before .before .before .before .lay-side2 .kept .1 .1 .1 .1 .0, c .before .before .before .before .if4 .left)))
+slice-aggregate-coons-from-parameters-4 c = sym (length-take-le (c .before .before .before .before .before .before .before .before .before .before .before .before .before .lay-side2 .result) (c .before .before .before .before .before .before .before .before .before .before .before .before .before .lay-side2 .last .1 .1 .1 .1 .0) (omega (arith, c .before .before .before .before .before .before .before .before .before .before .before .before .before .lay-side2 .kept .1 .1 .1 .1 .0, (c .before .before .before .before .before .any-too-long .ensures .1 (c .before .before .before .before .if1 .left) .3))))
 
 coons-from-parameters-requires : tie.Need-coons-from-parameters-requires
 coons-from-parameters-requires c κs = search needs
@@ -147,14 +122,14 @@ coons-from-parameters-requires c κs = search needs
 same-length : tie.Need-same-length
 same-length c = c .before .before .coons-from-parameters .kept .1 .1 .1 .1 .1 .1 .1 .1 .0
 
-returns-6 : tie.Need-returns-6
-returns-6 c =
-    let a = c .before .before .before .before .before .before .before .before .before .before .before .before .before .before .before .before .before .before .before .before .before .before .before .before .before .before .before .before .before .before .before .before .before .before .before .before .before .before .args in
+returns-3 : tie.Need-returns-3
+returns-3 c =
+    let a = c .before .before .before .before .before .before .before .before .before .before .before .before .before .before .before .before .before .before .before .before .before .before .before .before .before .before .before .before .before .before .before .before .before .before .before .before .args in
     let region = now (a .region) in
     let counts = now (a .counts) in
     let f = field (now (a .breaks0)) (now (a .breaks1)) (now (a .breaks2)) (now (a .breaks3)) (now (a .bottom)) (now (a .right)) (now (a .top)) (now (a .left)) in
-    let t = tested region (length counts) f (c .before .before .before .before .before .before .before .before .before .before .before .before .before .before .before .before .before .before .before .before .before .before .before .before .before .before .check-lay .result) (c .before .before .before .before .before .before .before .before .before .before .before .before .before .before .before .before .before .before .before .before .before .before .before .before .enum-told .given .1) (c .before .before .before .before .before .before .before .before .before .before .before .before .before .before .before .before .before .before .before .before .before .before .before .before .before .before .check-lay .ensures) in
-    laid-by region counts f (now (a .out)) _ _ _ _ _ t (c .before .before .before .before .before .before .before .before .before .before .before .before .before .before .before .before .before .before .before .before .before .before .lay-side .ensures .1 (c .before .before .before .before .before .before .before .before .before .before .before .if1 .left)) (c .before .before .before .before .before .before .before .before .before .before .before .before .before .before .before .before .lay-side3 .ensures .1 (c .before .before .before .before .before .before .before .before .before .before .if2 .left)) (c .before .before .before .before .before .before .before .before .before .before .before .before .before .lay-side4 .ensures .1 (c .before .before .before .before .before .before .before .before .before .if3 .left)) (c .before .before .before .before .before .before .before .before .before .before .before .before .before .before .before .before .before .before .before .lay-side2 .ensures .1 (c .before .before .before .before .before .before .before .before .if4 .left)) (c .before .before .coons-from-parameters .ensures)
+    let t = tested region (length counts) f (c .before .before .before .before .before .before .before .before .before .before .before .before .before .before .before .before .before .before .before .before .before .before .before .before .check-lay .result) (c .before .before .before .before .before .before .before .before .before .before .before .before .before .before .before .before .before .before .before .before .before .before .enum-told .given .1) (c .before .before .before .before .before .before .before .before .before .before .before .before .before .before .before .before .before .before .before .before .before .before .before .before .check-lay .ensures) in
+    laid-by region counts f (now (a .out)) _ _ _ _ _ t (c .before .before .before .before .before .before .before .before .before .before .before .before .before .before .before .before .before .before .before .before .lay-side .ensures .1 (c .before .before .before .before .before .before .before .before .before .any-too-long .ensures .1 (c .before .before .before .before .before .before .before .before .if1 .left) .0)) (c .before .before .before .before .before .before .before .before .before .before .before .before .before .before .lay-side3 .ensures .1 (c .before .before .before .before .before .before .before .before .before .any-too-long .ensures .1 (c .before .before .before .before .before .before .before .before .if1 .left) .1)) (c .before .before .before .before .before .before .before .before .before .before .before .lay-side4 .ensures .1 (c .before .before .before .before .before .before .before .before .before .any-too-long .ensures .1 (c .before .before .before .before .before .before .before .before .if1 .left) .2)) (c .before .before .before .before .before .before .before .before .before .before .before .before .before .before .before .before .before .lay-side2 .ensures .1 (c .before .before .before .before .before .before .before .before .before .any-too-long .ensures .1 (c .before .before .before .before .before .before .before .before .if1 .left) .3)) (c .before .before .coons-from-parameters .ensures)
 
 pub lay-region-spec : {M : Type 1} → statement M
 lay-region-spec =
@@ -172,10 +147,8 @@ lay-region-spec =
     lay-side-requires-3
     slice-aggregate-lay-side-4
     lay-side-requires-4
+    any-too-long-requires
     returns-2
-    returns-3
-    returns-4
-    returns-5
     array-share-prefix-bottom-u
     slice-aggregate-coons-from-parameters
     array-share-prefix-top-u
@@ -186,4 +159,4 @@ lay-region-spec =
     slice-aggregate-coons-from-parameters-4
     coons-from-parameters-requires
     same-length
-    returns-6)
+    returns-3)
