@@ -138,6 +138,9 @@ module _ (regions incident own : List ℕ) (tables : Tables regions incident own
             let f = sym q ∙ first-is ∙ ap (λ (s : List ℕ). getD s 0 none) e in
             absurd (omega (arith, b, f))
 
+    pub some-constraint : getD incident (y * 2) 0 ≢ none → incidence (the-graph regions) y ≢ []
+    some-constraint n e = n (first-is ∙ ap (λ (s : List ℕ). getD s 0 none) e)
+
     pub one-constraint : getD incident (y * 2) 0 < none → getD incident (y * 2 + 1) 0 ≡ none → incidence (the-graph regions) y ≡ getD incident (y * 2) 0 ∷ []
     one-constraint p q = go (incidence (the-graph regions) y) refl
       where

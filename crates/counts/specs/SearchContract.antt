@@ -8,12 +8,12 @@ use mathlib.Core.Bool.{Bool, true, false, not, cond}
 use mathlib.Core.List.{List, [], _∷_, _++_}
 use Prim.Native.Nat.{ℕ, suc, _+_, _-_, _/_, _%_, _≤_, _<_}
 use lib.ListN.{length, getD, take, drop, set, replicate}
-use lib.Dec.{eqb, T}
-use lib.Ieee.{Float}
-use Rattle.counts.specs.Lists.{any}
-use Rattle.counts.specs.Region.{Constraint, constraint, holds, own-side, opposite-side}
+use lib.Dec.{eqb, leb, T}
+use lib.Ieee.{Float, inf}
+use Rattle.counts.specs.Lists.{any, each}
+use Rattle.counts.specs.Region.{Constraint, constraint, holds, own-side, opposite-side, incidence}
 use Rattle.counts.specs.Move.{Change, select}
-use Rattle.counts.specs.Search.{Go, Act, skip, differs, signed, others-changed, is-used, free, try-step, visit, dfs, run}
+use Rattle.counts.specs.Search.{Go, Act, State, skip, turned-back, entered, record-path, differs, signed, others-changed, is-used, free, try-step, visit, dfs, run}
 use Rattle.counts.specs.Tables.{decoded, path-of, state-of, the-graph, cost-in, allowed-in, none, Other, Tables}
 use Rattle.counts.specs.declared.search.SearchState.{SearchState}
 use Rattle.counts.specs.declared.search.Changed.{Changed}
@@ -129,6 +129,44 @@ Ended costs limit path best n d t home st path' best' r =
 unfoldable pub no-marks : List Bool
 no-marks = set (replicate 257 false) none true
 
+-- the state that it starts with
+abbrev pub fresh-state : SearchState
+fresh-state = record { kept = inf false; expansions = 0; len = 0; cut = false }
+
+-- The search in two acts, on any state: the entry to the start, then the crossing of each of its constraints.
+module _ (regions : List ℕ) (costs : List Float) (limit start : ℕ) where
+  abbrev pub start-cost : Float
+  start-cost = cost-in costs (start / 2) (eqb (start % 2) 1)
+
+  -- past the limit the entry is turned back; an edge without a constraint is a move by itself
+  abbrev pub entry-by : List ℕ → Act
+  entry-by [] = record-path (the-graph regions) no-marks (decoded start ∷ []) start-cost
+  entry-by (i ∷ is) = skip
+
+  abbrev pub entry-of : Act
+  entry-of st = cond (leb limit (st .expansions)) turned-back (λ (s : State). entry-by (incidence (the-graph regions) (start / 2)) (entered s)) st
+
+  -- a start that was turned back has nothing to cross
+  abbrev pub crossing-of : List Bool → Act
+  crossing-of allowed st =
+      cond (st .cut) skip (each (visit-of regions costs allowed limit start (free no-marks) no-marks (decoded start ∷ []) start start-cost) (incidence (the-graph regions) (start / 2))) st
+
+pub record Entered (regions : List ℕ) (costs : List Float) (limit start : ℕ) (path best : List ℕ) (st : SearchState) (path' best' : List ℕ) (r : SearchState) : Type 0 where
+  pub path-is : path' ≡ set path 0 start
+  pub best-kept : length best' ≡ length best
+  pub short : st .len ≤ 257 → r .len ≤ 257
+  pub answer : state-of r best' ≡ entry-of regions costs limit start (state-of st best)
+
+pub record CrossedAll (regions : List ℕ) (costs : List Float) (allowed : List Bool) (limit start : ℕ) (used : List Bool) (path best : List ℕ) (st : SearchState)
+    (used' : List Bool) (path' best' : List ℕ) (r : SearchState) : Type 0 where
+  pub used-kept : used' ≡ used
+  pub path-kept : take 1 path' ≡ take 1 path
+  pub long-kept : length path' ≡ length path
+  pub best-kept : length best' ≡ length best
+  pub short : st .len ≤ 257 → r .len ≤ 257
+  pub answer : state-of r best' ≡ crossing-of regions costs limit start allowed (state-of st best)
+
+-- both, from the fresh state
 pub record Searched (regions : List ℕ) (costs : List Float) (allowed : List Bool) (limit start : ℕ) (used' : List Bool) (path' best' : List ℕ) (r : SearchState) : Type 0 where
   pub used-kept : used' ≡ no-marks
   pub long-kept : length path' ≡ 257

@@ -3,8 +3,8 @@
 // `incident` has the constraint's number there, or 256 if there is none, and `own` the number of the side on which the edge stands.
 // `used` marks the constraints already crossed (256 always), `path` has the changes so far, `best` the kept reading.
 // `home` is the constraint of the start's edge that is still open, 256 if there is none: only there can a loop close.
-// The state is handed over in fresh structs and not lent: a struct that a call is given as it stands lives in memory from then on, which makes the
-// search two to three times as slow.
+// Inside the search the state is handed over in fresh structs and not lent: a struct that a call is given as it stands lives in memory from then
+// on, which makes the search two to three times as slow. It is lent where that is done once for each start, to `enter` and `cross`.
 use crate::region::SIDE_SIZE;
 ghost use mathlib.Core.Logic.{_≢_};
 ghost use mathlib.Core.Path.{_≡_};
@@ -18,7 +18,7 @@ ghost use Rattle.counts.specs.Region.{constraint, holds};
 ghost use Rattle.counts.specs.Move.{balances};
 ghost use Rattle.counts.specs.Search.{is-used, others-changed};
 ghost use Rattle.counts.specs.Tables.{decoded, path-of, the-graph, across, Other, Tables};
-ghost use Rattle.counts.specs.SearchContract.{both-sides, both-signed, changed-by, SidesAt, MayCross, MayStep, Crossed, Stepped, Ended, no-marks, Searched};
+ghost use Rattle.counts.specs.SearchContract.{both-sides, both-signed, changed-by, SidesAt, MayCross, MayStep, Crossed, Stepped, Ended, no-marks, fresh-state, Entered, CrossedAll, Searched};
 
 // The kept cost and the length of the kept reading, how many entries there were, and whether one was turned back.
 pub struct SearchState {
@@ -541,9 +541,73 @@ pub(crate) fn infinity() -> f64
     f64::from_bits(0x7ff0_0000_0000_0000)
 }
 
-// The whole search from one change. An edge without a constraint is a move by itself; else each of its constraints is crossed, while the
-// other one is `home`.
-pub(crate) fn run(
+// ---- the search from one start: the entry to it, then the crossing of each of its constraints
+// `enter` and `cross` are lent the state: each hands it to its core, and stores what comes back. `run` alone calls them, so that no other caller
+// has to do with a state that is lent.
+
+// The state that a search starts with.
+fn fresh() -> SearchState
+    ensures { λ r. ⌜ r ≡ fresh-state ⌝ }
+{
+    let kept = infinity();
+    SearchState {
+        kept,
+        expansions: 0,
+        len: 0,
+        cut: false,
+    }
+}
+
+// The entry to the start, which is turned back past the limit. An edge without a constraint is a move by itself.
+fn enter_start(
+    state: SearchState,
+    regions: &[u16],
+    incident: &[u16; 512],
+    own: &[u16; 512],
+    costs: &[f64; 512],
+    limit: u32,
+    path: &mut [u16; 257],
+    best: &mut [u16; 257],
+    start: usize,
+) -> SearchState
+    requires { ⌜ Tables (now regions) (now incident) (now own) ⌝ }
+    requires { ⌜ (start < 512) × (length (now path) ≡ 257) × (length (now best) ≡ 257) ⌝ }
+    ensures { λ r. ⌜ Entered (now (regions .entry)) (now (costs .entry)) limit start (now (path .entry)) (now (best .entry)) state (now (path .exit)) (now (best .exit)) r ⌝ }
+{
+    path[0] = start as u16;
+    if limit <= state.expansions {
+        return SearchState {
+            kept: state.kept,
+            expansions: state.expansions,
+            len: state.len,
+            cut: true,
+        };
+    }
+    let next = SearchState {
+        kept: state.kept,
+        expansions: state.expansions + 1,
+        len: state.len,
+        cut: state.cut,
+    };
+    if entry(incident, start / 2 * 2) != 256 {
+        return next;
+    }
+    let cost = edge_cost(costs, start);
+    if cost < next.kept - 1e-12 {
+        keep_path(path, 1, best);
+        return SearchState {
+            kept: cost,
+            expansions: next.expansions,
+            len: 1,
+            cut: next.cut,
+        };
+    }
+    next
+}
+
+// Crosses each constraint of the start, while the other one is `home`; none if the start was turned back.
+fn cross_start(
+    state: SearchState,
     regions: &[u16],
     incident: &[u16; 512],
     own: &[u16; 512],
@@ -556,46 +620,19 @@ pub(crate) fn run(
     start: usize,
 ) -> SearchState
     requires { ⌜ Tables (now regions) (now incident) (now own) ⌝ }
-    requires { ⌜ (start < 512) × (now used ≡ no-marks) × (length (now path) ≡ 257) × (length (now best) ≡ 257) ⌝ }
-    ensures { λ r. ⌜ Searched (now (regions .entry)) (now (costs .entry)) (now (allowed .entry)) limit start (now (used .exit)) (now (path .exit)) (now (best .exit)) r ⌝ }
+    requires { ⌜ (start < 512) × (now used ≡ no-marks) × (length (now path) ≡ 257) × (getD (now path) 0 0 ≡ start) × (length (now best) ≡ 257) ⌝ }
+    ensures { λ r. ⌜ CrossedAll (now (regions .entry)) (now (costs .entry)) (now (allowed .entry)) limit start (now (used .entry)) (now (path .entry)) (now (best .entry)) state (now (used .exit)) (now (path .exit)) (now (best .exit)) r ⌝ }
 {
-    let kept = infinity();
-    if limit == 0 {
-        return SearchState {
-            kept,
-            expansions: 0,
-            len: 0,
-            cut: true,
-        };
+    if state.cut {
+        return state;
     }
-    path[0] = start as u16;
-    let cost = edge_cost(costs, start);
     let place = start / 2 * 2;
     let first = entry(incident, place);
     if first == 256 {
-        if cost < kept - 1e-12 {
-            keep_path(path, 1, best);
-            return SearchState {
-                kept: cost,
-                expansions: 1,
-                len: 1,
-                cut: false,
-            };
-        }
-        return SearchState {
-            kept,
-            expansions: 1,
-            len: 0,
-            cut: false,
-        };
+        return state;
     }
     let second = entry(incident, place + 1);
-    let state = SearchState {
-        kept,
-        expansions: 1,
-        len: 0,
-        cut: false,
-    };
+    let cost = edge_cost(costs, start);
     let r = dfs(
         regions,
         incident,
@@ -615,12 +652,6 @@ pub(crate) fn run(
     if second == 256 {
         return r;
     }
-    let t = SearchState {
-        kept: r.kept,
-        expansions: r.expansions,
-        len: r.len,
-        cut: r.cut,
-    };
     dfs(
         regions,
         incident,
@@ -635,6 +666,111 @@ pub(crate) fn run(
         place + 1,
         cost,
         first,
-        t,
+        r,
     )
+}
+
+fn enter(
+    state: &mut SearchState,
+    regions: &[u16],
+    incident: &[u16; 512],
+    own: &[u16; 512],
+    costs: &[f64; 512],
+    limit: u32,
+    path: &mut [u16; 257],
+    best: &mut [u16; 257],
+    start: usize,
+)
+    requires { ⌜ Tables (now regions) (now incident) (now own) ⌝ }
+    requires { ⌜ (start < 512) × (length (now path) ≡ 257) × (length (now best) ≡ 257) ⌝ }
+    ensures { λ _. ⌜ Entered (now (regions .entry)) (now (costs .entry)) limit start (now (path .entry)) (now (best .entry)) (now (state .entry)) (now (path .exit)) (now (best .exit)) (now (state .exit)) ⌝ }
+{
+    *state = enter_start(
+        *state,
+        regions,
+        incident,
+        own,
+        costs,
+        limit,
+        path,
+        best,
+        start,
+    );
+}
+
+fn cross(
+    state: &mut SearchState,
+    regions: &[u16],
+    incident: &[u16; 512],
+    own: &[u16; 512],
+    costs: &[f64; 512],
+    allowed: &[bool; 512],
+    limit: u32,
+    used: &mut [bool; 257],
+    path: &mut [u16; 257],
+    best: &mut [u16; 257],
+    start: usize,
+)
+    requires { ⌜ Tables (now regions) (now incident) (now own) ⌝ }
+    requires { ⌜ (start < 512) × (now used ≡ no-marks) × (length (now path) ≡ 257) × (getD (now path) 0 0 ≡ start) × (length (now best) ≡ 257) ⌝ }
+    ensures { λ _. ⌜ CrossedAll (now (regions .entry)) (now (costs .entry)) (now (allowed .entry)) limit start (now (used .entry)) (now (path .entry)) (now (best .entry)) (now (state .entry)) (now (used .exit)) (now (path .exit)) (now (best .exit)) (now (state .exit)) ⌝ }
+{
+    *state = cross_start(
+        *state,
+        regions,
+        incident,
+        own,
+        costs,
+        allowed,
+        limit,
+        used,
+        path,
+        best,
+        start,
+    );
+}
+
+// The whole search from one change.
+pub(crate) fn run(
+    regions: &[u16],
+    incident: &[u16; 512],
+    own: &[u16; 512],
+    costs: &[f64; 512],
+    allowed: &[bool; 512],
+    limit: u32,
+    used: &mut [bool; 257],
+    path: &mut [u16; 257],
+    best: &mut [u16; 257],
+    start: usize,
+) -> SearchState
+    requires { ⌜ Tables (now regions) (now incident) (now own) ⌝ }
+    requires { ⌜ (start < 512) × (now used ≡ no-marks) × (length (now path) ≡ 257) × (length (now best) ≡ 257) ⌝ }
+    ensures { λ r. ⌜ Searched (now (regions .entry)) (now (costs .entry)) (now (allowed .entry)) limit start (now (used .exit)) (now (path .exit)) (now (best .exit)) r ⌝ }
+{
+    let mut state = fresh();
+    enter(
+        &mut state,
+        regions,
+        incident,
+        own,
+        costs,
+        limit,
+        path,
+        best,
+        start,
+    );
+    cross(
+        &mut state,
+        regions,
+        incident,
+        own,
+        costs,
+        allowed,
+        limit,
+        used,
+        path,
+        best,
+        start,
+    );
+    state
 }
