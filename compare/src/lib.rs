@@ -6,6 +6,7 @@
 //! - `solver`, `geometry`: an operation a function, on plain lists.
 //! - `words`, `case`: cases and answers as text.
 //! - `json`, `vector`, `generate`, `stored`, `pack`: the stored list (src/bin/stored.rs).
+//! - `together`: the oracle beside this library, with the feature `library`.
 
 include!(concat!(env!("OUT_DIR"), "/published.rs"));
 
@@ -20,6 +21,8 @@ pub mod pack;
 pub mod refusal;
 pub mod solver;
 pub mod stored;
+#[cfg(feature = "library")]
+pub mod together;
 pub mod vector;
 pub mod words;
 
