@@ -1,4 +1,5 @@
-//! The oracle: the published Rust, compiled unchanged (build.rs), asked for its answers to cases.
+//! The oracle: the published Rust, compiled unchanged (build.rs), asked for its answers to cases. With the feature `library`, `together`
+//! holds this library against it.
 //!
 //! - `reach`: the private parts of the published solver, and its round with `max_expansions` set.
 //! - `refusal`: the Rust's error messages as 01's numbers and places.
@@ -6,7 +7,6 @@
 //! - `solver`, `geometry`: an operation a function, on plain lists.
 //! - `words`, `case`: cases and answers as text.
 //! - `json`, `vector`, `generate`, `stored`, `pack`: the stored list (src/bin/stored.rs).
-//! - `together`: the oracle beside this library, with the feature `library`.
 
 include!(concat!(env!("OUT_DIR"), "/published.rs"));
 

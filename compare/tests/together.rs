@@ -77,3 +77,35 @@ fn bad_files() {
     complains(&replay(&[]), "usage");
     complains(&replay(&["tests/no-such-file"]), "tests/no-such-file");
 }
+
+#[test]
+fn bad_numbers() {
+    let scale = |arguments: &[&str]| Command::new(env!("CARGO_BIN_EXE_scale")).args(arguments).output().expect("scale starts");
+    complains(&scale(&[]), "usage");
+    complains(&scale(&["1"]), "usage");
+    complains(&scale(&["1", "-5"]), "`-5` is no whole number");
+    complains(&scale(&["seed", "5"]), "`seed` is no whole number");
+    let growth = |folder: &str| Command::new(env!("CARGO_BIN_EXE_growth")).arg(folder).output().expect("growth starts");
+    complains(&growth("tests/no-such-folder"), "tests/no-such-folder: this is no folder");
+    let speed = |path: &str| Command::new(env!("CARGO_BIN_EXE_speed")).arg(path).output().expect("speed starts");
+    complains(&speed("tests/no-such-file"), "tests/no-such-file");
+}
+
+#[test]
+fn bad_farms() {
+    let farm = "a|68 0|1 3ff0000000000000|1|1|0|1|1 1|3:1 0\n";
+    let bad = [
+        ("cut", "a|68", "cut off: the last line has no end"),
+        ("fields", "a|68 0\n", "line 1: 2 fields and not nine"),
+        ("list", farm, "line 1: the case is cut off"),
+        ("number", &farm.replace("68 0", "0").replace("|1|1 1|", "|x|1 1|"), "line 1: `x` is no number of entries"),
+        ("open", &farm.replace("|1|0|", "|0|0|"), "line 1: the solve of a is not at its end"),
+    ];
+    for (name, text, words) in bad {
+        let path = std::env::temp_dir().join(format!("together-{}-{name}.txt", std::process::id()));
+        std::fs::write(&path, text).expect("a temporary file");
+        let output = Command::new(env!("CARGO_BIN_EXE_speed")).arg(&path).output().expect("speed starts");
+        std::fs::remove_file(&path).expect("the temporary file");
+        complains(&output, words);
+    }
+}

@@ -25,7 +25,8 @@ fn run() -> Result<(), String> {
     if !Path::new(folder).is_dir() {
         return Err(format!("{folder}: this is no folder"));
     }
-    let plots: [(&str, fn() -> Result<Plot, String>); 3] = [("edges", growth::edges), ("moves", growth::moves), ("cells", growth::cells)];
+    type Maker = fn() -> Result<Plot, String>;
+    let plots: [(&str, Maker); 3] = [("edges", growth::edges), ("moves", growth::moves), ("cells", growth::cells)];
     for (name, plot) in plots {
         let path = Path::new(folder).join(format!("growth-{name}.svg"));
         fs::write(&path, plot()?.svg()).map_err(|e| format!("{}: {e}", path.display()))?;

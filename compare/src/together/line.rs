@@ -197,3 +197,122 @@ fn mesh(out: &Json, points: usize, indices: usize) -> Result<Effect, String> {
     let floats = left(out, LENT_FLOAT, 0.0, points, of_points)?;
     Ok(Effect { floats, numbers: left(out, LENT_NUMBER, 0, indices, of_indices)?, ..effect })
 }
+
+// ------------------------------------------------------------------------------------------------------------------------------------
+// Writing
+// ------------------------------------------------------------------------------------------------------------------------------------
+
+/// The line of a call with its effects.
+pub fn write(id: &str, call: &Call, effects: &[Effect]) -> String {
+    let out = match call {
+        Call::Rounds { .. } => format!("{{\"steps\":{}}}", items(effects, |effect| out_text(call, effect))),
+        _ => effects.iter().map(|effect| out_text(call, effect)).collect(),
+    };
+    format!("{{\"id\":\"{id}\",\"fn\":\"{}\",\"in\":{{{}}},\"out\":{out}}}", call.function(), in_text(call))
+}
+
+fn items<T>(list: &[T], show: impl Fn(&T) -> String) -> String {
+    format!("[{}]", list.iter().map(show).collect::<Vec<_>>().join(","))
+}
+
+fn digits(x: &f64) -> String {
+    format!("\"{:016x}\"", x.to_bits())
+}
+
+fn floats_text(list: &[f64]) -> String {
+    items(list, digits)
+}
+
+fn sides_text(sides: &Sides) -> String {
+    items(sides, |side| floats_text(side))
+}
+
+fn in_text(call: &Call) -> String {
+    let regions = |regions: &[u16]| format!("\"regions\":{}", items(regions, u16::to_string));
+    let counts = |counts: &[u32]| format!("\"counts\":{}", items(counts, u32::to_string));
+    let ideals = |ideals: &[f64]| format!("\"ideals\":{}", floats_text(ideals));
+    let step = |step: &Step| format!("{},\"limit\":{}", ideals(&step.ideals), step.limit);
+    let curves = |curves: &Sides| format!("\"curves\":{}", sides_text(curves));
+    let closed = |boundary: &[f64]| format!("\"loop\":{}", floats_text(boundary));
+    let size = |cells: &[u32; 2]| format!("\"n_u\":{},\"n_v\":{}", cells[0], cells[1]);
+    let lent = |out: &usize| format!("\"out_len\":{out}");
+    let lent_mesh = |points: &usize, indices: &usize| format!("\"points_len\":{points},\"cells_len\":{indices}");
+    let parts = match call {
+        Call::Solve { regions: r, ideals: i, counts: c } => vec![regions(r), ideals(i), counts(c)],
+        Call::Round { regions: r, counts: c, step: s } => vec![regions(r), counts(c), step(s)],
+        Call::Rounds { regions: r, counts: c, steps } => {
+            vec![regions(r), counts(c), format!("\"steps\":{}", items(steps, |s| format!("{{{}}}", step(s))))]
+        }
+        Call::Energy { counts: c, ideals: i } => vec![counts(c), ideals(i)],
+        Call::Hold { regions: r, counts: c } => vec![regions(r), counts(c)],
+        Call::Root { x } => vec![format!("\"x\":{}", digits(x))],
+        Call::FromParameters { curves: four, seams, out } => {
+            let named =
+                ["bottom", "right", "top", "left"].iter().zip(seams).map(|(side, seam)| format!("\"{side}\":{}", floats_text(seam)));
+            named.chain([curves(four), lent(out)]).collect()
+        }
+        Call::Curves { curves: four, cells, out } => vec![curves(four), size(cells), lent(out)],
+        Call::Checked { boundary, cells, out } => vec![closed(boundary), size(cells), lent(out)],
+        Call::Lay { record, counts: c, breaks, curves: four, out } => {
+            let record = format!("\"record\":{}", items(record, u16::to_string));
+            vec![record, counts(c), format!("\"breaks\":{}", sides_text(breaks)), curves(four), lent(out)]
+        }
+        Call::MeshCurves { curves: four, cells, points, indices } => vec![curves(four), size(cells), lent_mesh(points, indices)],
+        Call::Mesh { boundary, cells, points, indices } => vec![closed(boundary), size(cells), lent_mesh(points, indices)],
+    };
+    parts.join(",")
+}
+
+fn out_text(call: &Call, effect: &Effect) -> String {
+    let mut parts = vec![format!("\"refusal\":{}", effect.refusal)];
+    if effect.refusal != 0 {
+        parts.push(format!("\"places\":[{},{}]", effect.places[0], effect.places[1]));
+    }
+    let accepted = effect.refusal == 0;
+    match call {
+        Call::Solve { .. } | Call::Round { .. } | Call::Rounds { .. } => {
+            let cost = if effect.number == 1 { digits(&effect.value) } else { "null".to_string() };
+            match call {
+                Call::Solve { .. } if accepted => parts.push(format!("\"moves\":{}", effect.number)),
+                _ if accepted => parts.push(format!("\"cost\":{cost},\"cut\":{}", effect.cut)),
+                _ => {}
+            }
+            parts.push(format!("\"counts\":{}", items(&effect.numbers, u32::to_string)));
+        }
+        Call::Energy { .. } if accepted => parts.push(format!("\"energy\":{}", digits(&effect.value))),
+        Call::Root { .. } if accepted => parts.push(format!("\"root\":{}", digits(&effect.value))),
+        Call::Hold { .. } if accepted => parts.push(format!("\"hold\":{}", effect.number)),
+        Call::Energy { .. } | Call::Root { .. } | Call::Hold { .. } => {}
+        Call::MeshCurves { .. } | Call::Mesh { .. } => parts.push(mesh_text(effect)),
+        _ => parts.push(grid_text(effect)),
+    }
+    format!("{{{}}}", parts.join(","))
+}
+
+/// How many values of a buffer are written: all up to the last that is not as it was lent.
+fn touched<T: PartialEq>(buffer: &[T], lent: &T) -> usize {
+    buffer.iter().rposition(|value| value != lent).map_or(0, |last| last + 1)
+}
+
+fn grid_text(effect: &Effect) -> String {
+    let needed = touched(&effect.floats, &LENT_FLOAT);
+    match effect.refusal {
+        0 => format!("\"quads\":{},\"out\":{}", effect.number, floats_text(&effect.floats[..8 * effect.number as usize])),
+        _ if needed == 0 => "\"out\":\"all\"".to_string(),
+        _ => format!("\"out\":\"zero\",\"needed\":{needed}"),
+    }
+}
+
+fn mesh_text(effect: &Effect) -> String {
+    let (points, indices) = (touched(&effect.floats, &LENT_FLOAT), touched(&effect.numbers, &LENT_NUMBER));
+    match effect.refusal {
+        0 => format!(
+            "\"quads\":{},\"points\":{},\"cells\":{}",
+            effect.number,
+            floats_text(&effect.floats[..points]),
+            items(&effect.numbers[..indices], u32::to_string)
+        ),
+        _ if points == 0 => "\"out\":\"all\"".to_string(),
+        _ => format!("\"out\":\"zero\",\"needed\":[{points},{indices}]"),
+    }
+}

@@ -5,7 +5,7 @@
 //! - `line`: a call and its effect as a line of the vectors' format.
 //! - `expected`: the effect that the oracle and 01 give.
 //! - `clock`, `farms`, `speed`, `growth`, `plot`: both timed in turn.
-//! - `farm`, `random`: farms, numbers from a seed.
+//! - `scale`: both on many calls; `farm`, `random`: farms, numbers from a seed.
 
 pub mod call;
 pub mod clock;
@@ -17,4 +17,5 @@ pub mod library;
 pub mod line;
 pub mod plot;
 pub mod random;
+pub mod scale;
 pub mod speed;

@@ -265,9 +265,9 @@ pub fn roots() -> Result<(), String> {
     println!("| values | machine's sqrt | here | here / machine |");
     println!("|---|---|---|---|");
     let mut random = Random::new(1);
-    let any: Vec<f64> = (0..4096).map(|_| f64::from_bits(random.next() % f64::INFINITY.to_bits())).collect();
+    let any: Vec<f64> = (0..4096).map(|_| f64::from_bits(random.bits() % f64::INFINITY.to_bits())).collect();
     let lengths: Vec<f64> = (0..4096).map(|_| random.unit() * 1e4).collect();
-    let least: Vec<f64> = (0..4096).map(|_| f64::from_bits(random.next() % f64::MIN_POSITIVE.to_bits())).collect();
+    let least: Vec<f64> = (0..4096).map(|_| f64::from_bits(random.bits() % f64::MIN_POSITIVE.to_bits())).collect();
     for (name, values) in [("any above zero", any), ("0 to 10,000", lengths), ("below the normal numbers", least)] {
         let machine = || values.iter().map(|&x| black_box(black_box(x).sqrt()).to_bits()).fold(0, u64::wrapping_add);
         let here = || {
