@@ -52,11 +52,8 @@ fn link(package: &Path) -> Result<(), String> {
         Err(_) => staticlib(&package.join(".."))?,
     };
     let archive = folder.join("libexports.a");
-    let bytes = fs::read(&archive).map_err(|e| format!("{}: {e}", archive.display()))?;
-    let name = b"juplatsk_mesh_tile";
-    println!("cargo:rustc-check-cfg=cfg(meshes)");
-    if bytes.windows(name.len()).any(|part| part == name) {
-        println!("cargo:rustc-cfg=meshes");
+    if !archive.is_file() {
+        return Err(format!("{}: there is no such file", archive.display()));
     }
     println!("cargo:rerun-if-changed={}", archive.display());
     println!("cargo:rustc-link-search=native={}", folder.display());

@@ -1,8 +1,7 @@
 //! replay FILES..: runs the vectors of the files through this library's exported functions; prints each that differs. Exit status 0 only
 //! if none does.
 
-use compare::together::call;
-use compare::together::{library, line};
+use compare::together::{call, line};
 use std::process::ExitCode;
 use std::{env, fs};
 
@@ -40,7 +39,6 @@ fn replay(path: &str) -> Result<usize, String> {
         let line = line::read(text).map_err(|problem| format!("{path}, line {number}: {problem}"))?;
         match line.case {
             None => inner += 1,
-            Some((call, _)) if !library::MESHES && call.needs_meshes() => inner += 1,
             Some((call, expected)) => match call::difference(&expected, &call.made()) {
                 None => same += 1,
                 Some(what) => {
@@ -50,6 +48,6 @@ fn replay(path: &str) -> Result<usize, String> {
             },
         }
     }
-    println!("{path}: {same} as expected, {different} different, {inner} of functions that are not exported");
+    println!("{path}: {same} as expected, {different} different, {inner} of inner functions, which are not exported");
     Ok(different)
 }

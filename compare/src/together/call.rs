@@ -133,11 +133,6 @@ impl Call {
         }]
     }
 
-    /// Whether the function is one of loops and meshes.
-    pub fn needs_meshes(&self) -> bool {
-        matches!(self, Call::Checked { .. } | Call::MeshCurves { .. } | Call::Mesh { .. })
-    }
-
     /// Makes the call: one effect for each round of a list, else just one.
     pub fn made(&self) -> Vec<Effect> {
         match self {

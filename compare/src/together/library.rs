@@ -96,10 +96,6 @@ extern "C" {
         out_len: usize,
         answer: Answer,
     ) -> u32;
-}
-
-#[cfg(meshes)]
-extern "C" {
     fn juplatsk_coons_checked(
         boundary: Floats,
         boundary_len: usize,
@@ -248,13 +244,11 @@ pub fn lay_region(region: &[u16], counts: &[u32], breaks: &Sides, curves: &Sides
     }
 }
 
-#[cfg(meshes)]
 pub fn coons_checked(boundary: &[f64], cells: [u32; 2], out: &mut [f64], answer: Answer) -> u32 {
     let [n_u, n_v] = cells;
     unsafe { juplatsk_coons_checked(boundary.as_ptr(), boundary.len(), n_u, n_v, out.as_mut_ptr(), out.len(), answer) }
 }
 
-#[cfg(meshes)]
 pub fn mesh_tile_curves(curves: &Sides, cells: [u32; 2], points: &mut [f64], indices: &mut [u32], answer: Answer) -> u32 {
     let [bottom, right, top, left] = curves;
     let [n_u, n_v] = cells;
@@ -279,27 +273,8 @@ pub fn mesh_tile_curves(curves: &Sides, cells: [u32; 2], points: &mut [f64], ind
     }
 }
 
-#[cfg(meshes)]
 pub fn mesh_tile(boundary: &[f64], cells: [u32; 2], points: &mut [f64], indices: &mut [u32], answer: Answer) -> u32 {
     let [n_u, n_v] = cells;
     let (lent, length) = (points.as_mut_ptr(), points.len());
     unsafe { juplatsk_mesh_tile(boundary.as_ptr(), boundary.len(), n_u, n_v, lent, length, indices.as_mut_ptr(), indices.len(), answer) }
-}
-
-/// Whether the archive has the functions of loops and meshes.
-pub const MESHES: bool = cfg!(meshes);
-
-#[cfg(not(meshes))]
-pub fn coons_checked(_: &[f64], _: [u32; 2], _: &mut [f64], _: Answer) -> u32 {
-    unreachable!("the archive does not have it")
-}
-
-#[cfg(not(meshes))]
-pub fn mesh_tile_curves(_: &Sides, _: [u32; 2], _: &mut [f64], _: &mut [u32], _: Answer) -> u32 {
-    unreachable!("the archive does not have it")
-}
-
-#[cfg(not(meshes))]
-pub fn mesh_tile(_: &[f64], _: [u32; 2], _: &mut [f64], _: &mut [u32], _: Answer) -> u32 {
-    unreachable!("the archive does not have it")
 }

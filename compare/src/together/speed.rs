@@ -103,7 +103,7 @@ pub fn solves(farms: &[Farm], all: bool) -> Result<(), String> {
     println!("\nA whole solve.\n");
     println!("| farm | moves | entries of the Rust | cut | Rust | here | ratio |");
     println!("|---|---|---|---|---|---|---|");
-    for farm in farms {
+    for farm in farms.iter().chain([&free_edges()]) {
         if farm.entries > LARGEST && !all {
             println!("| {} | {} | {} | {} | minutes | - | - |", farm.name, farm.moves, farm.entries, if farm.cut { "yes" } else { "no" });
             continue;
@@ -112,6 +112,15 @@ pub fn solves(farms: &[Farm], all: bool) -> Result<(), String> {
         println!("| {} | {} | {} | {} | {} |", farm.name, farm.moves, farm.entries, if farm.cut { "yes" } else { "no" }, times(pair));
     }
     Ok(())
+}
+
+/// No region: a farm of very many moves with nothing to search.
+fn free_edges() -> Farm {
+    let (edges, ideal) = (256u32, 100u32);
+    let ideals = vec![f64::from(ideal); edges as usize];
+    let entries = reach::solve_effort(&[], &ideals, usize::MAX - 1) as u64;
+    let name = format!("{edges} free edges, ideal {ideal}");
+    Farm { name, records: Vec::new(), ideals, moves: edges * ideal, cut: false, entries, underway: Vec::new() }
 }
 
 pub fn solve(farm: &Farm) -> Result<Pair, String> {
@@ -173,6 +182,7 @@ fn same_floats<'a>(rust: impl Iterator<Item = &'a f64>, here: &[f64]) -> Result<
 
 pub fn from_parameters(effort: Effort, curves: &Sides, seams: &Sides, out: &mut [f64]) -> Result<Pair, String> {
     let boundary = published(curves);
+    out.fill(f64::NAN);
     let out = std::cell::RefCell::new(out);
     let here = || library::coons_from_parameters(curves, seams, &mut out.borrow_mut(), &mut [0; 3]);
     let rust = || simons_qgp::coons_from_parameters(&boundary, &seams[0], &seams[2], &seams[3], &seams[1]);
@@ -190,6 +200,7 @@ fn same_quads(rust: &Quads, refusal: u32, out: &[f64]) -> Result<(), String> {
 
 fn coons_curves(curves: &Sides, out: &mut [f64]) -> Result<Pair, String> {
     let boundary = published(curves);
+    out.fill(f64::NAN);
     let out = std::cell::RefCell::new(out);
     let here = || library::coons_curves(curves, [CELLS as u32; 2], &mut out.borrow_mut(), &mut [0; 3]);
     race(GRID, || simons_qgp::coons_curves(&boundary, CELLS, CELLS), here, |quads, refusal| same_quads(quads, *refusal, &out.borrow()))
@@ -197,6 +208,8 @@ fn coons_curves(curves: &Sides, out: &mut [f64]) -> Result<Pair, String> {
 
 fn mesh_tile_curves(curves: &Sides, points: &mut [f64], indices: &mut [u32]) -> Result<Pair, String> {
     let boundary = published(curves);
+    points.fill(f64::NAN);
+    indices.fill(u32::MAX);
     let lent = std::cell::RefCell::new((points, indices));
     let here = || {
         let (points, indices) = &mut *lent.borrow_mut();
@@ -236,7 +249,7 @@ pub fn grids() -> Result<(), String> {
         row("coons_curves", "even", length, coons_curves(&curves, &mut out)?);
     }
     let (mut points, mut indices) = (vec![0.0; 3 * (CELLS + 1) * (CELLS + 1)], vec![0; 4 * CELLS * CELLS]);
-    for length in if library::MESHES { vec![2, 64, 1024] } else { vec![] } {
+    for length in [2, 64, 1024] {
         row("mesh_tile_curves", "even", length, mesh_tile_curves(&bent(length), &mut points, &mut indices)?);
     }
     memory(&mut out);

@@ -181,7 +181,10 @@ fn loops(sink: Sink) -> Result<(), String> {
         closed.extend([0.0, 0.0]);
         let mut odd = open.clone();
         odd.push(0.0);
-        for boundary in [open, closed, odd] {
+        // The last point within the allowance of a corner, but not equal to the first: it is not dropped.
+        let mut apart = open.clone();
+        apart[8 * points - 1] = 1e-10;
+        for boundary in [open, closed, odd, apart] {
             sink(Call::Checked { boundary: boundary.clone(), cells: [2, 3], out: 48 })?;
             sink(Call::Mesh { boundary, cells: [2, 3], points: 36, indices: 24 })?;
         }

@@ -12,7 +12,7 @@ mod solver;
 
 use super::call::{difference, Call};
 use super::random::Random;
-use super::{clock, expected, library, line};
+use super::{clock, expected, line};
 use std::collections::BTreeMap;
 
 /// Differences of a function that are shown, in their smallest form.
@@ -53,9 +53,6 @@ pub fn run(seed: u64, count: u64) -> Result<Run, String> {
 
 impl Run {
     fn check(&mut self, kind: &'static str, call: Call) -> Result<(), String> {
-        if !library::MESHES && call.needs_meshes() {
-            return Ok(());
-        }
         let expected = expected::effects(&call)?;
         self.cases += 1;
         let tally = self.tallies.entry((kind, call.function())).or_default();
