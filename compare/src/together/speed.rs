@@ -253,6 +253,21 @@ pub fn grids() -> Result<(), String> {
         row("mesh_tile_curves", "even", length, mesh_tile_curves(&bent(length), &mut points, &mut indices)?);
     }
     memory(&mut out);
+    small_grids()
+}
+
+/// Tiles of the size that the farms have.
+fn small_grids() -> Result<(), String> {
+    println!("\nSmall grids by coons_from_parameters, on curves of 16 points.\n");
+    println!("| cells | seams | Rust | here | ratio |");
+    println!("|---|---|---|---|---|");
+    for cells in [1, 4, 8, 16, 64] {
+        for (name, slanted) in [("even", false), ("slanted", true)] {
+            let mut out = vec![0.0; 8 * cells * cells];
+            let pair = from_parameters(SHORT, &bent(16), &seams(cells, slanted), &mut out)?;
+            println!("| {cells} by {cells} | {name} | {} |", times(pair));
+        }
+    }
     Ok(())
 }
 
