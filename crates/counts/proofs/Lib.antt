@@ -28,7 +28,6 @@ pub mod Scan
 pub mod SearchLaws
 pub mod Sides
 pub mod SolveLoop
-pub mod SolverCases
 pub mod SolverLaws
 pub mod Solving
 pub mod Sound

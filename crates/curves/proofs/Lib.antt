@@ -3,4 +3,3 @@ pub mod ListLaws
 pub mod TestLaws
 pub mod Clear
 pub mod Demand
-pub mod Cases

@@ -87,6 +87,10 @@ unfolding curves-limit seams-limit patch
 coons-from-parameters layout bottom right top left s out =
     unless (then-test (curves-limit bottom right top left) (seams-limit s)) out (patch layout bottom right top left s out)
 
+-- its quads by name
+abbrev pub coons-seamed : List Float → List Float → List Float → List Float → Seams → List Float → Outcome
+coons-seamed = coons-from-parameters Quads
+
 -- "n_u and n_v at most 1,024": 1; "n_u or n_v zero": 26
 unfoldable pub cells-limit : ℕ → ℕ → Verdict
 cells-limit n m =

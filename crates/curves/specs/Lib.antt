@@ -17,4 +17,3 @@ pub mod Grid
 pub mod Coons
 pub mod Lay
 pub mod Demand
-pub mod Cases

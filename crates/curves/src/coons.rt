@@ -6,7 +6,7 @@ ghost use Rattle.counts.specs.Refusal.{outcome};
 ghost use Rattle.curves.specs.Curve.{curve, Sampled};
 ghost use Rattle.curves.specs.Boundary.{boundary, curve-ends};
 ghost use Rattle.curves.specs.Grid.{seams};
-ghost use Rattle.curves.specs.Coons.{outcome-of, grid-stage, patch, seam-limit, seams-limit, curve-limit, curves-limit, cells-limit, coons-from-parameters, coons-curves, coons-quads, coons-nodes};
+ghost use Rattle.curves.specs.Coons.{outcome-of, grid-stage, patch, seam-limit, seams-limit, curve-limit, curves-limit, cells-limit, coons-from-parameters, coons-seamed, coons-curves, coons-quads, coons-nodes};
 use crate::boundary::BoundaryAnswer;
 use crate::boundary::Ends;
 use crate::boundary::checked_curves;
@@ -353,7 +353,7 @@ pub fn coons_from_parameters(
     right_v: &[f64],
     out: &mut [f64],
 ) -> GridAnswer
-    ensures { λ r. ⌜ outcome-of r (now (out .exit)) ≡ coons-from-parameters Layout.Quads (now (bottom .entry)) (now (right .entry)) (now (top .entry)) (now (left .entry)) (seams (now («bottom_u» .entry)) (now («top_u» .entry)) (now («left_v» .entry)) (now («right_v» .entry))) (now (out .entry)) ⌝ }
+    ensures { λ r. ⌜ outcome-of r (now (out .exit)) ≡ coons-seamed (now (bottom .entry)) (now (right .entry)) (now (top .entry)) (now (left .entry)) (seams (now («bottom_u» .entry)) (now («top_u» .entry)) (now («left_v» .entry)) (now («right_v» .entry))) (now (out .entry)) ⌝ }
 {
     from_parameters(
         bottom,

@@ -1,1 +1,2 @@
--- The laws that belong to no one module of the code: none so far. Assumes nothing.
+-- The laws that belong to no one module of the code. Assumes nothing.
+pub mod Cases

@@ -1,2 +1,5 @@
 -- The definitions of the crate. Assumes nothing.
+pub mod Cases
 pub mod Loop
+pub mod Mesh
+pub mod Tile

@@ -93,7 +93,7 @@ fn copy_points(points: &[f64], k: usize, n: usize, out: &mut [f64], from: usize)
 }
 
 // Writes the points of the curve of side k, bottom 0 to left 3, to the start of the buffer, and returns how many values these are.
-pub(crate) fn curve_of(points: &[f64], k: usize, out: &mut [f64]) -> usize
+fn curve_of(points: &[f64], k: usize, out: &mut [f64]) -> usize
     requires { ⌜ (k < 4) × (point-count (now points) ≤ 4096) × (2048 ≤ length (now out)) ⌝ }
     ensures { λ r. ⌜ r ≡ length (piece (now (points .entry)) k) ⌝ }
     ensures { λ r. ⌜ now (out .exit) ≡ splice (now (out .entry)) 0 (piece (now (points .entry)) k) ⌝ }
@@ -109,4 +109,27 @@ pub(crate) fn curve_of(points: &[f64], k: usize, out: &mut [f64]) -> usize
     let start = k * m;
     copy_points(points, start, m, out, 0);
     2 * m
+}
+
+// 000's `from_loop`: writes the four curves of a loop that is not refused to the starts of the buffers, and returns how many values each has.
+pub(crate) fn from_loop(
+    points: &[f64],
+    bottom: &mut [f64],
+    right: &mut [f64],
+    top: &mut [f64],
+    left: &mut [f64],
+) -> usize
+    requires { ⌜ point-count (now points) ≤ 4096 ⌝ }
+    requires { ⌜ (2048 ≤ length (now bottom)) × (2048 ≤ length (now right)) × (2048 ≤ length (now top)) × (2048 ≤ length (now left)) ⌝ }
+    ensures { λ r. ⌜ (r ≡ length (piece (now (points .entry)) 0)) × (r ≡ length (piece (now (points .entry)) 1)) × (r ≡ length (piece (now (points .entry)) 2)) × (r ≡ length (piece (now (points .entry)) 3)) ⌝ }
+    ensures { λ r. ⌜ now (bottom .exit) ≡ splice (now (bottom .entry)) 0 (piece (now (points .entry)) 0) ⌝ }
+    ensures { λ r. ⌜ now (right .exit) ≡ splice (now (right .entry)) 0 (piece (now (points .entry)) 1) ⌝ }
+    ensures { λ r. ⌜ now (top .exit) ≡ splice (now (top .entry)) 0 (piece (now (points .entry)) 2) ⌝ }
+    ensures { λ r. ⌜ now (left .exit) ≡ splice (now (left .entry)) 0 (piece (now (points .entry)) 3) ⌝ }
+{
+    let n = curve_of(points, 0, bottom);
+    curve_of(points, 1, right);
+    curve_of(points, 2, top);
+    curve_of(points, 3, left);
+    n
 }

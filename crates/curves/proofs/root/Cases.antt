@@ -1,20 +1,11 @@
--- Roots that are computed: 01's case L, and a table of operands and their roots by bit patterns. Assumes nothing.
+-- Roots that are computed: a table of operands and their roots by bit patterns. Assumes nothing.
 use mathlib.Core.Path.{_≡_, refl}
-use mathlib.Core.Bool.{Bool, true, false, _&&_}
+use mathlib.Core.Bool.{Bool, true, _&&_}
 use mathlib.Core.List.{List, [], _∷_}
 use Prim.Native.Nat.{ℕ}
-use lib.IntN.{negsuc}
 use lib.Dec.{eqb}
-use lib.Ieee.{fin, binary64, ofBits, toBits}
+use lib.Ieee.{binary64, ofBits, toBits}
 use Rattle.curves.specs.Root.{root}
-use Rattle.curves.specs.Answers.{root-answer, good}
-
--- case L: "root of 2^-1074 is 2^-537"; `negsuc n` is -(n + 1)
-pub case-L : root-answer (fin false 1 (negsuc 1073)) ≡ good (fin false 1 (negsuc 536))
-unfolding root-answer
-case-L = refl
-
--- ---- the table
 
 record Case : Type 0 where
   operand : ℕ

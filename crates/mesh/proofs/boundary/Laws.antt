@@ -9,7 +9,7 @@ use lib.ListN.{length, getD, set, take, drop, length-drop, length-append}
 use lib.Seq.{length-take-le, take-all, take-suc, getD-drop, take-at, drop-at}
 use lib.Dec.{leb, ltb, eqb}
 use lib.Ieee.{Float, nan, eq}
-use borrow.Author.Tests.{leb-true, lt-ltb, le-ltb, le-leb, lt-leb, eq-eqb, ne-eqb}
+use borrow.Author.Tests.{leb-true, lt-ltb, le-ltb, le-leb, lt-leb, eq-eqb, ne-eqb, eqb-true, eqb-false}
 use Rattle.counts.specs.Refusal.{Verdict, passed, refused, then-test, refuse-if}
 use Rattle.curves.specs.Curve.{point-count}
 use Rattle.curves.specs.Lists.{splice}
@@ -159,3 +159,20 @@ module _ (points : List Float) where
           sym (length-points-from points (k * (r / 4)) (r / 4) (quarter-fits k h)) ∙ ap length is,
           w ∙ ap (splice d 0) is,
         )
+
+  -- the four pieces are equally long
+  pub pieces-alike : (j k : ℕ) → j < 4 → k < 4 → length (piece points j) ≡ length (piece points k)
+  pieces-alike j k g h = go (eqb used 4) refl
+    where
+      used : ℕ
+      used = points-used points
+
+      corners : (k : ℕ) → k < 4 → used ≡ 4 → 4 ≡ length (piece points k)
+      corners k h e = let u = used-at-most in corners-written used refl k points _ _ h e (omega (arith, u, e)) refl refl .0
+
+      quarters : (k : ℕ) → k < 4 → (used ≡ 4 → ⊥) → 2 * (used / 4) ≡ length (piece points k)
+      quarters k h n = quarter-written used refl k points _ h n refl .0
+
+      go : (b : Bool) → eqb used 4 ≡ b → length (piece points j) ≡ length (piece points k)
+      go true e = let q = eqb-true used 4 e in sym (corners j g q) ∙ corners k h q
+      go false e = let q = eqb-false used 4 e in sym (quarters j g q) ∙ quarters k h q

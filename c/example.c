@@ -1,0 +1,181 @@
+/* Calls the library from C: cases of the bench table, a grid, a lay, a mesh, refusals, and the borders that the header guards. What it
+ * prints is compared with the file `expected`. */
+#include "../include/juplatsk.h"
+
+#include <math.h>
+#include <stdio.h>
+#include <string.h>
+
+#define LENGTH(array) (sizeof(array) / sizeof(array)[0])
+
+static void one_edge(uint16_t *record, unsigned side, uint16_t edge)
+{
+    jp_set_side(record, side, &edge, 1);
+}
+
+static void tell(const char *name, uint32_t number, const uint32_t *answer, size_t n)
+{
+    size_t i;
+    printf("%s: %u,", name, number);
+    for (i = 0; i < n; i++) {
+        printf(" %u", answer[i]);
+    }
+    printf("\n");
+}
+
+static void tell_counts(const uint32_t *counts, size_t n)
+{
+    size_t i;
+    printf("  counts");
+    for (i = 0; i < n; i++) {
+        printf(" %u", counts[i]);
+    }
+    printf("\n");
+}
+
+static void tell_values(const char *name, const double *values, size_t n)
+{
+    size_t i;
+    printf("  %s", name);
+    for (i = 0; i < n; i++) {
+        printf(" %g", values[i]);
+    }
+    printf("\n");
+}
+
+/* Case A of the bench table: two tiles side by side, which share edge 1. */
+static void farm(uint16_t *regions)
+{
+    memset(regions, 0, 2 * JP_RECORD * sizeof *regions);
+    one_edge(regions, 0, 0);
+    one_edge(regions, 1, 1);
+    one_edge(regions, 2, 2);
+    one_edge(regions, 3, 3);
+    one_edge(regions + JP_RECORD, 0, 4);
+    one_edge(regions + JP_RECORD, 1, 5);
+    one_edge(regions + JP_RECORD, 2, 6);
+    one_edge(regions + JP_RECORD, 3, 1);
+}
+
+static const double ideals[7] = {4, 2, 4, 2, 2, 2, 2};
+
+static void solver(void)
+{
+    uint16_t regions[2 * JP_RECORD];
+    uint32_t counts[8] = {9, 9, 9, 9, 9, 9, 9, 9};
+    uint32_t answer[4];
+    double value[1];
+    farm(regions);
+    tell("A", jp_solve_counts(regions, LENGTH(regions), ideals, 7, counts, 8, answer), answer, 3);
+    tell_counts(counts, 8);
+    tell("hold", jp_constraints_hold(regions, LENGTH(regions), counts, 7, answer), answer, 3);
+    tell("energy", jp_energy(counts, 7, ideals, 7, answer, value), answer, 2);
+    tell_values("sum", value, 1);
+    tell("round", jp_round(regions, LENGTH(regions), ideals, 7, counts, 7, 100000, answer, value), answer, 4);
+    counts[0] = 0;
+    tell("K, limit 0", jp_round(NULL, 0, ideals, 1, counts, 1, 0, answer, value), answer, 4);
+    tell("K, limit 1", jp_round(NULL, 0, ideals, 1, counts, 1, 1, answer, value), answer, 4);
+    tell_values("cost", value, 1);
+    tell_counts(counts, 1);
+}
+
+static const double bottom[4] = {0, 0, 1, 0};
+static const double right[4] = {1, 0, 1, 1};
+static const double top[4] = {1, 1, 0, 1};
+static const double left[4] = {0, 1, 0, 0};
+static const double square[8] = {0, 0, 1, 0, 1, 1, 0, 1};
+static const double clockwise[8] = {0, 0, 0, 1, 1, 1, 1, 0};
+
+static void grids(void)
+{
+    static const double early[3] = {0, 0, 1};
+    static const double late[3] = {0, 1, 1};
+    static const double ends[2] = {0, 1};
+    uint16_t regions[2 * JP_RECORD];
+    uint32_t counts[4] = {2, 1, 2, 1};
+    uint32_t answer[3];
+    uint32_t cells[16];
+    double out[33];
+    double points[27];
+    out[32] = 7;
+    tell("H", jp_coons_curves(bottom, 4, right, 4, top, 4, left, 4, 2, 2, out, 33, answer), answer, 3);
+    tell_values("last quad, and past it", out + 24, 9);
+    tell("I", jp_coons_checked(clockwise, 8, 2, 2, out, 33, answer), answer, 3);
+    tell_values("left", out + 24, 9);
+    tell("J", jp_coons_from_parameters(bottom, 4, right, 4, top, 4, left, 4, early, 3, late, 3, early, 3, late, 3, out, 33, answer), answer,
+         3);
+    tell_values("cleared", out + 24, 9);
+    farm(regions);
+    tell("lay", jp_lay_region(regions, JP_RECORD, counts, 4, ends, 2, ends, 2, ends, 2, ends, 2, bottom, 4, right, 4, top, 4, left, 4, out,
+                              33, answer),
+         answer, 3);
+    tell_values("quads", out, 16);
+    tell("mesh", jp_mesh_tile(square, 8, 2, 2, points, 27, cells, 16, answer), answer, 3);
+    tell_values("middle point", points + 12, 3);
+    printf("  last cell %u %u %u %u\n", cells[12], cells[13], cells[14], cells[15]);
+    tell("mesh of curves, short cells", jp_mesh_tile_curves(bottom, 4, right, 4, top, 4, left, 4, 2, 2, points, 27, cells, 15, answer), answer,
+         3);
+}
+
+static void refusals(void)
+{
+    uint16_t regions[2 * JP_RECORD];
+    uint32_t counts[7] = {9, 9, 9, 9, 9, 9, 9};
+    uint32_t answer[3];
+    double root[1];
+    double bad[7];
+    farm(regions);
+    tell("cut record", jp_solve_counts(regions, 67, ideals, 7, counts, 7, answer), answer, 3);
+    tell("edge 6 without an ideal", jp_solve_counts(regions, LENGTH(regions), ideals, 6, counts, 7, answer), answer, 3);
+    memcpy(bad, ideals, sizeof bad);
+    bad[3] = NAN;
+    tell("ideal 3 is a NaN", jp_solve_counts(regions, LENGTH(regions), bad, 7, counts, 7, answer), answer, 3);
+    one_edge(regions, 2, 0);
+    tell("G", jp_solve_counts(regions, JP_RECORD, ideals, 7, counts, 7, answer), answer, 3);
+    tell_counts(counts, 7);
+    printf("root of 2: %u,", jp_root(2, root));
+    printf(" %.17g\n", root[0]);
+    printf("root of -1: %u,", jp_root(-1, root));
+    printf(" %g\n", root[0]);
+    printf("17 edges: %u\n", jp_set_side(regions, 0, regions, 17));
+    printf("side 4: %u\n", jp_set_side(regions, 4, NULL, 0));
+}
+
+/* JP_BAD_BUFFER is answered by the header alone: such a call does not reach the archive. */
+static void borders(void)
+{
+    union {
+        double values[8];
+        uint32_t numbers[16];
+        unsigned char bytes[64];
+    } shared;
+    uint32_t counts[7] = {9, 9, 9, 9, 9, 9, 9};
+    uint32_t answer[3] = {5, 5, 5};
+    double sum[1] = {5};
+    memset(&shared, 0, sizeof shared);
+    tell("D: no regions, no ideals, no counts", jp_solve_counts(NULL, 0, NULL, 0, NULL, 0, answer), answer, 3);
+    answer[0] = answer[1] = answer[2] = 5;
+    tell("NULL with a length", jp_solve_counts(NULL, 68, ideals, 7, counts, 7, answer), answer, 3);
+    tell("NULL ideals", jp_solve_counts(NULL, 0, NULL, 7, counts, 7, answer), answer, 3);
+    tell("NULL counts", jp_solve_counts(NULL, 0, ideals, 7, NULL, 7, answer), answer, 3);
+    printf("NULL answer: %u\n", jp_solve_counts(NULL, 0, ideals, 7, counts, 7, NULL));
+    printf("NULL root: %u\n", jp_root(2, NULL));
+    tell("odd pointer", jp_energy(counts, 7, (const double *)(const void *)(shared.bytes + 1), 7, answer, sum), answer, 2);
+    tell("too long", jp_energy(counts, SIZE_MAX / 2, ideals, 7, answer, sum), answer, 2);
+    tell("counts in the ideals", jp_solve_counts(NULL, 0, shared.values, 7, shared.numbers + 13, 3, answer), answer, 3);
+    tell("counts after the ideals", jp_solve_counts(NULL, 0, shared.values, 1, shared.numbers + 2, 1, answer), answer, 3);
+    printf("answer in the counts: %u\n", jp_solve_counts(NULL, 0, ideals, 7, counts, 7, counts + 4));
+    tell("output over a curve", jp_coons_curves(bottom, 4, right, 4, top, 4, shared.values, 4, 1, 1, shared.values, 8, answer), answer, 3);
+    tell("one list lent twice to be read", jp_coons_curves(bottom, 4, bottom, 4, bottom, 4, bottom, 4, 1, 1, shared.values, 8, answer), answer,
+         3);
+    tell_counts(counts, 7);
+}
+
+int main(void)
+{
+    solver();
+    grids();
+    refusals();
+    borders();
+    return 0;
+}

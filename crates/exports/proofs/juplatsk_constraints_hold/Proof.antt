@@ -1,0 +1,18 @@
+-- `juplatsk_constraints_hold` meets its contract. Assumes nothing.
+use Rattle.exports.proofs.Laws.{hold-exported}
+use borrow.Author.Needs.{needs}
+use Rattle.exports.proofs.juplatsk_constraints_hold.Statement.{statement}
+use Rattle.exports.proofs.juplatsk_constraints_hold.Tie as tie
+
+constraints-hold-requires : tie.Need-constraints-hold-requires
+constraints-hold-requires c κs = search needs
+
+tell-hold-requires : tie.Need-tell-hold-requires
+tell-hold-requires c κs = search needs
+
+returns : tie.Need-returns
+returns c = hold-exported (c .before .before .constraints-hold .result) (c .tell-hold .ensures) (c .before .before .constraints-hold .ensures)
+
+pub juplatsk-constraints-hold-spec : {M : Type 1} → statement M
+juplatsk-constraints-hold-spec =
+    tie.close (tie.spec constraints-hold-requires tell-hold-requires returns)

@@ -1,0 +1,42 @@
+-- `tell_grid` meets its contract: in each arm the answer equals the pattern. Assumes nothing.
+use Rattle.exports.proofs.Laws.{grid-accepted, grid-refused}
+use borrow.Author.Needs.{needs}
+use Rattle.exports.proofs.telling.tell_grid.Statement.{statement}
+use Rattle.exports.proofs.telling.tell_grid.Tie as tie
+
+enum-known-made : tie.Need-enum-known-made
+enum-known-made c = search needs
+
+accepted-requires : tie.Need-accepted-requires
+accepted-requires c κs = search needs
+
+tell-requires : tie.Need-tell-requires
+tell-requires c κs = search needs
+
+enum-known-made-2 : tie.Need-enum-known-made-2
+enum-known-made-2 c = search needs
+
+verdict-of-requires : tie.Need-verdict-of-requires
+verdict-of-requires c κs = search needs
+
+tell-requires-2 : tie.Need-tell-requires-2
+tell-requires-2 c κs = search needs
+
+returns : tie.Need-returns
+returns c = grid-accepted (c .before .before .before .before .made .given .1) (c .before .before .accepted .ensures) (c .tell .ensures)
+
+returns-2 : tie.Need-returns-2
+returns-2 c = grid-refused (c .before .before .before .before .made2 .given .1) (c .before .before .verdict-of .ensures) (c .tell2 .ensures)
+
+pub tell-grid-spec : {M : Type 1} → statement M
+tell-grid-spec =
+    tie.close
+    (tie.spec
+    enum-known-made
+    accepted-requires
+    tell-requires
+    enum-known-made-2
+    verdict-of-requires
+    tell-requires-2
+    returns
+    returns-2)

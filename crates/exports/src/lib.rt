@@ -1,0 +1,230 @@
+// The public functions of the libraries below, for callers in C and Rust. include/juplatsk.h says what each is lent and leaves. A lent list
+// is a pointer and a length there. Each function returns the refusal's number, 0 if the call is accepted.
+mod telling;
+
+ghost use mathlib.Core.Path.{_≡_};
+ghost use mathlib.Core.List.{[], _∷_};
+ghost use Rattle.counts.specs.Solver.{solve, round, energy, constraints-hold};
+ghost use Rattle.curves.specs.Answers.{verdict, root-answer};
+ghost use Rattle.curves.specs.Grid.{seams};
+ghost use Rattle.curves.specs.Coons.{coons-seamed, coons-quads};
+ghost use Rattle.curves.specs.Lay.{field, lay};
+ghost use Rattle.mesh.specs.Mesh.{mesh-tile-curves};
+ghost use Rattle.mesh.specs.Tile.{coons-checked, mesh-tile};
+ghost use Rattle.exports.specs.Told.{solve-told, hold-told, energy-told, round-told, grid-told, cost-of, root-value};
+use crate::telling::tell_energy;
+use crate::telling::tell_grid;
+use crate::telling::tell_hold;
+use crate::telling::tell_root;
+use crate::telling::tell_round;
+use crate::telling::tell_solve;
+
+#[no_mangle]
+pub extern "C" fn juplatsk_solve_counts(
+    regions: &[u16],
+    ideals: &[f64],
+    counts: &mut [u32],
+    answer: &mut [u32; 3],
+) -> u32
+    ensures { λ r. ⌜ r ≡ solve (now (regions .entry)) (now (ideals .entry)) (now (counts .entry)) .verdict .number ⌝ }
+    ensures { λ _. ⌜ now (answer .exit) ≡ solve-told (solve (now (regions .entry)) (now (ideals .entry)) (now (counts .entry))) ⌝ }
+    ensures { λ _. ⌜ now (counts .exit) ≡ solve (now (regions .entry)) (now (ideals .entry)) (now (counts .entry)) .counts ⌝ }
+{
+    let solved = counts::solve_counts(regions, ideals, counts);
+    tell_solve(solved, answer)
+}
+
+#[no_mangle]
+pub extern "C" fn juplatsk_round(
+    regions: &[u16],
+    ideals: &[f64],
+    counts: &mut [u32],
+    limit: u32,
+    answer: &mut [u32; 4],
+    cost: &mut [f64; 1],
+) -> u32
+    ensures { λ r. ⌜ r ≡ round (now (regions .entry)) (now (ideals .entry)) (now (counts .entry)) limit .verdict .number ⌝ }
+    ensures { λ _. ⌜ now (answer .exit) ≡ round-told (round (now (regions .entry)) (now (ideals .entry)) (now (counts .entry)) limit) ⌝ }
+    ensures { λ _. ⌜ now (cost .exit) ≡ cost-of (round (now (regions .entry)) (now (ideals .entry)) (now (counts .entry)) limit .move) ∷ [] ⌝ }
+    ensures { λ _. ⌜ now (counts .exit) ≡ round (now (regions .entry)) (now (ideals .entry)) (now (counts .entry)) limit .counts ⌝ }
+{
+    let made = counts::round(regions, ideals, counts, limit);
+    tell_round(made, answer, cost)
+}
+
+#[no_mangle]
+pub extern "C" fn juplatsk_energy(
+    counts: &[u32],
+    ideals: &[f64],
+    answer: &mut [u32; 2],
+    sum: &mut [f64; 1],
+) -> u32
+    ensures { λ r. ⌜ r ≡ energy (now (counts .entry)) (now (ideals .entry)) .verdict .number ⌝ }
+    ensures { λ _. ⌜ now (answer .exit) ≡ energy-told (energy (now (counts .entry)) (now (ideals .entry))) ⌝ }
+    ensures { λ _. ⌜ now (sum .exit) ≡ energy (now (counts .entry)) (now (ideals .entry)) .total ∷ [] ⌝ }
+{
+    let total = counts::energy(counts, ideals);
+    tell_energy(total, answer, sum)
+}
+
+#[no_mangle]
+pub extern "C" fn juplatsk_constraints_hold(
+    regions: &[u16],
+    counts: &[u32],
+    answer: &mut [u32; 3],
+) -> u32
+    ensures { λ r. ⌜ r ≡ constraints-hold (now (regions .entry)) (now (counts .entry)) .verdict .number ⌝ }
+    ensures { λ _. ⌜ now (answer .exit) ≡ hold-told (constraints-hold (now (regions .entry)) (now (counts .entry))) ⌝ }
+{
+    let held = counts::constraints_hold(regions, counts);
+    tell_hold(held, answer)
+}
+
+#[no_mangle]
+pub extern "C" fn juplatsk_root(x: f64, root: &mut [f64; 1]) -> u32
+    ensures { λ r. ⌜ r ≡ verdict (root-answer x) .number ⌝ }
+    ensures { λ _. ⌜ now (root .exit) ≡ root-value (root-answer x) ∷ [] ⌝ }
+{
+    let taken = curves::root::root(x);
+    tell_root(taken, root)
+}
+
+#[no_mangle]
+pub extern "C" fn juplatsk_coons_from_parameters(
+    bottom: &[f64],
+    right: &[f64],
+    top: &[f64],
+    left: &[f64],
+    bottom_u: &[f64],
+    top_u: &[f64],
+    left_v: &[f64],
+    right_v: &[f64],
+    out: &mut [f64],
+    answer: &mut [u32; 3],
+) -> u32
+    ensures { λ r. ⌜ r ≡ coons-seamed (now (bottom .entry)) (now (right .entry)) (now (top .entry)) (now (left .entry)) (seams (now («bottom_u» .entry)) (now («top_u» .entry)) (now («left_v» .entry)) (now («right_v» .entry))) (now (out .entry)) .verdict .number ⌝ }
+    ensures { λ _. ⌜ now (answer .exit) ≡ grid-told (coons-seamed (now (bottom .entry)) (now (right .entry)) (now (top .entry)) (now (left .entry)) (seams (now («bottom_u» .entry)) (now («top_u» .entry)) (now («left_v» .entry)) (now («right_v» .entry))) (now (out .entry))) ⌝ }
+    ensures { λ _. ⌜ now (out .exit) ≡ coons-seamed (now (bottom .entry)) (now (right .entry)) (now (top .entry)) (now (left .entry)) (seams (now («bottom_u» .entry)) (now («top_u» .entry)) (now («left_v» .entry)) (now («right_v» .entry))) (now (out .entry)) .out ⌝ }
+{
+    let made = curves::coons::coons_from_parameters(
+        bottom,
+        right,
+        top,
+        left,
+        bottom_u,
+        top_u,
+        left_v,
+        right_v,
+        out,
+    );
+    tell_grid(made, answer)
+}
+
+#[no_mangle]
+pub extern "C" fn juplatsk_coons_curves(
+    bottom: &[f64],
+    right: &[f64],
+    top: &[f64],
+    left: &[f64],
+    n_u: u32,
+    n_v: u32,
+    out: &mut [f64],
+    answer: &mut [u32; 3],
+) -> u32
+    ensures { λ r. ⌜ r ≡ coons-quads (now (bottom .entry)) (now (right .entry)) (now (top .entry)) (now (left .entry)) «n_u» «n_v» (now (out .entry)) .verdict .number ⌝ }
+    ensures { λ _. ⌜ now (answer .exit) ≡ grid-told (coons-quads (now (bottom .entry)) (now (right .entry)) (now (top .entry)) (now (left .entry)) «n_u» «n_v» (now (out .entry))) ⌝ }
+    ensures { λ _. ⌜ now (out .exit) ≡ coons-quads (now (bottom .entry)) (now (right .entry)) (now (top .entry)) (now (left .entry)) «n_u» «n_v» (now (out .entry)) .out ⌝ }
+{
+    let made = curves::coons::coons_curves(bottom, right, top, left, n_u, n_v, out);
+    tell_grid(made, answer)
+}
+
+#[no_mangle]
+pub extern "C" fn juplatsk_lay_region(
+    region: &[u16],
+    counts: &[u32],
+    breaks0: &[f64],
+    breaks1: &[f64],
+    breaks2: &[f64],
+    breaks3: &[f64],
+    bottom: &[f64],
+    right: &[f64],
+    top: &[f64],
+    left: &[f64],
+    out: &mut [f64],
+    answer: &mut [u32; 3],
+) -> u32
+    ensures { λ r. ⌜ r ≡ lay (now (region .entry)) (now (counts .entry)) (field (now (breaks0 .entry)) (now (breaks1 .entry)) (now (breaks2 .entry)) (now (breaks3 .entry)) (now (bottom .entry)) (now (right .entry)) (now (top .entry)) (now (left .entry))) (now (out .entry)) .verdict .number ⌝ }
+    ensures { λ _. ⌜ now (answer .exit) ≡ grid-told (lay (now (region .entry)) (now (counts .entry)) (field (now (breaks0 .entry)) (now (breaks1 .entry)) (now (breaks2 .entry)) (now (breaks3 .entry)) (now (bottom .entry)) (now (right .entry)) (now (top .entry)) (now (left .entry))) (now (out .entry))) ⌝ }
+    ensures { λ _. ⌜ now (out .exit) ≡ lay (now (region .entry)) (now (counts .entry)) (field (now (breaks0 .entry)) (now (breaks1 .entry)) (now (breaks2 .entry)) (now (breaks3 .entry)) (now (bottom .entry)) (now (right .entry)) (now (top .entry)) (now (left .entry))) (now (out .entry)) .out ⌝ }
+{
+    let made = curves::lay::lay_region(
+        region,
+        counts,
+        breaks0,
+        breaks1,
+        breaks2,
+        breaks3,
+        bottom,
+        right,
+        top,
+        left,
+        out,
+    );
+    tell_grid(made, answer)
+}
+
+#[no_mangle]
+pub extern "C" fn juplatsk_mesh_tile_curves(
+    bottom: &[f64],
+    right: &[f64],
+    top: &[f64],
+    left: &[f64],
+    n_u: u32,
+    n_v: u32,
+    points: &mut [f64],
+    cells: &mut [u32],
+    answer: &mut [u32; 3],
+) -> u32
+    ensures { λ r. ⌜ r ≡ mesh-tile-curves (now (bottom .entry)) (now (right .entry)) (now (top .entry)) (now (left .entry)) «n_u» «n_v» (now (points .entry)) (now (cells .entry)) .grid .verdict .number ⌝ }
+    ensures { λ _. ⌜ now (answer .exit) ≡ grid-told (mesh-tile-curves (now (bottom .entry)) (now (right .entry)) (now (top .entry)) (now (left .entry)) «n_u» «n_v» (now (points .entry)) (now (cells .entry)) .grid) ⌝ }
+    ensures { λ _. ⌜ now (points .exit) ≡ mesh-tile-curves (now (bottom .entry)) (now (right .entry)) (now (top .entry)) (now (left .entry)) «n_u» «n_v» (now (points .entry)) (now (cells .entry)) .grid .out ⌝ }
+    ensures { λ _. ⌜ now (cells .exit) ≡ mesh-tile-curves (now (bottom .entry)) (now (right .entry)) (now (top .entry)) (now (left .entry)) «n_u» «n_v» (now (points .entry)) (now (cells .entry)) .cells ⌝ }
+{
+    let made = mesh::tile::mesh_tile_curves(bottom, right, top, left, n_u, n_v, points, cells);
+    tell_grid(made, answer)
+}
+
+#[no_mangle]
+pub extern "C" fn juplatsk_coons_checked(
+    boundary: &[f64],
+    n_u: u32,
+    n_v: u32,
+    out: &mut [f64],
+    answer: &mut [u32; 3],
+) -> u32
+    ensures { λ r. ⌜ r ≡ coons-checked (now (boundary .entry)) «n_u» «n_v» (now (out .entry)) .verdict .number ⌝ }
+    ensures { λ _. ⌜ now (answer .exit) ≡ grid-told (coons-checked (now (boundary .entry)) «n_u» «n_v» (now (out .entry))) ⌝ }
+    ensures { λ _. ⌜ now (out .exit) ≡ coons-checked (now (boundary .entry)) «n_u» «n_v» (now (out .entry)) .out ⌝ }
+{
+    let made = mesh::tile::coons_checked(boundary, n_u, n_v, out);
+    tell_grid(made, answer)
+}
+
+#[no_mangle]
+pub extern "C" fn juplatsk_mesh_tile(
+    boundary: &[f64],
+    n_u: u32,
+    n_v: u32,
+    points: &mut [f64],
+    cells: &mut [u32],
+    answer: &mut [u32; 3],
+) -> u32
+    ensures { λ r. ⌜ r ≡ mesh-tile (now (boundary .entry)) «n_u» «n_v» (now (points .entry)) (now (cells .entry)) .grid .verdict .number ⌝ }
+    ensures { λ _. ⌜ now (answer .exit) ≡ grid-told (mesh-tile (now (boundary .entry)) «n_u» «n_v» (now (points .entry)) (now (cells .entry)) .grid) ⌝ }
+    ensures { λ _. ⌜ now (points .exit) ≡ mesh-tile (now (boundary .entry)) «n_u» «n_v» (now (points .entry)) (now (cells .entry)) .grid .out ⌝ }
+    ensures { λ _. ⌜ now (cells .exit) ≡ mesh-tile (now (boundary .entry)) «n_u» «n_v» (now (points .entry)) (now (cells .entry)) .cells ⌝ }
+{
+    let made = mesh::tile::mesh_tile(boundary, n_u, n_v, points, cells);
+    tell_grid(made, answer)
+}

@@ -1,0 +1,2 @@
+-- The laws of a mesh's indices. Assumes nothing.
+pub mod Laws

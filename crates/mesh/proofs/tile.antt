@@ -1,0 +1,2 @@
+-- The laws of the public functions. Assumes nothing.
+pub mod Laws

@@ -1,0 +1,93 @@
+-- `tile::mesh_in` meets its contract. Assumes nothing.
+use mathlib.Core.Path.{_∙_}
+use mathlib.Core.List.{List}
+use lib.Ieee.{Float}
+use denote.Ref.{now}
+use Rattle.mesh.specs.Loop.{piece}
+use Rattle.mesh.specs.Mesh.{mesh-tile-curves}
+use Rattle.mesh.proofs.tile.Laws.{start-fits, start-long, start-is, in-four-curves}
+use borrow.Author.Needs.{needs}
+use Rattle.mesh.proofs.tile.mesh_in.Statement.{statement}
+use Rattle.mesh.proofs.tile.mesh_in.Tie as tie
+
+from-loop-requires : tie.Need-from-loop-requires
+from-loop-requires c κs = search needs
+
+slice-reshare-prefix-mesh-tile-curves : tie.Need-slice-reshare-prefix-mesh-tile-curves
+slice-reshare-prefix-mesh-tile-curves c = start-fits (now (c .before .before .before .before .before .before .before .before .before .before .before .before .before .before .before .before .before .before .before .before .args .bottom)) (piece (now (c .before .before .before .before .before .before .before .before .before .before .before .before .before .before .before .before .before .before .before .before .args .boundary)) 0) _ _ (c .before .before .before .before .before .before .before .before .from-loop .ensures .0 .0) (c .before .before .before .before .before .before .before .before .from-loop .ensures .1 .0)
+
+slice-aggregate-mesh-tile-curves : tie.Need-slice-aggregate-mesh-tile-curves
+slice-aggregate-mesh-tile-curves c = start-long (now (c .before .before .before .before .before .before .before .before .before .before .before .before .before .before .before .before .before .before .before .before .before .args .bottom)) (piece (now (c .before .before .before .before .before .before .before .before .before .before .before .before .before .before .before .before .before .before .before .before .before .args .boundary)) 0) _ _ (c .before .before .before .before .before .before .before .before .before .from-loop .ensures .0 .0) (c .before .before .before .before .before .before .before .before .before .from-loop .ensures .1 .0)
+
+slice-reshare-prefix-mesh-tile-curves-2 : tie.Need-slice-reshare-prefix-mesh-tile-curves-2
+slice-reshare-prefix-mesh-tile-curves-2 c = start-fits (now (c .before .before .before .before .before .before .before .before .before .before .before .before .before .before .before .before .before .before .before .before .before .args .right)) (piece (now (c .before .before .before .before .before .before .before .before .before .before .before .before .before .before .before .before .before .before .before .before .before .args .boundary)) 1) _ _ (c .before .before .before .before .before .before .before .before .before .from-loop .ensures .0 .1) (c .before .before .before .before .before .before .before .before .before .from-loop .ensures .1 .1 .0)
+
+slice-aggregate-mesh-tile-curves-2 : tie.Need-slice-aggregate-mesh-tile-curves-2
+slice-aggregate-mesh-tile-curves-2 c = start-long (now (c .before .before .before .before .before .before .before .before .before .before .before .before .before .before .before .before .before .before .before .before .before .before .args .right)) (piece (now (c .before .before .before .before .before .before .before .before .before .before .before .before .before .before .before .before .before .before .before .before .before .before .args .boundary)) 1) _ _ (c .before .before .before .before .before .before .before .before .before .before .from-loop .ensures .0 .1) (c .before .before .before .before .before .before .before .before .before .before .from-loop .ensures .1 .1 .0)
+
+slice-reshare-prefix-mesh-tile-curves-3 : tie.Need-slice-reshare-prefix-mesh-tile-curves-3
+slice-reshare-prefix-mesh-tile-curves-3 c = start-fits (now (c .before .before .before .before .before .before .before .before .before .before .before .before .before .before .before .before .before .before .before .before .before .before .args .top)) (piece (now (c .before .before .before .before .before .before .before .before .before .before .before .before .before .before .before .before .before .before .before .before .before .before .args .boundary)) 2) _ _ (c .before .before .before .before .before .before .before .before .before .before .from-loop .ensures .0 .2) (c .before .before .before .before .before .before .before .before .before .before .from-loop .ensures .1 .1 .1 .0)
+
+slice-aggregate-mesh-tile-curves-3 : tie.Need-slice-aggregate-mesh-tile-curves-3
+slice-aggregate-mesh-tile-curves-3 c = start-long (now (c .before .before .before .before .before .before .before .before .before .before .before .before .before .before .before .before .before .before .before .before .before .before .before .args .top)) (piece (now (c .before .before .before .before .before .before .before .before .before .before .before .before .before .before .before .before .before .before .before .before .before .before .before .args .boundary)) 2) _ _ (c .before .before .before .before .before .before .before .before .before .before .before .from-loop .ensures .0 .2) (c .before .before .before .before .before .before .before .before .before .before .before .from-loop .ensures .1 .1 .1 .0)
+
+slice-reshare-prefix-mesh-tile-curves-4 : tie.Need-slice-reshare-prefix-mesh-tile-curves-4
+slice-reshare-prefix-mesh-tile-curves-4 c = start-fits (now (c .before .before .before .before .before .before .before .before .before .before .before .before .before .before .before .before .before .before .before .before .before .before .before .args .left)) (piece (now (c .before .before .before .before .before .before .before .before .before .before .before .before .before .before .before .before .before .before .before .before .before .before .before .args .boundary)) 3) _ _ (c .before .before .before .before .before .before .before .before .before .before .before .from-loop .ensures .0 .3) (c .before .before .before .before .before .before .before .before .before .before .before .from-loop .ensures .1 .1 .1 .1)
+
+slice-aggregate-mesh-tile-curves-4 : tie.Need-slice-aggregate-mesh-tile-curves-4
+slice-aggregate-mesh-tile-curves-4 c = start-long (now (c .before .before .before .before .before .before .before .before .before .before .before .before .before .before .before .before .before .before .before .before .before .before .before .before .args .left)) (piece (now (c .before .before .before .before .before .before .before .before .before .before .before .before .before .before .before .before .before .before .before .before .before .before .before .before .args .boundary)) 3) _ _ (c .before .before .before .before .before .before .before .before .before .before .before .before .from-loop .ensures .0 .3) (c .before .before .before .before .before .before .before .before .before .before .before .before .from-loop .ensures .1 .1 .1 .1)
+
+mesh-tile-curves-requires : tie.Need-mesh-tile-curves-requires
+mesh-tile-curves-requires c κs = search needs
+
+same-length : tie.Need-same-length
+same-length c = search needs
+
+same-length-2 : tie.Need-same-length-2
+same-length-2 c = search needs
+
+same-length-3 : tie.Need-same-length-3
+same-length-3 c = search needs
+
+same-length-4 : tie.Need-same-length-4
+same-length-4 c = search needs
+
+same-length-5 : tie.Need-same-length-5
+same-length-5 c = search needs
+
+same-length-6 : tie.Need-same-length-6
+same-length-6 c = search needs
+
+returns : tie.Need-returns
+returns c =
+    let a = c .before .before .before .before .before .before .before .before .before .before .before .before .before .before .before .before .before .before .before .before .before .before .before .before .before .before .before .before .before .before .before .args in
+    let loop = now (a .boundary) in
+    let e = c .before .before .before .before .before .before .before .before .before .before .before .before .before .before .before .before .before .before .before .from-loop .ensures in
+    c .before .before .before .before .mesh-tile-curves .ensures
+    ∙ in-four-curves (λ (b r t l : List Float). mesh-tile-curves b r t l (a .n-u) (a .n-v) (now (a .points)) (now (a .cells))) _ _ _ _ _ _ _ _
+    (start-is (now (a .bottom)) (piece loop 0) _ _ (e .0 .0) (e .1 .0))
+    (start-is (now (a .right)) (piece loop 1) _ _ (e .0 .1) (e .1 .1 .0))
+    (start-is (now (a .top)) (piece loop 2) _ _ (e .0 .2) (e .1 .1 .1 .0))
+    (start-is (now (a .left)) (piece loop 3) _ _ (e .0 .3) (e .1 .1 .1 .1))
+
+pub mesh-in-spec : {M : Type 1} → statement M
+mesh-in-spec =
+    tie.close
+    (tie.spec
+    from-loop-requires
+    slice-reshare-prefix-mesh-tile-curves
+    slice-aggregate-mesh-tile-curves
+    slice-reshare-prefix-mesh-tile-curves-2
+    slice-aggregate-mesh-tile-curves-2
+    slice-reshare-prefix-mesh-tile-curves-3
+    slice-aggregate-mesh-tile-curves-3
+    slice-reshare-prefix-mesh-tile-curves-4
+    slice-aggregate-mesh-tile-curves-4
+    mesh-tile-curves-requires
+    same-length
+    same-length-2
+    same-length-3
+    same-length-4
+    same-length-5
+    same-length-6
+    returns)

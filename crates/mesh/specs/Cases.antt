@@ -1,0 +1,186 @@
+-- 01's bench cases: what is asked, and what is answered and left, whole. A to F and H to L are those that 01 wants proved together; G, which runs, is among them too. Definitions only.
+use mathlib.Core.Path.{_≡_}
+use mathlib.Core.Bool.{true, false}
+use mathlib.Core.List.{List, [], _∷_, _++_}
+use Prim.Native.Nat.{ℕ, _+_, _-_, _*_}
+use lib.ListN.{length, replicate}
+use lib.IntN.{negsuc}
+use lib.Ieee.{Float, nan, fin, binary64, ofBits}
+use Rattle.counts.specs.Refusal.{passed, refused}
+use Rattle.counts.specs.Region.{places}
+use Rattle.counts.specs.Cost.{real}
+use Rattle.counts.specs.Solver.{none, made, Round, round, Solve, solve}
+use Rattle.curves.specs.Scalar.{nought, half, one}
+use Rattle.curves.specs.Lists.{tab}
+use Rattle.curves.specs.Answers.{Answer, good, root-answer}
+use Rattle.curves.specs.Point.{signed-area}
+use Rattle.curves.specs.Curve.{point-at}
+use Rattle.curves.specs.Grid.{Seams, seams}
+use Rattle.curves.specs.Coons.{Outcome, coons-seamed, coons-quads}
+
+-- ---- what a case says
+
+-- the curves of a tile, counter-clockwise from its bottom
+pub record Tile : Type 0 where
+  pub bottom : List Float
+  pub right : List Float
+  pub top : List Float
+  pub left : List Float
+
+pub data Case : Type 0 where
+  -- regions, ideals, counts lent
+  solved : List ℕ → List Float → List ℕ → Solve → Case
+  -- regions, ideals, counts lent, limit
+  moved : List ℕ → List Float → List ℕ → ℕ → Round → Case
+  -- n_u, n_v, output lent
+  gridded : Tile → ℕ → ℕ → List Float → Outcome → Case
+  -- output lent
+  seamed : Tile → Seams → List Float → Outcome → Case
+  -- the areas of the first quads of an output
+  measured : List Float → ℕ → List Float → Case
+  rooted : Float → Answer Float → Case
+
+-- the areas of n quads that an output begins with
+unfoldable pub areas : List Float → ℕ → List Float
+unfolding signed-area
+areas out n = tab (λ (k : ℕ). signed-area (point-at out (4 * k)) (point-at out (4 * k + 1)) (point-at out (4 * k + 2)) (point-at out (4 * k + 3))) 0 n
+
+abbrev pub Holds : Case → Type 0
+Holds (solved regions ideals lent o) = solve regions ideals lent ≡ o
+Holds (moved regions ideals counts limit o) = round regions ideals counts limit ≡ o
+Holds (gridded t n m lent o) = coons-quads (t .bottom) (t .right) (t .top) (t .left) n m lent ≡ o
+Holds (seamed t s lent o) = coons-seamed (t .bottom) (t .right) (t .top) (t .left) s lent ≡ o
+Holds (measured out n o) = areas out n ≡ o
+Holds (rooted x o) = root-answer x ≡ o
+
+abbrev pub All-hold : List Case → Type 0
+All-hold [] = Unit
+All-hold (c ∷ cs) = Holds c × All-hold cs
+
+-- ---- A to G: one count more is lent than is needed
+
+-- a side in its record
+abbrev pub side : List ℕ → List ℕ
+side edges = length edges ∷ edges ++ replicate (places - length edges) 0
+
+abbrev pub region : List ℕ → List ℕ → List ℕ → List ℕ → List ℕ
+region bottom right top left = side bottom ++ side right ++ side top ++ side left
+
+abbrev pub reals : List ℕ → List Float
+reals [] = []
+reals (n ∷ ns) = real n ∷ reals ns
+
+abbrev pub alone : ℕ → List ℕ
+alone edge = edge ∷ []
+
+abbrev pub lent-counts : ℕ → List ℕ
+lent-counts n = replicate n 9 ++ 7 ∷ []
+
+abbrev pub accepted : List ℕ → List ℕ → ℕ → List ℕ → Case
+accepted regions ideals moves counts =
+    solved regions (reals ideals) (lent-counts (length ideals)) (record { verdict = passed; moves = moves; counts = counts ++ 7 ∷ [] })
+
+abbrev pub case-A : Case
+case-A =
+    accepted (region (alone 0) (alone 1) (alone 2) (alone 3) ++ region (alone 4) (alone 5) (alone 6) (alone 1)) (4 ∷ 2 ∷ 4 ∷ 2 ∷ 2 ∷ 2 ∷ 2 ∷ [])
+    8 (4 ∷ 2 ∷ 4 ∷ 2 ∷ 2 ∷ 2 ∷ 2 ∷ [])
+
+abbrev pub case-B : Case
+case-B = accepted (region (alone 0) (alone 1) (alone 2) (alone 3)) (5 ∷ 3 ∷ 1 ∷ 3 ∷ []) 4 (1 ∷ 3 ∷ 1 ∷ 3 ∷ [])
+
+abbrev pub case-C : Case
+case-C = accepted (region (alone 0) (alone 1) (2 ∷ 3 ∷ []) (alone 4)) (4 ∷ 1 ∷ 2 ∷ 2 ∷ 1 ∷ []) 5 (4 ∷ 1 ∷ 2 ∷ 2 ∷ 1 ∷ [])
+
+abbrev pub case-D : Case
+case-D = accepted [] [] 0 []
+
+abbrev pub case-E : Case
+case-E = accepted (region (alone 0) [] [] []) (alone 3) 0 (alone 0)
+
+abbrev pub case-F : Case
+case-F = accepted (region (alone 0) [] (alone 1) [] ++ region (alone 0) [] (alone 1) []) (1 ∷ 1 ∷ []) 1 (1 ∷ 1 ∷ [])
+
+abbrev pub case-G : Case
+case-G =
+    solved (region (alone 0) (alone 1) (alone 0) (alone 2)) (reals (1 ∷ 1 ∷ 1 ∷ [])) (lent-counts 3)
+    (record { verdict = refused 5 0 0; moves = 0; counts = lent-counts 3 })
+
+-- ---- the unit square, and 32 values for 2 by 2 quads, one more lent than is needed
+
+abbrev pub square : Tile
+square = record {
+  bottom = nought ∷ nought ∷ one ∷ nought ∷ [];
+  right = one ∷ nought ∷ one ∷ one ∷ [];
+  top = one ∷ one ∷ nought ∷ one ∷ [];
+  left = nought ∷ one ∷ nought ∷ nought ∷ [];
+}
+
+-- from the same corner the other way round
+abbrev pub clockwise : Tile
+clockwise = record {
+  bottom = nought ∷ nought ∷ nought ∷ one ∷ [];
+  right = nought ∷ one ∷ one ∷ one ∷ [];
+  top = one ∷ one ∷ one ∷ nought ∷ [];
+  left = one ∷ nought ∷ nought ∷ nought ∷ [];
+}
+
+abbrev pub lent : List Float
+lent = replicate 33 nan
+
+-- ---- H: "unit square, 2 by 2: four quads of area 0.25"
+
+-- its four quads, row by row
+abbrev pub quarters : List Float
+quarters =
+    nought ∷ nought ∷ half ∷ nought ∷ half ∷ half ∷ nought ∷ half
+    ∷ half ∷ nought ∷ one ∷ nought ∷ one ∷ half ∷ half ∷ half
+    ∷ nought ∷ half ∷ half ∷ half ∷ half ∷ one ∷ nought ∷ one
+    ∷ half ∷ half ∷ one ∷ half ∷ one ∷ one ∷ half ∷ one ∷ []
+
+abbrev pub case-H : Case
+case-H = gridded square 2 2 lent (record { verdict = passed; quads = 4; out = quarters ++ nan ∷ [] })
+
+-- 0.25
+abbrev pub quarter : Float
+quarter = ofBits binary64 0x3fd0_0000_0000_0000
+
+abbrev pub areas-H : Case
+areas-H = measured quarters 4 (quarter ∷ quarter ∷ quarter ∷ quarter ∷ [])
+
+-- ---- I: "the square clockwise: 17"
+
+abbrev pub case-I : Case
+case-I = gridded clockwise 2 2 lent (record { verdict = refused 17 0 0; quads = 0; out = lent })
+
+-- ---- J: "bottom and left 0 0 1, top and right 0 1 1, on the square: 23 at (1,1)"
+
+abbrev pub early : List Float
+early = nought ∷ nought ∷ one ∷ []
+
+abbrev pub late : List Float
+late = nought ∷ one ∷ one ∷ []
+
+abbrev pub case-J : Case
+case-J = seamed square (seams early late early late) lent (record { verdict = refused 23 1 1; quads = 0; out = replicate 32 nought ++ nan ∷ [] })
+
+-- ---- K: "a round from count 0 on a free edge (no region) with ideal 1, limit 0: unchanged and cut; limit 1: count 1, not cut"
+
+abbrev pub case-K-turned-back : Case
+case-K-turned-back = moved [] (real 1 ∷ []) (0 ∷ []) 0 (record { verdict = passed; move = none; cut = true; counts = 0 ∷ [] })
+
+-- the move costs -1
+abbrev pub minus-one : Float
+minus-one = ofBits binary64 0xbff0_0000_0000_0000
+
+abbrev pub case-K-made : Case
+case-K-made = moved [] (real 1 ∷ []) (0 ∷ []) 1 (record { verdict = passed; move = made minus-one; cut = false; counts = 1 ∷ [] })
+
+-- ---- L: "root of 2^-1074 is 2^-537"; `negsuc n` is -(n + 1)
+
+abbrev pub case-L : Case
+case-L = rooted (fin false 1 (negsuc 1073)) (good (fin false 1 (negsuc 536)))
+
+abbrev pub bench : List Case
+bench =
+    case-A ∷ case-B ∷ case-C ∷ case-D ∷ case-E ∷ case-F ∷ case-G
+    ∷ case-H ∷ areas-H ∷ case-I ∷ case-J ∷ case-K-turned-back ∷ case-K-made ∷ case-L ∷ []

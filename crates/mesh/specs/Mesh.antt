@@ -1,0 +1,73 @@
+-- A tile's mesh: "x, y, +0.0 for each grid point, rows from the bottom, and four point indices (32 bits) for each quad, counter-clockwise from its lower left". Definitions only.
+use mathlib.Core.Bool.{Bool, _&&_, cond}
+use mathlib.Core.List.{List, [], _∷_}
+use Prim.Native.Nat.{ℕ, _+_, _*_}
+use lib.ListN.{length}
+use lib.Dec.{leb}
+use lib.Ieee.{Float}
+use Rattle.counts.specs.Refusal.{Verdict, is-passed}
+use Rattle.curves.specs.Lists.{tab, cat, splice}
+use Rattle.curves.specs.Coons.{Outcome, outcome-of, coons-nodes}
+use Rattle.curves.specs.declared.coons.GridAnswer.{GridAnswer}
+
+-- what a call answers, with the points that it leaves as the output of the grid; and the indices that it leaves
+pub record Mesh : Type 0 where
+  pub grid : Outcome
+  pub cells : List ℕ
+
+unfoldable pub mesh-of : GridAnswer → List Float → List ℕ → Mesh
+unfolding outcome-of
+mesh-of answer points cells = record { grid = outcome-of answer points; cells = cells }
+
+-- ---- the indices, of n by m cells
+
+-- 000's `grid_index`: the point i of row j
+abbrev pub grid-index : ℕ → ℕ → ℕ → ℕ
+grid-index n i j = j * (n + 1) + i
+
+-- "counter-clockwise from its lower left"
+unfoldable pub cell : ℕ → ℕ → ℕ → List ℕ
+cell n j i = grid-index n i j ∷ grid-index n (i + 1) j ∷ grid-index n (i + 1) (j + 1) ∷ grid-index n i (j + 1) ∷ []
+
+unfoldable pub row-cells : ℕ → ℕ → List ℕ
+unfolding cell
+row-cells n j = cat (cell n j) 0 n
+
+unfoldable pub mesh-cells : ℕ → ℕ → List ℕ
+unfolding row-cells
+mesh-cells n m = cat (row-cells n) 0 m
+
+abbrev pub needed-cells : ℕ → ℕ → ℕ
+needed-cells n m = 4 * (m * n)
+
+-- "Point indices become 0 where coordinates become +0.0."
+abbrev pub no-cells : ℕ → List ℕ
+no-cells k = tab (λ (i : ℕ). 0) 0 k
+
+-- 23 to 25: "needed output +0.0"
+abbrev pub zeroes : Verdict → Bool
+zeroes v = leb 23 (v .number) && leb (v .number) 25
+
+-- what a grid's verdict leaves of the indices lent
+unfoldable pub cells-left : Verdict → ℕ → ℕ → List ℕ → List ℕ
+unfolding mesh-cells
+cells-left v n m cells =
+    cond (is-passed v) (splice cells 0 (mesh-cells n m))
+    (cond (zeroes v) (splice cells 0 (no-cells (needed-cells n m))) cells)
+
+-- ---- 000's `mesh_tile_curves`
+
+-- the indices have room: the grid decides
+unfoldable pub with-cells : Outcome → ℕ → ℕ → List ℕ → Mesh
+unfolding cells-left
+with-cells o n m cells = record { grid = o; cells = cells-left (o .verdict) n m cells }
+
+-- they have none: a grid that has no room for its points either refuses, by 11 or by an earlier test, and all is left
+unfoldable pub without-cells : Outcome → List Float → List ℕ → Mesh
+without-cells o points cells = record { grid = record { verdict = o .verdict; quads = o .quads; out = points }; cells = cells }
+
+unfoldable pub mesh-tile-curves : List Float → List Float → List Float → List Float → ℕ → ℕ → List Float → List ℕ → Mesh
+unfolding with-cells without-cells
+mesh-tile-curves bottom right top left n m points cells =
+    cond (leb (needed-cells n m) (length cells)) (with-cells (coons-nodes bottom right top left n m points) n m cells)
+    (without-cells (coons-nodes bottom right top left n m []) points cells)

@@ -1,0 +1,420 @@
+/* The field gridder for C and C++ on x86-64: counts of edges, grids between curves, meshes, roots.
+ *
+ * Link the archive that `rt staticlib exports` writes. What each function does is proved; the scope paper (01 below) defines it.
+ *
+ * Two layers
+ * ----------
+ * jp_NAME        call these. They test what C can get wrong about a buffer, return JP_BAD_BUFFER if something is, and then write
+ *                nothing; else they call juplatsk_NAME.
+ * juplatsk_NAME  the functions of the archive. Conditions, which nothing tests: no pointer is NULL, not even with length 0; each is
+ *                aligned for its type; each list lies within one object, and has less than 2^63 bytes; a list or array that is
+ *                written overlaps no other one of the call. They call nothing back, keep no pointer, use no heap and no global
+ *                variable, and end. Any values are fine: what is wrong with them is refused.
+ *
+ * Lists
+ * -----
+ * A list is a pointer and a length in elements. A list of `const` is read only, and lists that are only read may overlap. An output
+ * that is longer than needed is written in its needed part only. NULL is fine for a list of length 0, and nowhere else. That a
+ * list is as long as the caller says, C cannot test: no function reads or writes past the length that it is told, and that is all it
+ * can promise.
+ *
+ * Answers
+ * -------
+ * Each function returns 0 (JP_ACCEPTED), or the number of the refusal by 01's table, the enum below; or JP_BAD_BUFFER.
+ * `answer` gets the two places of the refusal, 0 where it names none, and then the values that each function tells; they are 0 when
+ * a call is refused. It is written at every call but those with JP_BAD_BUFFER.
+ * A refusal leaves every list as it was, but for these:
+ *   JP_TOO_MANY_MOVES (solve)                                         the needed counts are 0
+ *   JP_LINES_PARALLEL, JP_CROSSING_OUTSIDE, JP_BAD_QUAD_AREA          the needed output is +0.0, point indices are 0
+ *
+ * Regions
+ * -------
+ * A region is a record of 68 numbers: for each side (bottom 0, right 1, top 2, left 3) how many edges it has, at most 16, and then
+ * 16 places for the numbers of the edges; places past that number are not read. A list of regions has whole records, at most 128.
+ * There are at most 256 edges. jp_set_side fills in a side.
+ *
+ * Curves
+ * ------
+ * A curve is a list x, y, x, y, .. of 2 to 1,024 points. bottom runs from left to right, right from bottom to top, top from right to
+ * left, left from top to bottom: counter-clockwise around the tile.
+ */
+#ifndef JUPLATSK_H
+#define JUPLATSK_H
+
+#include <stddef.h>
+#include <stdint.h>
+
+#ifdef __cplusplus
+extern "C" {
+#endif
+
+/* The refusals by 01's numbers, each with the places that it names. */
+enum {
+    JP_ACCEPTED = 0,
+    JP_MALFORMED = 1,           /* a limit exceeded, or a broken record or list */
+    JP_BAD_IDEAL = 2,           /* edge: its ideal is not finite or not above 0 */
+    JP_EDGE_OUT_OF_RANGE = 3,   /* region, side */
+    JP_EDGE_REPEATED = 4,       /* region, side: an edge twice in the side */
+    JP_EDGE_ON_BOTH_SIDES = 5,  /* region, first of the two sides */
+    JP_EDGE_OVERUSED = 6,       /* edge: it is in more than two constraints */
+    JP_TOO_MANY_MOVES = 7,      /* a further move found after 200,000 */
+    JP_LENGTHS_DIFFER = 8,      /* of counts and ideals */
+    JP_COUNT_TOO_LARGE = 9,     /* edge: its count is over 1,000,000 */
+    JP_LIMIT_TOO_LARGE = 10,    /* the search limit is over 100,000 */
+    JP_OUTPUT_TOO_SHORT = 11,
+    JP_BAD_LOOP = 12,           /* not 4 points, nor 8 or more in fours */
+    JP_CURVE_TOO_SHORT = 13,    /* curve: it has less than two points */
+    JP_POINT_NOT_FINITE = 14,   /* curve */
+    JP_BAD_CURVE_LENGTH = 15,   /* curve: its length is 0 or not finite */
+    JP_CURVES_APART = 16,       /* corner, 0 to 4 */
+    JP_CORNERS_CLOCKWISE = 17,  /* the area of the corners is at or below 0 */
+    JP_SEAM_TOO_SHORT = 18,     /* seam: it has less than two values */
+    JP_SEAM_OUT_OF_RANGE = 19,  /* seam, index */
+    JP_SEAM_FALLING = 20,       /* seam, index */
+    JP_SEAM_ENDS = 21,          /* seam: its ends are not 0 and 1 */
+    JP_SEAMS_UNEQUAL = 22,      /* pair: 0 is bottom and top, 1 left and right */
+    JP_LINES_PARALLEL = 23,     /* i, j */
+    JP_CROSSING_OUTSIDE = 24,   /* i, j */
+    JP_BAD_QUAD_AREA = 25,      /* i, j: the quad's area is not finite or not above 0 */
+    JP_NO_CELLS = 26,           /* n_u or n_v is 0 */
+    JP_BREAKS_MISMATCH = 27,    /* side: its breaks are not one more than its edges */
+    JP_ROOT_UNDEFINED = 28,     /* root of a NaN or of a number below 0 */
+
+    /* None of 01's, and of jp_NAME alone: a pointer is NULL beside a length above 0, or not aligned for its type; a list has 2^63
+     * bytes or more, or runs past the last address; or a list or array that is written overlaps another one. Nothing was written. */
+    JP_BAD_BUFFER = 100
+};
+
+enum { JP_SIDES = 4, JP_PLACES = 16, JP_RECORD = JP_SIDES * (JP_PLACES + 1) };
+
+/* ---- the functions of the archive; their conditions stand above, and what each does stands at its jp_NAME below */
+
+uint32_t juplatsk_solve_counts(const uint16_t *regions, size_t regions_len, const double *ideals, size_t ideals_len, uint32_t *counts,
+                               size_t counts_len, uint32_t answer[3]);
+uint32_t juplatsk_round(const uint16_t *regions, size_t regions_len, const double *ideals, size_t ideals_len, uint32_t *counts,
+                        size_t counts_len, uint32_t limit, uint32_t answer[4], double cost[1]);
+uint32_t juplatsk_energy(const uint32_t *counts, size_t counts_len, const double *ideals, size_t ideals_len, uint32_t answer[2],
+                         double sum[1]);
+uint32_t juplatsk_constraints_hold(const uint16_t *regions, size_t regions_len, const uint32_t *counts, size_t counts_len,
+                                   uint32_t answer[3]);
+uint32_t juplatsk_root(double x, double root[1]);
+uint32_t juplatsk_coons_from_parameters(const double *bottom, size_t bottom_len, const double *right, size_t right_len,
+                                        const double *top, size_t top_len, const double *left, size_t left_len, const double *bottom_u,
+                                        size_t bottom_u_len, const double *top_u, size_t top_u_len, const double *left_v,
+                                        size_t left_v_len, const double *right_v, size_t right_v_len, double *out, size_t out_len,
+                                        uint32_t answer[3]);
+uint32_t juplatsk_coons_curves(const double *bottom, size_t bottom_len, const double *right, size_t right_len, const double *top,
+                               size_t top_len, const double *left, size_t left_len, uint32_t n_u, uint32_t n_v, double *out,
+                               size_t out_len, uint32_t answer[3]);
+uint32_t juplatsk_lay_region(const uint16_t *region, size_t region_len, const uint32_t *counts, size_t counts_len,
+                             const double *breaks0, size_t breaks0_len, const double *breaks1, size_t breaks1_len,
+                             const double *breaks2, size_t breaks2_len, const double *breaks3, size_t breaks3_len,
+                             const double *bottom, size_t bottom_len, const double *right, size_t right_len, const double *top,
+                             size_t top_len, const double *left, size_t left_len, double *out, size_t out_len, uint32_t answer[3]);
+uint32_t juplatsk_mesh_tile_curves(const double *bottom, size_t bottom_len, const double *right, size_t right_len, const double *top,
+                                   size_t top_len, const double *left, size_t left_len, uint32_t n_u, uint32_t n_v, double *points,
+                                   size_t points_len, uint32_t *cells, size_t cells_len, uint32_t answer[3]);
+uint32_t juplatsk_coons_checked(const double *boundary, size_t boundary_len, uint32_t n_u, uint32_t n_v, double *out, size_t out_len,
+                                uint32_t answer[3]);
+uint32_t juplatsk_mesh_tile(const double *boundary, size_t boundary_len, uint32_t n_u, uint32_t n_v, double *points, size_t points_len,
+                            uint32_t *cells, size_t cells_len, uint32_t answer[3]);
+
+/* ---- the tests of buffers */
+
+/* One list or array of a call: where it lies, how many elements of which size, and whether it is written. */
+typedef struct {
+    const void *at;
+    size_t count;
+    size_t size;
+    int written;
+} jp_buffer;
+
+/* Every element size is a power of two, and on x86-64 also the alignment that its type has. */
+static inline int jp_fits(const jp_buffer *b)
+{
+    if (b->count == 0) {
+        return b->at == NULL || (uintptr_t)b->at % b->size == 0;
+    }
+    if (b->at == NULL || (uintptr_t)b->at % b->size != 0 || b->count > (size_t)PTRDIFF_MAX / b->size) {
+        return 0;
+    }
+    return (uintptr_t)b->at <= UINTPTR_MAX - b->count * b->size;
+}
+
+static inline int jp_overlap(const jp_buffer *a, const jp_buffer *b)
+{
+    uintptr_t first = (uintptr_t)a->at;
+    uintptr_t second = (uintptr_t)b->at;
+    if (a->count == 0 || b->count == 0) {
+        return 0;
+    }
+    return first < second + b->count * b->size && second < first + a->count * a->size;
+}
+
+static inline int jp_lendable(const jp_buffer *buffers, size_t n)
+{
+    size_t i, j;
+    for (i = 0; i < n; i++) {
+        if (!jp_fits(&buffers[i])) {
+            return 0;
+        }
+    }
+    for (i = 0; i < n; i++) {
+        for (j = 0; j < i; j++) {
+            if ((buffers[i].written || buffers[j].written) && jp_overlap(&buffers[i], &buffers[j])) {
+                return 0;
+            }
+        }
+    }
+    return 1;
+}
+
+/* For an empty list without an address, one that the archive may be given: nothing is read or written there. */
+static inline const uint16_t *jp_u16(const uint16_t *p)
+{
+    static const uint16_t none = 0;
+    return p ? p : &none;
+}
+
+static inline const uint32_t *jp_u32(const uint32_t *p)
+{
+    static const uint32_t none = 0;
+    return p ? p : &none;
+}
+
+static inline const double *jp_f64(const double *p)
+{
+    static const double none = 0;
+    return p ? p : &none;
+}
+
+static inline uint32_t *jp_u32_out(uint32_t *p)
+{
+    static uint32_t none;
+    return p ? p : &none;
+}
+
+static inline double *jp_f64_out(double *p)
+{
+    static double none;
+    return p ? p : &none;
+}
+
+#define JP_READ(list) {list, list##_len, sizeof *(list), 0}
+#define JP_WRITTEN(list) {list, list##_len, sizeof *(list), 1}
+#define JP_ARRAY(array, n) {array, n, sizeof *(array), 1}
+#define JP_LENDABLE(buffers) jp_lendable(buffers, sizeof(buffers) / sizeof(buffers)[0])
+
+/* ---- regions */
+
+/* Fills in a side of a record of 68 numbers. JP_MALFORMED for a side above 3 or more than 16 edges, and then the record is as it was. */
+static inline uint32_t jp_set_side(uint16_t record[JP_RECORD], unsigned side, const uint16_t *edges, size_t edges_len)
+{
+    size_t i;
+    if (record == NULL || (edges == NULL && edges_len != 0)) {
+        return JP_BAD_BUFFER;
+    }
+    if (side >= JP_SIDES || edges_len > JP_PLACES) {
+        return JP_MALFORMED;
+    }
+    for (i = 0; i < edges_len; i++) {
+        record[side * (JP_PLACES + 1) + 1 + i] = edges[i];
+    }
+    record[side * (JP_PLACES + 1)] = (uint16_t)edges_len;
+    return JP_ACCEPTED;
+}
+
+/* ---- counts */
+
+/* The counts of every edge, from zeros, by move after move until none costs less.
+ * Reads   regions, ideals (one for each edge).
+ * Writes  counts: as many as there are ideals; answer: place, place, number of moves.
+ * Refuses 1, 11, 2, 3 to 6, 7; 7 sets the needed counts to 0. */
+static inline uint32_t jp_solve_counts(const uint16_t *regions, size_t regions_len, const double *ideals, size_t ideals_len,
+                                       uint32_t *counts, size_t counts_len, uint32_t answer[3])
+{
+    const jp_buffer lent[] = {JP_READ(regions), JP_READ(ideals), JP_WRITTEN(counts), JP_ARRAY(answer, 3)};
+    if (!JP_LENDABLE(lent)) {
+        return JP_BAD_BUFFER;
+    }
+    return juplatsk_solve_counts(jp_u16(regions), regions_len, jp_f64(ideals), ideals_len, jp_u32_out(counts), counts_len, answer);
+}
+
+/* One round: the move that costs least, if any costs less than -1e-12, is made on the counts.
+ * Reads   regions, ideals, limit: how many entries a search may make, at most 100,000.
+ * Changes counts, as many as ideals.
+ * Writes  answer: place, place, 1 if a move was made, 1 if a search was cut; cost: of the move made, +0.0 if none was.
+ * Refuses 1, 10, 8, 2, 9, 3 to 6. */
+static inline uint32_t jp_round(const uint16_t *regions, size_t regions_len, const double *ideals, size_t ideals_len, uint32_t *counts,
+                                size_t counts_len, uint32_t limit, uint32_t answer[4], double cost[1])
+{
+    const jp_buffer lent[] = {JP_READ(regions), JP_READ(ideals), JP_WRITTEN(counts), JP_ARRAY(answer, 4), JP_ARRAY(cost, 1)};
+    if (!JP_LENDABLE(lent)) {
+        return JP_BAD_BUFFER;
+    }
+    return juplatsk_round(jp_u16(regions), regions_len, jp_f64(ideals), ideals_len, jp_u32_out(counts), counts_len, limit, answer, cost);
+}
+
+/* The energy of counts: the sum of (count/ideal - 1)^2 over the edges.
+ * Reads   counts, ideals, equally long.
+ * Writes  answer: place, place; sum: the energy, +0.0 if refused.
+ * Refuses 1, 8, 2, 9. */
+static inline uint32_t jp_energy(const uint32_t *counts, size_t counts_len, const double *ideals, size_t ideals_len, uint32_t answer[2],
+                                 double sum[1])
+{
+    const jp_buffer lent[] = {JP_READ(counts), JP_READ(ideals), JP_ARRAY(answer, 2), JP_ARRAY(sum, 1)};
+    if (!JP_LENDABLE(lent)) {
+        return JP_BAD_BUFFER;
+    }
+    return juplatsk_energy(jp_u32(counts), counts_len, jp_f64(ideals), ideals_len, answer, sum);
+}
+
+/* Whether opposite sides of every region add up to the same; an edge without a count makes it no.
+ * Reads   regions, counts.
+ * Writes  answer: place, place, 1 if they do.
+ * Refuses 1. */
+static inline uint32_t jp_constraints_hold(const uint16_t *regions, size_t regions_len, const uint32_t *counts, size_t counts_len,
+                                           uint32_t answer[3])
+{
+    const jp_buffer lent[] = {JP_READ(regions), JP_READ(counts), JP_ARRAY(answer, 3)};
+    if (!JP_LENDABLE(lent)) {
+        return JP_BAD_BUFFER;
+    }
+    return juplatsk_constraints_hold(jp_u16(regions), regions_len, jp_u32(counts), counts_len, answer);
+}
+
+/* ---- roots */
+
+/* The square root, correctly rounded.
+ * Writes  root: +0.0 if refused.
+ * Refuses 28. */
+static inline uint32_t jp_root(double x, double root[1])
+{
+    const jp_buffer lent[] = {JP_ARRAY(root, 1)};
+    if (!JP_LENDABLE(lent)) {
+        return JP_BAD_BUFFER;
+    }
+    return juplatsk_root(x, root);
+}
+
+/* ---- grids: quads row by row from the bottom, each as four x, y pairs counter-clockwise from its lower left, 8 values a quad */
+
+/* The quads between four curves, by seams: where the grid lines meet the bottom and top curves (u) and the left and right ones (v).
+ * Reads   curves; seams, each of 2 to 1,025 values from 0 up to 1; opposite ones equally long.
+ * Writes  out: 8 values for each of (bottom_u_len - 1) * (left_v_len - 1) quads; answer: place, place, number of quads.
+ * Refuses 1, 13 to 22, 11, 23 to 25; the last three set the needed output to +0.0. */
+static inline uint32_t jp_coons_from_parameters(const double *bottom, size_t bottom_len, const double *right, size_t right_len,
+                                                const double *top, size_t top_len, const double *left, size_t left_len,
+                                                const double *bottom_u, size_t bottom_u_len, const double *top_u, size_t top_u_len,
+                                                const double *left_v, size_t left_v_len, const double *right_v, size_t right_v_len,
+                                                double *out, size_t out_len, uint32_t answer[3])
+{
+    const jp_buffer lent[] = {JP_READ(bottom), JP_READ(right),  JP_READ(top),     JP_READ(left),   JP_READ(bottom_u),
+                              JP_READ(top_u),  JP_READ(left_v), JP_READ(right_v), JP_WRITTEN(out), JP_ARRAY(answer, 3)};
+    if (!JP_LENDABLE(lent)) {
+        return JP_BAD_BUFFER;
+    }
+    return juplatsk_coons_from_parameters(jp_f64(bottom), bottom_len, jp_f64(right), right_len, jp_f64(top), top_len, jp_f64(left),
+                                          left_len, jp_f64(bottom_u), bottom_u_len, jp_f64(top_u), top_u_len, jp_f64(left_v),
+                                          left_v_len, jp_f64(right_v), right_v_len, jp_f64_out(out), out_len, answer);
+}
+
+/* The n_u by n_v quads between four curves, by even seams.
+ * Reads   curves; n_u, n_v: 1 to 1,024.
+ * Writes  out: 8 * n_u * n_v values; answer: place, place, number of quads.
+ * Refuses 1, 26, 13 to 17, 11, 25, which sets the needed output to +0.0. */
+static inline uint32_t jp_coons_curves(const double *bottom, size_t bottom_len, const double *right, size_t right_len,
+                                       const double *top, size_t top_len, const double *left, size_t left_len, uint32_t n_u,
+                                       uint32_t n_v, double *out, size_t out_len, uint32_t answer[3])
+{
+    const jp_buffer lent[] = {JP_READ(bottom), JP_READ(right), JP_READ(top), JP_READ(left), JP_WRITTEN(out), JP_ARRAY(answer, 3)};
+    if (!JP_LENDABLE(lent)) {
+        return JP_BAD_BUFFER;
+    }
+    return juplatsk_coons_curves(jp_f64(bottom), bottom_len, jp_f64(right), right_len, jp_f64(top), top_len, jp_f64(left), left_len,
+                                 n_u, n_v, jp_f64_out(out), out_len, answer);
+}
+
+/* The quads of one region, by the counts of its edges: edge i of a side has the part of the side's curve from break i to break i + 1.
+ * Reads   region: one record; counts, of all edges; breaks0 to breaks3, of sides 0 to 3: one more than the side has edges, from 0 up
+ *         to 1, sides 0 and 2 from left to right, 1 and 3 from bottom to top; curves.
+ * Writes  out: 8 values a quad, as many as the counts of sides 0 and 3 add up to, multiplied; answer: place, place, number of quads.
+ * Refuses 1, 3, 27, then as jp_coons_from_parameters. */
+static inline uint32_t jp_lay_region(const uint16_t *region, size_t region_len, const uint32_t *counts, size_t counts_len,
+                                     const double *breaks0, size_t breaks0_len, const double *breaks1, size_t breaks1_len,
+                                     const double *breaks2, size_t breaks2_len, const double *breaks3, size_t breaks3_len,
+                                     const double *bottom, size_t bottom_len, const double *right, size_t right_len, const double *top,
+                                     size_t top_len, const double *left, size_t left_len, double *out, size_t out_len,
+                                     uint32_t answer[3])
+{
+    const jp_buffer lent[] = {JP_READ(region),  JP_READ(counts), JP_READ(breaks0), JP_READ(breaks1), JP_READ(breaks2), JP_READ(breaks3),
+                              JP_READ(bottom),  JP_READ(right),  JP_READ(top),     JP_READ(left),    JP_WRITTEN(out),
+                              JP_ARRAY(answer, 3)};
+    if (!JP_LENDABLE(lent)) {
+        return JP_BAD_BUFFER;
+    }
+    return juplatsk_lay_region(jp_u16(region), region_len, jp_u32(counts), counts_len, jp_f64(breaks0), breaks0_len, jp_f64(breaks1),
+                               breaks1_len, jp_f64(breaks2), breaks2_len, jp_f64(breaks3), breaks3_len, jp_f64(bottom), bottom_len,
+                               jp_f64(right), right_len, jp_f64(top), top_len, jp_f64(left), left_len, jp_f64_out(out), out_len,
+                               answer);
+}
+
+/* The n_u by n_v quads of a tile given by a closed loop of points, counter-clockwise.
+ * Reads   boundary: x, y in turn: the four corners from the lower left, or four curves of equally many points, two or more each
+ *         (bottom, right, top, left; curves share no points, each corner is in it twice); at most 4,096 points. A last point equal to the
+ *         first is dropped, from 5 points up. n_u, n_v: 1 to 1,024.
+ * Writes  out: 8 * n_u * n_v values; answer: place, place, number of quads.
+ * Refuses 1, 12, 26, then as jp_coons_curves. */
+static inline uint32_t jp_coons_checked(const double *boundary, size_t boundary_len, uint32_t n_u, uint32_t n_v, double *out,
+                                        size_t out_len, uint32_t answer[3])
+{
+    const jp_buffer lent[] = {JP_READ(boundary), JP_WRITTEN(out), JP_ARRAY(answer, 3)};
+    if (!JP_LENDABLE(lent)) {
+        return JP_BAD_BUFFER;
+    }
+    return juplatsk_coons_checked(jp_f64(boundary), boundary_len, n_u, n_v, jp_f64_out(out), out_len, answer);
+}
+
+/* ---- meshes: the points of a grid, and for each quad the numbers of its four points, counter-clockwise from its lower left */
+
+/* The mesh of the n_u by n_v grid between four curves.
+ * Reads   as jp_coons_curves.
+ * Writes  points: x, y, +0.0 for each of (n_u + 1) * (n_v + 1) points, rows from the bottom; cells: 4 * n_u * n_v point numbers;
+ *         answer: place, place, number of quads.
+ * Refuses as jp_coons_curves; 11 if either output is too short. */
+static inline uint32_t jp_mesh_tile_curves(const double *bottom, size_t bottom_len, const double *right, size_t right_len,
+                                           const double *top, size_t top_len, const double *left, size_t left_len, uint32_t n_u,
+                                           uint32_t n_v, double *points, size_t points_len, uint32_t *cells, size_t cells_len,
+                                           uint32_t answer[3])
+{
+    const jp_buffer lent[] = {JP_READ(bottom),    JP_READ(right),    JP_READ(top),       JP_READ(left),
+                              JP_WRITTEN(points), JP_WRITTEN(cells), JP_ARRAY(answer, 3)};
+    if (!JP_LENDABLE(lent)) {
+        return JP_BAD_BUFFER;
+    }
+    return juplatsk_mesh_tile_curves(jp_f64(bottom), bottom_len, jp_f64(right), right_len, jp_f64(top), top_len, jp_f64(left), left_len,
+                                     n_u, n_v, jp_f64_out(points), points_len, jp_u32_out(cells), cells_len, answer);
+}
+
+/* The mesh of a tile given by a closed loop of points, as jp_coons_checked reads it; written and refused as by the two above. */
+static inline uint32_t jp_mesh_tile(const double *boundary, size_t boundary_len, uint32_t n_u, uint32_t n_v, double *points,
+                                    size_t points_len, uint32_t *cells, size_t cells_len, uint32_t answer[3])
+{
+    const jp_buffer lent[] = {JP_READ(boundary), JP_WRITTEN(points), JP_WRITTEN(cells), JP_ARRAY(answer, 3)};
+    if (!JP_LENDABLE(lent)) {
+        return JP_BAD_BUFFER;
+    }
+    return juplatsk_mesh_tile(jp_f64(boundary), boundary_len, n_u, n_v, jp_f64_out(points), points_len, jp_u32_out(cells), cells_len,
+                              answer);
+}
+
+#undef JP_READ
+#undef JP_WRITTEN
+#undef JP_ARRAY
+#undef JP_LENDABLE
+
+#ifdef __cplusplus
+}
+#endif
+
+#endif

@@ -1,0 +1,177 @@
+//! Regions, and how many pieces each edge is cut into.
+
+use crate::raw;
+use crate::refusal::{Refusal, MALFORMED};
+
+/// One tile: its four sides counter-clockwise (bottom, right, top, left), each a list of edge numbers.
+///
+/// Sides 0 and 2 list their edges from left to right, sides 1 and 3 from bottom to top. Opposite sides must come to equally many
+/// pieces. A side may be empty. It has at most 16 edges; there are at most 128 regions and 256 edges.
+#[derive(Clone, Debug, Default, PartialEq, Eq)]
+pub struct Region {
+    /// Side `i` is the list of the numbers of its edges.
+    pub sides: [Vec<usize>; 4],
+}
+
+const SIDES: usize = 4;
+const PLACES: usize = 16;
+const RECORD: usize = SIDES * (PLACES + 1);
+
+impl Region {
+    /// A tile from its four sides.
+    pub fn new(sides: [Vec<usize>; 4]) -> Region {
+        Region { sides }
+    }
+
+    /// The record of 68 numbers that the library reads. A side with more than 16 edges makes a broken record. An edge that does not fit
+    /// into 16 bits becomes one that is out of range too.
+    fn put_record(&self, record: &mut [u16]) {
+        for (side, slots) in self.sides.iter().zip(record.chunks_exact_mut(PLACES + 1)) {
+            slots[0] = small(side.len());
+            for (slot, &edge) in slots[1..].iter_mut().zip(side) {
+                *slot = small(edge);
+            }
+        }
+    }
+
+    pub(crate) fn record(&self) -> [u16; RECORD] {
+        let mut record = [0; RECORD];
+        self.put_record(&mut record);
+        record
+    }
+
+    /// What the counts of a side add up to; None where an edge has no count.
+    pub(crate) fn pieces(&self, side: usize, counts: &[u32]) -> Option<u64> {
+        self.sides[side].iter().map(|&edge| counts.get(edge).map(|&n| u64::from(n))).sum()
+    }
+}
+
+fn records(regions: &[Region]) -> Vec<u16> {
+    let mut list = vec![0; regions.len() * RECORD];
+    for (region, record) in regions.iter().zip(list.chunks_exact_mut(RECORD)) {
+        region.put_record(record);
+    }
+    list
+}
+
+/// A number too large for 16 bits is refused just as the largest one is.
+fn small(number: usize) -> u16 {
+    u16::try_from(number).unwrap_or(u16::MAX)
+}
+
+/// A number too large for 32 bits is refused just as the largest one is.
+pub(crate) fn wide(number: usize) -> u32 {
+    u32::try_from(number).unwrap_or(u32::MAX)
+}
+
+pub(crate) fn wide_counts(counts: &[usize]) -> Vec<u32> {
+    counts.iter().map(|&n| wide(n)).collect()
+}
+
+fn plain_counts(counts: &[u32]) -> impl Iterator<Item = usize> + '_ {
+    counts.iter().map(|&n| n as usize)
+}
+
+/// What a solve finds.
+#[derive(Clone, Debug, PartialEq, Eq)]
+pub struct Solved {
+    /// How many pieces each edge is cut into.
+    pub counts: Vec<usize>,
+    /// How many moves led there.
+    pub moves: usize,
+}
+
+/// The counts of every edge: from zeros, move after move, until none lowers the energy. `edge_ideal` has an ideal count for each edge.
+///
+/// ```
+/// use juplatsk::{solve_counts, Region};
+///
+/// // two tiles side by side, which share edge 1
+/// let regions = [
+///     Region::new([vec![0], vec![1], vec![2], vec![3]]),
+///     Region::new([vec![4], vec![5], vec![6], vec![1]]),
+/// ];
+/// let counts = solve_counts(&regions, &[4.0, 2.0, 4.0, 2.0, 2.0, 2.0, 2.0])?;
+/// assert_eq!(counts, [4, 2, 4, 2, 2, 2, 2]);
+/// # Ok::<(), juplatsk::Refusal>(())
+/// ```
+///
+/// Refused by 1, 2, 3 to 6, 7.
+pub fn solve_counts(regions: &[Region], edge_ideal: &[f64]) -> Result<Vec<usize>, Refusal> {
+    solve(regions, edge_ideal).map(|solved| solved.counts)
+}
+
+/// [`solve_counts`], with the number of moves.
+///
+/// ```
+/// let solved = juplatsk::solve(&[], &[2.0, 3.0])?;
+/// assert_eq!((solved.counts, solved.moves), (vec![2, 3], 5));
+/// # Ok::<(), juplatsk::Refusal>(())
+/// ```
+pub fn solve(regions: &[Region], edge_ideal: &[f64]) -> Result<Solved, Refusal> {
+    let mut counts = vec![0; edge_ideal.len()];
+    let moves = raw::solve_counts(&records(regions), edge_ideal, &mut counts)?;
+    Ok(Solved { counts: plain_counts(&counts).collect(), moves: moves as usize })
+}
+
+/// What a round did.
+#[derive(Clone, Copy, Debug, PartialEq)]
+pub struct Round {
+    /// The cost of the move made, or None if none was: the energy changed by so much.
+    pub cost: Option<f64>,
+    /// Whether a search met its limit. If not, and no move was made, no unit move lowers the energy.
+    pub cut: bool,
+}
+
+/// One round of the solver: the move that costs least, if any lowers the energy, is made on the counts. A search from one edge
+/// enters at most `limit` edges, at most 100,000.
+///
+/// ```
+/// use juplatsk::{round, Region};
+///
+/// let tile = [Region::new([vec![0], vec![1], vec![2], vec![3]])];
+/// let mut counts = [0, 0, 0, 0];
+/// let made = round(&tile, &[1.0, 2.0, 1.0, 2.0], &mut counts, 100_000)?;
+/// assert_eq!(made.cost, Some(-2.0));
+/// assert_eq!(counts, [1, 0, 1, 0]);
+/// # Ok::<(), juplatsk::Refusal>(())
+/// ```
+///
+/// Refused by 1, 10, 8, 2, 9, 3 to 6, and then the counts are as they were.
+pub fn round(regions: &[Region], edge_ideal: &[f64], counts: &mut [usize], limit: usize) -> Result<Round, Refusal> {
+    let mut numbers = wide_counts(counts);
+    let (cost, cut) = raw::round(&records(regions), edge_ideal, &mut numbers, wide(limit))?;
+    for (count, number) in counts.iter_mut().zip(plain_counts(&numbers)) {
+        *count = number;
+    }
+    Ok(Round { cost, cut })
+}
+
+/// The energy of counts: the sum of (count / ideal - 1)² over the edges.
+///
+/// ```
+/// assert_eq!(juplatsk::energy(&[1, 3], &[2.0, 3.0]), Ok(0.25));
+/// ```
+///
+/// Refused by 1, 8, 2, 9.
+pub fn energy(counts: &[usize], edge_ideal: &[f64]) -> Result<f64, Refusal> {
+    raw::energy(&wide_counts(counts), edge_ideal)
+}
+
+/// Whether opposite sides of every region add up to the same. An edge without a count makes it false.
+///
+/// ```
+/// use juplatsk::{constraints_hold, Region};
+///
+/// let tile = [Region::new([vec![0], vec![1], vec![2, 3], vec![4]])];
+/// assert_eq!(constraints_hold(&tile, &[4, 1, 2, 2, 1]), Ok(true));
+/// assert_eq!(constraints_hold(&tile, &[4, 1, 2, 3, 1]), Ok(false));
+/// ```
+///
+/// Refused by 1 alone.
+pub fn constraints_hold(regions: &[Region], counts: &[usize]) -> Result<bool, Refusal> {
+    if counts.iter().any(|&n| u32::try_from(n).is_err()) {
+        return Err(MALFORMED);
+    }
+    raw::constraints_hold(&records(regions), &wide_counts(counts))
+}
