@@ -23,22 +23,29 @@ const RIGHT: f64 = 250.0;
 const TOP: f64 = 50.0;
 const BOTTOM: f64 = 60.0;
 
-/// Powers of ten that hold all values.
+/// The logarithms of the least and the largest value, with a margin.
 struct Axis {
-    least: i32,
-    most: i32,
+    least: f64,
+    most: f64,
 }
+
+const MARGIN: f64 = 0.15;
 
 impl Axis {
     fn of(values: impl Iterator<Item = f64> + Clone) -> Axis {
-        let least = values.clone().fold(f64::INFINITY, f64::min).log10().floor() as i32;
-        let most = values.fold(0.0, f64::max).log10().ceil() as i32;
-        Axis { least, most: most.max(least + 1) }
+        let least = values.clone().fold(f64::INFINITY, f64::min).log10();
+        let most = values.fold(0.0, f64::max).log10();
+        Axis { least: least - MARGIN, most: most + MARGIN }
     }
 
     /// From 0 to 1.
     fn place(&self, value: f64) -> f64 {
-        (value.log10() - f64::from(self.least)) / f64::from(self.most - self.least)
+        (value.log10() - self.least) / (self.most - self.least)
+    }
+
+    /// The powers of ten on the axis.
+    fn powers(&self) -> std::ops::RangeInclusive<i32> {
+        self.least.ceil() as i32..=self.most.floor() as i32
     }
 }
 
@@ -54,12 +61,12 @@ impl Plot {
              font-family=\"sans-serif\" font-size=\"13\">\n<rect width=\"100%\" height=\"100%\" fill=\"white\"/>\n"
         );
         text(&mut svg, LEFT, 28.0, "start", &format!("<tspan font-size=\"16\">{}</tspan>", self.title));
-        for power in across.least..=across.most {
+        for power in across.powers() {
             let at = x(10f64.powi(power));
             line(&mut svg, (at, TOP), (at, bottom), "#dddddd");
             text(&mut svg, at, bottom + 20.0, "middle", &count(power));
         }
-        for power in up.least..=up.most {
+        for power in up.powers() {
             let at = y(10f64.powi(power));
             line(&mut svg, (LEFT, at), (right, at), "#dddddd");
             text(&mut svg, LEFT - 8.0, at + 4.0, "end", &time(power));

@@ -12,7 +12,7 @@ const SHORT: Effort = Effort { turn: 0.02, seconds: 0.6, turns: 5 };
 /// A grid is one call a turn.
 const GRID: Effort = Effort { turn: 0.0, seconds: 0.0, turns: 7 };
 /// For a round or solve that takes the Rust seconds.
-const LONG: Effort = Effort { turn: 0.0, seconds: 0.0, turns: 2 };
+const LONG: Effort = Effort { turn: 0.0, seconds: 3.0, turns: 3 };
 const ONCE: Effort = Effort { turn: 0.0, seconds: 0.0, turns: 1 };
 
 /// Solves with more entries than this take the Rust minutes.
