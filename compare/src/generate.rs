@@ -1,6 +1,7 @@
 //! Cases beside the vectors: two faults at once, the limits, farms with T-junctions, unbalanced counts, extreme ideals. Where the Rust
 //! decides, its answer is stored; the pairs of faults say what they expect, by 01's order of tests.
 
+use crate::dice::Dice;
 use crate::limits;
 use crate::refusal::Refusal;
 use crate::stored::{self, Case};
@@ -8,7 +9,7 @@ use crate::stored::{self, Case};
 /// What a lent buffer of counts holds before a solve.
 const LENT: u32 = 0xA5A5_A5A5;
 
-type Cases = Result<Vec<Case>, String>;
+pub type Cases = Result<Vec<Case>, String>;
 
 pub fn all() -> Cases {
     let parts = [
@@ -34,7 +35,7 @@ pub fn all() -> Cases {
 }
 
 /// A record; the places past a side's number of edges hold what would be out of range.
-fn record(sides: [&[u16]; 4]) -> Vec<u16> {
+pub fn record(sides: [&[u16]; 4]) -> Vec<u16> {
     let mut numbers = Vec::new();
     for side in sides {
         numbers.push(side.len() as u16);
@@ -148,18 +149,13 @@ fn faults(order: &[Fault], count: u32, run: impl Fn(Input) -> Result<Case, Strin
     Ok(cases)
 }
 
-fn expected(case: Case, wanted: Refusal) -> Result<Case, String> {
-    let given = match &case {
-        Case::Solve(c) => c.answer.err(),
-        Case::Round(c) => c.step.answer.err(),
-        Case::Rounds(_) => None,
-        Case::Energy(c) => c.answer.err(),
-        Case::Hold(c) => c.answer.err(),
-    };
+/// The case, if it is refused as it should be.
+pub fn expected(case: Case, wanted: Refusal) -> Result<Case, String> {
+    let given = case.refusal();
     if given == Some(wanted) {
         Ok(case)
     } else {
-        Err(format!("a generated case should be refused with {wanted:?}, and the answer is {given:?}"))
+        Err(format!("a generated case should be refused with {wanted:?}, and the answer is {given:?}: {case:?}"))
     }
 }
 
@@ -306,31 +302,6 @@ fn buffers() -> Cases {
 // ------------------------------------------------------------------------------------------------------------------------------------
 // Random input, by a fixed seed
 // ------------------------------------------------------------------------------------------------------------------------------------
-
-/// Numbers by xorshift, the same on each run.
-struct Dice(u64);
-
-impl Dice {
-    fn below(&mut self, limit: u32) -> u32 {
-        self.0 ^= self.0 << 13;
-        self.0 ^= self.0 >> 7;
-        self.0 ^= self.0 << 17;
-        ((self.0 >> 33) % u64::from(limit)) as u32
-    }
-
-    fn pick<T: Copy>(&mut self, from: &[T]) -> T {
-        from[self.below(from.len() as u32) as usize]
-    }
-
-    fn counts(&mut self, length: usize, limit: u32) -> Vec<u32> {
-        (0..length).map(|_| self.below(limit)).collect()
-    }
-
-    /// Ideals from 0.25 to 6.2, in steps that make ties likely.
-    fn ideals(&mut self, length: usize) -> Vec<f64> {
-        (0..length).map(|_| f64::from(1 + self.below(25)) * 0.25).collect()
-    }
-}
 
 /// Small records of random edges, most of which break one of the rules 3 to 6.
 fn random_records() -> Cases {

@@ -22,6 +22,7 @@ pub struct Tile {
 }
 
 /// The four seams, in 01's order of tests.
+#[derive(Clone, Debug)]
 pub struct Seams {
     pub bottom: Vec<f64>,
     pub top: Vec<f64>,
@@ -47,6 +48,11 @@ fn points(values: &[f64], most: usize) -> Result<Vec<[f64; 2]>, Stop> {
 fn curves(flat: &[Flat; 4]) -> Result<BoundaryCurves, Stop> {
     let curve = |side: usize| points(&flat[side], limits::CURVE_POINTS);
     Ok(BoundaryCurves { bottom: curve(0)?, right: curve(1)?, top: curve(2)?, left: curve(3)? })
+}
+
+/// Refusal 1 of the curves.
+pub fn check_curves(flat: &[Flat; 4]) -> Result<(), Stop> {
+    curves(flat).map(|_| ())
 }
 
 fn check_cells(n_u: u32, n_v: u32) -> Result<(), Stop> {

@@ -6,16 +6,22 @@
 //! - `limits`: 01's limits, which the Rust does not have.
 //! - `solver`, `geometry`: an operation a function, on plain lists.
 //! - `words`, `case`: cases and answers as text.
-//! - `json`, `vector`, `generate`, `stored`, `pack`: the stored list (src/bin/stored.rs).
+//! - `lay`: 01's lay, which the Rust does not have.
+//! - `stored`, `grids`: stored cases of the solver and of geometry; `json`, `vector`: from the vectors; `dice`, `generate`,
+//!   `generate_geometry`: made here; `pack`: as bytes (src/bin/stored.rs).
 
 include!(concat!(env!("OUT_DIR"), "/published.rs"));
 
 mod quality;
 
 pub mod case;
+pub mod dice;
 pub mod generate;
+pub mod generate_geometry;
 pub mod geometry;
+pub mod grids;
 pub mod json;
+pub mod lay;
 pub mod limits;
 pub mod pack;
 pub mod refusal;

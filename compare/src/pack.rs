@@ -1,5 +1,6 @@
 //! The data file of the replay: numbers of fixed widths, little-endian, no padding. README.md has the layout.
 
+use crate::grids::{Boundary, Source};
 use crate::refusal::Refusal;
 use crate::stored::{Case, Step};
 
@@ -51,6 +52,29 @@ pub fn one(case: &Case) -> Result<Vec<u8>, String> {
             bytes.verdict(c.answer.err());
             bytes.number(u32::from(c.answer.unwrap_or(false)));
         }
+        Case::Root(c) => {
+            bytes.number(6);
+            bytes.float(c.x);
+            bytes.verdict(c.answer.err());
+            bytes.float(c.answer.unwrap_or(0.0));
+        }
+        Case::Grid(c) => {
+            bytes.source(&c.source)?;
+            bytes.length(c.lent)?;
+            bytes.verdict(c.answer.err());
+            bytes.number(c.answer.unwrap_or(0));
+            bytes.floats(&c.written)?;
+        }
+        Case::Tile(c) => {
+            bytes.number(if matches!(c.boundary, Boundary::Curves(_)) { 11 } else { 12 });
+            bytes.even(&c.boundary, c.n_u, c.n_v)?;
+            bytes.length(c.lent_points)?;
+            bytes.length(c.lent_cells)?;
+            bytes.verdict(c.answer.err());
+            bytes.number(c.answer.unwrap_or(0));
+            bytes.floats(&c.written.points)?;
+            bytes.numbers(&c.written.cells)?;
+        }
     }
     Ok(bytes.0)
 }
@@ -62,7 +86,9 @@ impl Bytes {
         self.0.extend(value.to_le_bytes());
     }
 
+    /// All NaNs are one.
     fn float(&mut self, value: f64) {
+        let value = if value.is_nan() { f64::NAN } else { value };
         self.0.extend(value.to_bits().to_le_bytes());
     }
 
@@ -111,6 +137,45 @@ impl Bytes {
             self.number(u32::from(made.is_some_and(|made| made.cut)));
             self.numbers(&step.after)?;
         }
+        Ok(())
+    }
+
+    fn each(&mut self, lists: &[Vec<f64>; 4]) -> Result<(), String> {
+        lists.iter().try_for_each(|list| self.floats(list))
+    }
+
+    /// The operation of a grid, and what it is made from.
+    fn source(&mut self, source: &Source) -> Result<(), String> {
+        match source {
+            Source::Parameters(curves, seams) => {
+                self.number(7);
+                self.each(curves)?;
+                self.floats(&seams.bottom)?;
+                self.floats(&seams.top)?;
+                self.floats(&seams.left)?;
+                self.floats(&seams.right)
+            }
+            Source::Even(boundary, n_u, n_v) => {
+                self.number(if matches!(boundary, Boundary::Curves(_)) { 8 } else { 10 });
+                self.even(boundary, *n_u, *n_v)
+            }
+            Source::Lay(region) => {
+                self.number(9);
+                self.each(&region.curves)?;
+                self.each(&region.breaks)?;
+                self.places(&region.record)?;
+                self.numbers(&region.counts)
+            }
+        }
+    }
+
+    fn even(&mut self, boundary: &Boundary, n_u: u32, n_v: u32) -> Result<(), String> {
+        match boundary {
+            Boundary::Curves(curves) => self.each(curves)?,
+            Boundary::Loop(points) => self.floats(points)?,
+        }
+        self.number(n_u);
+        self.number(n_v);
         Ok(())
     }
 }

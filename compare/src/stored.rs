@@ -1,5 +1,6 @@
 //! A stored case: what an operation is called with, and all that it must answer and leave. `confirm` holds it against the oracle.
 
+use crate::grids;
 use crate::limits;
 use crate::reach;
 use crate::refusal::{Refusal, Stop};
@@ -12,6 +13,9 @@ pub enum Case {
     Rounds(Rounds),
     Energy(Energy),
     Hold(Hold),
+    Root(grids::Root),
+    Grid(grids::Grid),
+    Tile(grids::Tile),
 }
 
 #[derive(Clone, Debug)]
@@ -75,6 +79,27 @@ impl Case {
             Case::Rounds(_) => "rounds",
             Case::Energy(_) => "energy",
             Case::Hold(_) => "hold",
+            Case::Root(_) => "root",
+            Case::Grid(case) => case.operation(),
+            Case::Tile(case) => case.operation(),
+        }
+    }
+
+    pub fn is_solver(&self) -> bool {
+        !matches!(self, Case::Root(_) | Case::Grid(_) | Case::Tile(_))
+    }
+
+    /// The case's refusal; a list of rounds has one for each round, and is not asked.
+    pub fn refusal(&self) -> Option<Refusal> {
+        match self {
+            Case::Solve(case) => case.answer.err(),
+            Case::Round(case) => case.step.answer.err(),
+            Case::Rounds(_) => None,
+            Case::Energy(case) => case.answer.err(),
+            Case::Hold(case) => case.answer.err(),
+            Case::Root(case) => case.answer.err(),
+            Case::Grid(case) => case.answer.err(),
+            Case::Tile(case) => case.answer.err(),
         }
     }
 
@@ -84,7 +109,7 @@ impl Case {
             Case::Solve(case) => solve_effort(case, most),
             Case::Round(case) => round_effort(&case.records, &case.before, &case.step, most),
             Case::Rounds(case) => rounds_effort(case, most),
-            Case::Energy(_) | Case::Hold(_) => 0,
+            _ => 0,
         }
     }
 }
@@ -192,5 +217,8 @@ pub fn asked_again(case: &Case) -> Result<Case, String> {
         Case::Rounds(c) => rounds(c.records, c.before, c.steps.into_iter().map(|s| (s.ideals, s.limit)).collect()),
         Case::Energy(c) => energy(c.counts, c.ideals),
         Case::Hold(c) => hold(c.records, c.counts),
+        Case::Root(c) => grids::root(c.x),
+        Case::Grid(c) => grids::grid(c.source, c.lent),
+        Case::Tile(c) => grids::tile(c.boundary, c.n_u, c.n_v, c.lent_points, c.lent_cells),
     }
 }

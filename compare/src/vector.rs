@@ -1,11 +1,14 @@
 //! The vectors, one JSON object a line, as stored cases.
 
+use crate::geometry::Seams;
+use crate::grids::{zeroes, Boundary, Grid, Root, Source, Tile, Written};
 use crate::json::{parse, Json};
+use crate::lay::Region;
 use crate::refusal::Refusal;
 use crate::stored::{Case, Energy, Hold, Made, Round, Rounds, Solve, Step};
 use crate::words;
 
-/// The case of a line; none if its operation is not one of the solver's.
+/// The case of a line; none if its operation is an inner one.
 pub fn case(line: &str) -> Result<Option<Case>, String> {
     let vector = parse(line)?;
     let given = vector.field("in")?;
@@ -16,6 +19,13 @@ pub fn case(line: &str) -> Result<Option<Case>, String> {
         "rounds" => Case::Rounds(rounds(given, out)?),
         "energy" => Case::Energy(energy(given, out)?),
         "constraints_hold" => Case::Hold(hold(given, out)?),
+        "root" => Case::Root(root(given, out)?),
+        "coons_from_parameters" => Case::Grid(grid(Source::Parameters(four(given, "curves")?, seams(given)?), given, out)?),
+        "coons_curves" => Case::Grid(grid(even(Boundary::Curves(four(given, "curves")?), given)?, given, out)?),
+        "coons_checked" => Case::Grid(grid(even(Boundary::Loop(named(given, "loop")?), given)?, given, out)?),
+        "lay" => Case::Grid(grid(Source::Lay(region(given)?), given, out)?),
+        "mesh_tile_curves" => Case::Tile(tile(Boundary::Curves(four(given, "curves")?), given, out)?),
+        "mesh_tile" => Case::Tile(tile(Boundary::Loop(named(given, "loop")?), given, out)?),
         _ => return Ok(None),
     }))
 }
@@ -58,6 +68,53 @@ fn hold(given: &Json, out: &Json) -> Result<Hold, String> {
     Ok(Hold { records: places(given)?, counts: numbers(given)?, answer: answer(out, |out| flag(out.field("hold")?))? })
 }
 
+fn root(given: &Json, out: &Json) -> Result<Root, String> {
+    Ok(Root { x: float(given.field("x")?)?, answer: answer(out, |out| float(out.field("root")?))? })
+}
+
+fn even(boundary: Boundary, given: &Json) -> Result<Source, String> {
+    Ok(Source::Even(boundary, whole(given.field("n_u")?)?, whole(given.field("n_v")?)?))
+}
+
+fn seams(given: &Json) -> Result<Seams, String> {
+    let seam = |name| named(given, name);
+    Ok(Seams { bottom: seam("bottom")?, top: seam("top")?, left: seam("left")?, right: seam("right")? })
+}
+
+fn region(given: &Json) -> Result<Region, String> {
+    Ok(Region {
+        record: list_of_places(given.field("record")?)?,
+        counts: numbers(given)?,
+        breaks: four(given, "breaks")?,
+        curves: four(given, "curves")?,
+    })
+}
+
+fn grid(source: Source, given: &Json, out: &Json) -> Result<Grid, String> {
+    let answer = answer(out, |out| whole(out.field("quads")?))?;
+    let written = match &answer {
+        Ok(_) => named(out, "out")?,
+        Err(refusal) if zeroes(refusal) => vec![0.0; length(out.field("needed")?)?],
+        Err(_) => Vec::new(),
+    };
+    Ok(Grid { source, lent: length(given.field("out_len")?)?, answer, written })
+}
+
+fn tile(boundary: Boundary, given: &Json, out: &Json) -> Result<Tile, String> {
+    let answer = answer(out, |out| whole(out.field("quads")?))?;
+    let written = match &answer {
+        Ok(_) => Written { points: named(out, "points")?, cells: list(out.field("cells")?, whole)? },
+        Err(refusal) if zeroes(refusal) => match out.field("needed")?.list()? {
+            [points, cells] => Written { points: vec![0.0; length(points)?], cells: vec![0; length(cells)?] },
+            needed => return Err(format!("a mesh has two outputs, and not {}", needed.len())),
+        },
+        Err(_) => Written::default(),
+    };
+    let (lent_points, lent_cells) = (length(given.field("points_len")?)?, length(given.field("cells_len")?)?);
+    let (n_u, n_v) = (whole(given.field("n_u")?)?, whole(given.field("n_v")?)?);
+    Ok(Tile { boundary, n_u, n_v, lent_points, lent_cells, answer, written })
+}
+
 /// The refusal, or what `accepted` reads.
 fn answer<T>(out: &Json, accepted: impl Fn(&Json) -> Result<T, String>) -> Result<Result<T, Refusal>, String> {
     let number = whole(out.field("refusal")?)?;
@@ -88,18 +145,40 @@ pub fn float(value: &Json) -> Result<f64, String> {
     words::bits(digits).ok_or_else(|| format!("`{digits}` is not the 16 hexadecimal digits of an f64"))
 }
 
-fn places(given: &Json) -> Result<Vec<u16>, String> {
-    let place = |value: &Json| {
+fn list<T>(values: &Json, read: impl Fn(&Json) -> Result<T, String>) -> Result<Vec<T>, String> {
+    values.list()?.iter().map(read).collect()
+}
+
+fn list_of_places(values: &Json) -> Result<Vec<u16>, String> {
+    list(values, |value| {
         let number = value.number()?;
         u16::try_from(number).map_err(|_| format!("place {number} is over 16 bits"))
-    };
-    given.field("regions")?.list()?.iter().map(place).collect()
+    })
+}
+
+fn places(given: &Json) -> Result<Vec<u16>, String> {
+    list_of_places(given.field("regions")?)
 }
 
 fn numbers(given: &Json) -> Result<Vec<u32>, String> {
-    given.field("counts")?.list()?.iter().map(whole).collect()
+    list(given.field("counts")?, whole)
 }
 
 fn floats(given: &Json) -> Result<Vec<f64>, String> {
-    given.field("ideals")?.list()?.iter().map(float).collect()
+    named(given, "ideals")
+}
+
+/// The f64 list of that name.
+fn named(given: &Json, name: &str) -> Result<Vec<f64>, String> {
+    list(given.field(name)?, float)
+}
+
+/// The four f64 lists of that name, by side number.
+fn four(given: &Json, name: &str) -> Result<[Vec<f64>; 4], String> {
+    let lists = list(given.field(name)?, |values| list(values, float))?;
+    lists.try_into().map_err(|lists: Vec<_>| format!("`{name}` has {} lists, and not four", lists.len()))
+}
+
+fn length(value: &Json) -> Result<usize, String> {
+    Ok(whole(value)? as usize)
 }

@@ -78,6 +78,12 @@ fn broken_vectors() {
             "{\"fn\":\"energy\",\"in\":{\"counts\":[],\"ideals\":[]},\"out\":{\"refusal\":0,\"energy\":\"3ff0000000000000\"}}\n",
             "line 1: the vector says",
         ),
+        (
+            "root",
+            "{\"fn\":\"root\",\"in\":{\"x\":\"4010000000000000\"},\"out\":{\"refusal\":0,\"root\":\"4010000000000000\"}}\n",
+            "line 1: the vector says",
+        ),
+        ("curves", "{\"fn\":\"coons_curves\",\"in\":{\"curves\":[[],[],[]]},\"out\":{\"refusal\":0}}\n", "line 1: `curves` has 3 lists"),
     ];
     for (name, text, words) in broken {
         let path = std::env::temp_dir().join(format!("compare-{}-{name}.jsonl", std::process::id()));

@@ -1,17 +1,16 @@
-//! stored OUT VECTORS..: writes the data file of the replay from the solver's vectors and from generated cases.
+//! stored FOLDER VECTORS..: writes the replay's data files to the folder, from vectors and generated cases: solver.cases and
+//! geometry.cases.
 //!
 //! Each vector is put to the oracle again, and must be answered as it says. README.md has the command.
 
 use compare::stored::{self, Case};
-use compare::{generate, pack, vector};
+use compare::{generate, generate_geometry, pack, vector};
 use std::collections::HashSet;
 use std::process::ExitCode;
 use std::{env, fs};
 
 /// Cases with more search entries than this would make the replay slow.
 const EFFORT: usize = 500_000;
-
-const OPERATIONS: [&str; 5] = ["solve", "round", "rounds", "energy", "hold"];
 
 fn main() -> ExitCode {
     match run() {
@@ -25,25 +24,42 @@ fn main() -> ExitCode {
 
 fn run() -> Result<(), String> {
     let mut arguments = env::args().skip(1);
-    let out = arguments.next().ok_or("usage: stored OUT VECTORS..")?;
+    let folder = arguments.next().ok_or("usage: stored FOLDER VECTORS..")?;
     let mut cases = Vec::new();
     for path in arguments {
         cases.extend(vectors(&path)?);
     }
-    let generated = generate::all()?;
-    println!("{} generated", generated.len());
-    cases.extend(affordable(generated, "generated"));
-    let cases = distinct(cases)?;
+    cases.extend(affordable(generate::all()?));
+    let generated = generate_geometry::all()?;
+    println!("generated: {} of geometry", generated.len());
+    cases.extend(generated);
+    let (solver, geometry) = cases.into_iter().partition(Case::is_solver);
+    write(&format!("{folder}/solver.cases"), distinct(solver)?)?;
+    write(&format!("{folder}/geometry.cases"), distinct(geometry)?)
+}
+
+/// Writes a data file, and tells how many cases of each operation it has.
+fn write(path: &str, cases: Vec<Case>) -> Result<(), String> {
     let bytes = pack::file(&cases)?;
-    fs::write(&out, &bytes).map_err(|e| format!("{out}: {e}"))?;
-    for operation in OPERATIONS {
-        println!("{operation} {}", cases.iter().filter(|case| case.operation() == operation).count());
+    fs::write(path, &bytes).map_err(|e| format!("{path}: {e}"))?;
+    let mut operations: Vec<(&str, usize)> = Vec::new();
+    for operation in cases.iter().map(Case::operation) {
+        match operations.iter_mut().find(|(name, _)| *name == operation) {
+            Some((_, number)) => *number += 1,
+            None => operations.push((operation, 1)),
+        }
     }
-    println!("{} cases, {} search entries, {} bytes", cases.len(), cases.iter().map(|c| c.effort(EFFORT)).sum::<usize>(), bytes.len());
+    println!(
+        "{path}: {} cases, {} search entries, {} bytes",
+        cases.len(),
+        cases.iter().map(|c| c.effort(EFFORT)).sum::<usize>(),
+        bytes.len()
+    );
+    operations.iter().for_each(|(operation, number)| println!("  {operation} {number}"));
     Ok(())
 }
 
-/// The solver's vectors of a file that the replay can afford, each confirmed by the oracle.
+/// The vectors of a file that the replay can afford, each confirmed by the oracle.
 fn vectors(path: &str) -> Result<Vec<Case>, String> {
     let text = fs::read_to_string(path).map_err(|e| format!("{path}: {e}"))?;
     if !text.ends_with('\n') {
@@ -57,7 +73,7 @@ fn vectors(path: &str) -> Result<Vec<Case>, String> {
     }
     let found = cases.len();
     cases.retain(|(_, case)| case.effort(EFFORT) <= EFFORT);
-    println!("{path}: {found} of the solver, {} left out as too slow", found - cases.len());
+    println!("{path}: {found} vectors, {} left out as too slow", found - cases.len());
     for (number, case) in &cases {
         confirm(case).map_err(|problem| format!("{path}, line {number}: {problem}"))?;
     }
@@ -73,10 +89,10 @@ fn confirm(case: &Case) -> Result<(), String> {
     }
 }
 
-fn affordable(cases: Vec<Case>, from: &str) -> Vec<Case> {
+fn affordable(cases: Vec<Case>) -> Vec<Case> {
     let all = cases.len();
     let kept: Vec<Case> = cases.into_iter().filter(|case| case.effort(EFFORT) <= EFFORT).collect();
-    println!("{from}: {} left out as too slow", all - kept.len());
+    println!("generated: {all} of the solver, {} left out as too slow", all - kept.len());
     kept
 }
 

@@ -4,6 +4,7 @@
 use super::call::{Call, Effect, Step, LENT_FLOAT, LENT_NUMBER};
 use super::library::Sides;
 use crate::geometry::{self, Grid, Seams, Tile};
+use crate::lay::{self, Region};
 use crate::limits;
 use crate::refusal::{Refusal, Stop};
 use crate::solver;
@@ -29,13 +30,20 @@ fn effect(call: &Call) -> Result<Effect, String> {
             Ok(settled(solver::hold(regions, counts), &[])?.map_or_else(refused, |holds| accepted(u32::from(holds))))
         }
         Call::Root { x } => Ok(settled(geometry::root(*x), &[])?.map_or_else(refused, |value| Effect { value, ..accepted(0) })),
-        Call::FromParameters { curves, seams, out } => from_parameters(curves, seams, *out),
+        Call::FromParameters { curves, seams, out } => {
+            let [bottom, right, top, left] = seams.clone();
+            from_parameters(curves, Seams { bottom, top, left, right }, *out)
+        }
         Call::Curves { curves, cells, out } => grid(geometry::coons_curves(curves, cells[0], cells[1]), *cells, *out),
         Call::Checked { boundary, cells, out } => grid(geometry::coons_checked(boundary, cells[0], cells[1]), *cells, *out),
-        Call::Lay { record, counts, breaks, curves, out } => match lay_seams(record, counts, breaks, curves) {
-            Err(refusal) => Ok(Effect { floats: vec![LENT_FLOAT; *out], ..refused(refusal) }),
-            Ok(seams) => from_parameters(curves, &seams, *out),
-        },
+        Call::Lay { record, counts, breaks, curves, out } => {
+            let (record, counts, breaks, curves) = (record.clone(), counts.clone(), breaks.clone(), curves.clone());
+            let region = Region { record, counts, breaks, curves };
+            match settled(lay::seams(&region), &[])? {
+                Err(refusal) => Ok(Effect { floats: vec![LENT_FLOAT; *out], ..refused(refusal) }),
+                Ok(seams) => from_parameters(&region.curves, seams, *out),
+            }
+        }
         Call::MeshCurves { curves, cells, points, indices } => {
             mesh(geometry::mesh_tile_curves(curves, cells[0], cells[1]), *cells, *points, *indices)
         }
@@ -97,10 +105,9 @@ fn rounds(regions: &[u16], counts: &[u32], steps: &[Step]) -> Result<Vec<Effect>
     Ok(done)
 }
 
-fn from_parameters(curves: &Sides, seams: &Sides, out: usize) -> Result<Effect, String> {
-    let [bottom, right, top, left] = seams.clone();
-    let cells = [bottom.len(), left.len()].map(|length| length.saturating_sub(1) as u32);
-    grid(geometry::coons_from_parameters(curves, &Seams { bottom, top, left, right }), cells, out)
+fn from_parameters(curves: &Sides, seams: Seams, out: usize) -> Result<Effect, String> {
+    let cells = [seams.bottom.len(), seams.left.len()].map(|length| length.saturating_sub(1) as u32);
+    grid(geometry::coons_from_parameters(curves, &seams), cells, out)
 }
 
 /// Whether 11 comes before a refusal: of a grid it stands between 22 and 23.
@@ -147,38 +154,4 @@ fn mesh(answer: Result<Tile, Stop>, cells: [u32; 2], points: usize, indices: usi
         }
     };
     Ok(Effect { floats, numbers, ..effect })
-}
-
-/// The seams of lay, by 01 alone: 1 (record, counts, curves), 3, 27, each over sides 0 to 3, and 1 for a seam too long.
-fn lay_seams(record: &[u16], counts: &[u32], breaks: &Sides, curves: &Sides) -> Result<Sides, Refusal> {
-    let whole = record.len() == limits::RECORD && solver::regions(record).is_ok();
-    let long = |curve: &Vec<f64>| curve.len() % 2 == 1 || curve.len() > 2 * limits::CURVE_POINTS;
-    if !whole || counts.len() > limits::EDGES || curves.iter().any(long) {
-        return Err(plain(1));
-    }
-    let sides: Vec<&[u16]> = record.chunks_exact(limits::SIDE).map(|side| &side[1..=usize::from(side[0])]).collect();
-    for (side, edges) in (0..).zip(&sides) {
-        if edges.iter().any(|&edge| usize::from(edge) >= counts.len()) {
-            return Err(Refusal { number: 3, first: 0, second: side });
-        }
-    }
-    for (side, edges) in (0..).zip(&sides) {
-        if breaks[side as usize].len() != edges.len() + 1 {
-            return Err(Refusal { number: 27, first: side, second: 0 });
-        }
-    }
-    let along = |side: usize| -> Vec<u32> { sides[side].iter().map(|&edge| counts[usize::from(edge)]).collect() };
-    if (0..4).any(|side| along(side).iter().map(|&count| u64::from(count)).sum::<u64>() >= limits::SEAM as u64) {
-        return Err(plain(1));
-    }
-    Ok(std::array::from_fn(|side| seam(&along(side), &breaks[side])))
-}
-
-fn seam(counts: &[u32], breaks: &[f64]) -> Vec<f64> {
-    let mut values = Vec::new();
-    for (pair, &n) in breaks.windows(2).zip(counts) {
-        values.extend((0..n).map(|j| pair[0] + (pair[1] - pair[0]) * (f64::from(j) / f64::from(n))));
-    }
-    values.extend(breaks.last());
-    values
 }

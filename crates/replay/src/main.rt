@@ -1,18 +1,21 @@
 // Runs the proved functions on the stored cases of data/ and compares: every answer, and every buffer whole, also what a call was not to
 // write. compare/README.md says how the cases were made and how they are laid out.
+mod geometry;
 mod reading;
 mod solver;
 
 use libc::STDOUT_FILENO;
+ghost use mathlib.Core.Path.{_≡_};
+ghost use lib.ListN.{length};
 ghost use Rattle.replay.specs.Counting.{Counts};
 
-// The file's first eight bytes, "replay 1", as two numbers.
+// A file's first eight bytes, "replay 1", as two numbers.
 const MARK_LOW: u32 = 0x6c70_6572;
 
 const MARK_HIGH: u32 = 0x3120_7961;
 
 // Operations are numbered from 1; 0 stands for those that this program does not know.
-const OPERATIONS: usize = 6;
+const OPERATIONS: usize = 13;
 
 // Whether the functions do on this case what it says.
 fn agrees(operation: usize, case: &[u8]) -> bool {
@@ -22,12 +25,19 @@ fn agrees(operation: usize, case: &[u8]) -> bool {
         3 => solver::rounds(case),
         4 => solver::energy(case),
         5 => solver::hold(case),
+        6 => geometry::root(case),
+        7 | 8 | 9 | 11 => geometry::on_curves(operation, case),
+        10 | 12 => geometry::on_loop(operation, case),
         _ => false,
     }
 }
 
 fn known(operation: u32) -> usize {
-    if operation < 6 { operation as usize } else { 0 }
+    if operation < 13 {
+        operation as usize
+    } else {
+        0
+    }
 }
 
 fn count(tally: &mut [u32], operation: usize) {
@@ -51,6 +61,13 @@ fn tell_difference(number: u32) {
     print(b"case ");
     print_number(number);
     print(b" differs\n");
+}
+
+// Zeros, as many as the longest case has bytes and more.
+fn case_buffer() -> [u8; 98304]
+    ensures { λ r. ⌜ 98304 ≡ length r ⌝ }
+{
+    [0; 98304]
 }
 
 // Reads the length of the next case; 0 if the file is cut off or the case is longer than the buffer.
@@ -80,7 +97,7 @@ fn run_case(fd: i32, number: u32, case: &mut [u8], run: &mut [u32], differ: &mut
 
 // Runs the next case of the file; false if there is none.
 fn run_next(fd: i32, number: u32, run: &mut [u32], differ: &mut [u32]) -> bool {
-    let mut buf = io::large_buffer();
+    let mut buf = case_buffer();
     let n = case_length(fd, &buf);
     if n == 0 {
         return false;
@@ -122,33 +139,47 @@ fn tell(operation: &[u8], run: u32, differ: u32) {
     print(b" differ\n");
 }
 
-fn tell_end(found: u32, cases: u32) {
+fn tell_end(name: &[u8], found: u32, cases: u32) {
+    print(name);
+    print(b": ");
     print_number(found);
     print(b" of ");
     print_number(cases);
     print(b" cases run\n");
 }
 
-fn replay(fd: i32) {
+fn replay(name: &[u8], fd: i32, run: &mut [u32], differ: &mut [u32]) {
+    let cases = read_header(fd);
+    let found = run_cases(fd, cases, run, differ);
+    tell_end(name, found, cases);
+}
+
+fn replay_file(name: &[u8], run: &mut [u32], differ: &mut [u32]) {
+    let fd = os::open_read(name);
+    if fd < 0 {
+        os::fail(name);
+        return;
+    }
+    replay(name, fd, run, differ);
+    libc::close(fd);
+}
+
+fn main() {
     let mut run = [0u32; OPERATIONS];
     let mut differ = [0u32; OPERATIONS];
-    let cases = read_header(fd);
-    let found = run_cases(fd, cases, &mut run, &mut differ);
+    replay_file(b"solver.cases", &mut run, &mut differ);
+    replay_file(b"geometry.cases", &mut run, &mut differ);
     tell(b"solve", run[1], differ[1]);
     tell(b"round", run[2], differ[2]);
     tell(b"rounds", run[3], differ[3]);
     tell(b"energy", run[4], differ[4]);
     tell(b"hold", run[5], differ[5]);
+    tell(b"root", run[6], differ[6]);
+    tell(b"coons_from_parameters", run[7], differ[7]);
+    tell(b"coons_curves", run[8], differ[8]);
+    tell(b"lay", run[9], differ[9]);
+    tell(b"coons_checked", run[10], differ[10]);
+    tell(b"mesh_tile_curves", run[11], differ[11]);
+    tell(b"mesh_tile", run[12], differ[12]);
     tell(b"other", run[0], differ[0]);
-    tell_end(found, cases);
-}
-
-fn main() {
-    let fd = os::open_read(b"solver.cases");
-    if fd < 0 {
-        os::fail(b"solver.cases");
-        return;
-    }
-    replay(fd);
-    libc::close(fd);
 }

@@ -4,6 +4,9 @@ ghost use Prim.Native.Nat.{_<_, _≤_};
 ghost use Rattle.replay.specs.Counting.{Counts};
 use verdict::Verdict;
 
+// The first position behind the operation.
+pub(crate) const INPUT: usize = 4;
+
 // No case reaches this far.
 const FAR: usize = 1_000_000_000;
 // No list of a case is this long.
@@ -194,13 +197,112 @@ pub(crate) fn is_verdict(case: &[u8], at: usize, verdict: Verdict) -> bool {
     number(case, second_at) == verdict.second
 }
 
-// Whether the f64 at `at` is x, to the bit: of equal numbers only the two zeros differ in their bits, and their inverses differ.
+// Whether the f64 at `at` is x, to the bit: of equal numbers only the two zeros differ in their bits, and their inverses differ. All NaNs
+// are one.
 pub(crate) fn is_float(case: &[u8], at: usize, x: f64) -> bool {
     let expected = float(case, at);
+    if x != x {
+        return expected != expected;
+    }
     if x != expected {
         return false;
     }
     1.0 / x == 1.0 / expected
+}
+
+// What an output holds at index i before a call: no two values alike, and none that a grid would have by chance.
+fn lent_number(i: usize) -> u32 {
+    let k = i % 4294967296;
+    u32::MAX - k as u32
+}
+
+fn lent_float(i: usize) -> f64 {
+    -(lent_number(i) as f64)
+}
+
+// Fills the start of `out` as it is lent to a call, and answers its length, which is the number at `at`.
+pub(crate) fn lend_floats(case: &[u8], at: usize, out: &mut [f64]) -> usize
+    ensures { λ r. ⌜ Counts r (now (out .exit)) ⌝ }
+{
+    let n = least(list_length(case, at), out.len());
+    let mut i = 0;
+    while i < n {
+        out[i] = lent_float(i);
+        i += 1;
+    }
+    n
+}
+
+pub(crate) fn lend_numbers(case: &[u8], at: usize, out: &mut [u32]) -> usize
+    ensures { λ r. ⌜ Counts r (now (out .exit)) ⌝ }
+{
+    let n = least(list_length(case, at), out.len());
+    let mut i = 0;
+    while i < n {
+        out[i] = lent_number(i);
+        i += 1;
+    }
+    n
+}
+
+// Whether x is what an output with so many values written from `from` on should hold at index i.
+fn is_left_float(case: &[u8], from: usize, written: usize, i: usize, x: f64) -> bool {
+    if i < written {
+        is_float(case, from, x)
+    } else {
+        x == lent_float(i)
+    }
+}
+
+fn is_left_number(case: &[u8], from: usize, written: usize, i: usize, x: u32) -> bool {
+    if i < written {
+        number(case, from) == x
+    } else {
+        x == lent_number(i)
+    }
+}
+
+// Whether an output that was lent with the length at `lent_at` has the list at `at` written to its start, and is else as it was lent.
+pub(crate) fn is_written_floats(case: &[u8], lent_at: usize, at: usize, values: &[f64]) -> bool {
+    let written = list_length(case, at);
+    if list_length(case, lent_at) != values.len() {
+        return false;
+    }
+    if written > values.len() {
+        return false;
+    }
+    let mut from = past_number(at);
+    let mut i = 0;
+    while i < values.len() {
+        let value = values[i];
+        if !is_left_float(case, from, written, i, value) {
+            return false;
+        }
+        from = past_float(from);
+        i += 1;
+    }
+    true
+}
+
+pub(crate) fn is_written_numbers(case: &[u8], lent_at: usize, at: usize, values: &[u32]) -> bool {
+    let written = list_length(case, at);
+    if list_length(case, lent_at) != values.len() {
+        return false;
+    }
+    if written > values.len() {
+        return false;
+    }
+    let mut from = past_number(at);
+    let mut i = 0;
+    while i < values.len() {
+        let value = values[i];
+        if !is_left_number(case, from, written, i, value) {
+            return false;
+        }
+        from = past_number(from);
+        i += 1;
+    }
+    true
 }
 
 // Whether the case ends at `at`.

@@ -1,6 +1,7 @@
 // The operations of the solver: each reads its input from the case, calls the proved function, and compares all that it answers and
 // leaves with what the case has.
 use crate::reading;
+use crate::reading::INPUT;
 use counts::answer::EnergyAnswer;
 use counts::answer::HoldAnswer;
 use counts::answer::RoundAnswer;
@@ -11,9 +12,6 @@ use verdict::Verdict;
 const PLACES: usize = 8840;
 
 const EDGES: usize = 320;
-
-// The first position behind the operation.
-const INPUT: usize = 4;
 
 struct SolveResult {
     verdict: Verdict,

@@ -1,0 +1,26 @@
+//! Random numbers by a fixed seed.
+
+/// Numbers by xorshift, the same on each run.
+pub struct Dice(pub u64);
+
+impl Dice {
+    pub fn below(&mut self, limit: u32) -> u32 {
+        self.0 ^= self.0 << 13;
+        self.0 ^= self.0 >> 7;
+        self.0 ^= self.0 << 17;
+        ((self.0 >> 33) % u64::from(limit)) as u32
+    }
+
+    pub fn pick<T: Copy>(&mut self, from: &[T]) -> T {
+        from[self.below(from.len() as u32) as usize]
+    }
+
+    pub fn counts(&mut self, length: usize, limit: u32) -> Vec<u32> {
+        (0..length).map(|_| self.below(limit)).collect()
+    }
+
+    /// Ideals from 0.25 to 6.2, in steps that make ties likely.
+    pub fn ideals(&mut self, length: usize) -> Vec<f64> {
+        (0..length).map(|_| f64::from(1 + self.below(25)) * 0.25).collect()
+    }
+}

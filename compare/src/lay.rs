@@ -1,0 +1,68 @@
+//! Lay, which the Rust does not have: the seams of one region by 01's own words, and 01's tests before them. The grid on these seams is
+//! the Rust's `coons_from_parameters`. So the refusals here are 01's, also where they name places.
+
+use crate::geometry::{check_curves, Flat, Seams};
+use crate::limits;
+use crate::refusal::{refused, Stop};
+
+/// What lay is called with; breaks and curves by side number.
+#[derive(Clone, Debug)]
+pub struct Region {
+    pub record: Vec<u16>,
+    pub counts: Vec<u32>,
+    pub breaks: [Vec<f64>; 4],
+    pub curves: [Flat; 4],
+}
+
+/// The seams of the region, or the first of 01's tests that it fails: "Lay: 1 (record, counts, curves), 3, 27 (each over sides 0 to 3),
+/// 1 for a seam too long".
+pub fn seams(region: &Region) -> Result<Seams, Stop> {
+    let sides = sides(&region.record)?;
+    if region.counts.len() > limits::EDGES {
+        return Err(Stop::Undecided(1));
+    }
+    check_curves(&region.curves)?;
+    for (side, edges) in (0..).zip(&sides) {
+        if edges.iter().any(|&edge| edge >= region.counts.len()) {
+            return Err(refused(3, 0, side));
+        }
+    }
+    for ((side, edges), breaks) in (0..).zip(&sides).zip(&region.breaks) {
+        if breaks.len() != edges.len() + 1 {
+            return Err(refused(27, side, 0));
+        }
+    }
+    let along = sides.map(|edges| -> Vec<u32> { edges.iter().map(|&edge| region.counts[edge]).collect() });
+    let too_long = |counts: &Vec<u32>| counts.iter().map(|&count| u64::from(count)).sum::<u64>() >= limits::SEAM as u64;
+    if along.iter().any(too_long) {
+        return Err(Stop::Undecided(1));
+    }
+    let seam = |side: usize| seam(&region.breaks[side], &along[side]);
+    Ok(Seams { bottom: seam(0), right: seam(1), top: seam(2), left: seam(3) })
+}
+
+/// The edges of the four sides of just one record.
+fn sides(record: &[u16]) -> Result<[Vec<usize>; 4], Stop> {
+    if record.len() != limits::RECORD {
+        return Err(Stop::Undecided(1));
+    }
+    let mut sides: [Vec<usize>; 4] = Default::default();
+    for (side, numbers) in sides.iter_mut().zip(record.chunks_exact(limits::SIDE)) {
+        let edges = usize::from(numbers[0]);
+        if edges > limits::SIDE_EDGES {
+            return Err(Stop::Undecided(1));
+        }
+        side.extend(numbers[1..=edges].iter().map(|&edge| usize::from(edge)));
+    }
+    Ok(sides)
+}
+
+/// "Edge i with count n gives b(i) + (b(i+1) - b(i))·(j/n) for j from 0 to n-1; last stands b(k)."
+fn seam(breaks: &[f64], counts: &[u32]) -> Vec<f64> {
+    let mut values = Vec::new();
+    for (ends, &count) in breaks.windows(2).zip(counts) {
+        values.extend((0..count).map(|j| ends[0] + (ends[1] - ends[0]) * (f64::from(j) / f64::from(count))));
+    }
+    values.extend(breaks.last());
+    values
+}
