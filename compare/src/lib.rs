@@ -1,4 +1,5 @@
-//! The oracle: the published Rust, compiled unchanged (build.rs), asked for its answers to cases.
+//! The oracle: the published Rust, compiled unchanged (build.rs), asked for its answers to cases. With the feature `library`, `together`
+//! holds this library against it.
 //!
 //! - `reach`: the private parts of the published solver, and its round with `max_expansions` set.
 //! - `refusal`: the Rust's error messages as 01's numbers and places.
@@ -26,6 +27,8 @@ pub mod pack;
 pub mod refusal;
 pub mod solver;
 pub mod stored;
+#[cfg(feature = "library")]
+pub mod together;
 pub mod vector;
 pub mod words;
 

@@ -165,3 +165,12 @@ pub fn flat_mesh(mesh: &Mesh) -> (Vec<f64>, Vec<usize>) {
     let cells = mesh.cells.iter().flat_map(|cell| cell.nodes.iter().copied()).collect();
     (points, cells)
 }
+
+/// A round as `solve_counts` makes it, with the graph built for it: the cost of the move made.
+pub fn published_round(regions: &[Region], counts: &mut [usize], ideals: &[f64]) -> Result<Option<f64>, String> {
+    let graph = build_graph(regions, ideals.len())?;
+    match find_augmentation(&graph, counts, ideals) {
+        None => Ok(None),
+        Some((cost, changes)) => apply_changes(counts, &changes).map(|()| Some(cost)),
+    }
+}

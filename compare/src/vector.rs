@@ -127,12 +127,12 @@ fn answer<T>(out: &Json, accepted: impl Fn(&Json) -> Result<T, String>) -> Resul
     }
 }
 
-fn whole(value: &Json) -> Result<u32, String> {
+pub fn whole(value: &Json) -> Result<u32, String> {
     let number = value.number()?;
     u32::try_from(number).map_err(|_| format!("{number} is not from 0 to {}", u32::MAX))
 }
 
-fn flag(value: &Json) -> Result<bool, String> {
+pub fn flag(value: &Json) -> Result<bool, String> {
     match value.number()? {
         0 => Ok(false),
         1 => Ok(true),
@@ -140,7 +140,7 @@ fn flag(value: &Json) -> Result<bool, String> {
     }
 }
 
-fn float(value: &Json) -> Result<f64, String> {
+pub fn float(value: &Json) -> Result<f64, String> {
     let digits = value.text()?;
     words::bits(digits).ok_or_else(|| format!("`{digits}` is not the 16 hexadecimal digits of an f64"))
 }

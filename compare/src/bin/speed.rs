@@ -1,0 +1,35 @@
+//! speed [all] [FARMS]: the speed list through the Rust and through this library, as tables of ratios. `all`: also the whole solves that
+//! take the Rust minutes.
+
+use compare::together::{farms, speed};
+use std::env;
+use std::process::ExitCode;
+
+const FARMS: &str = concat!(env!("CARGO_MANIFEST_DIR"), "/../../shared/oracle/farms.txt");
+
+fn main() -> ExitCode {
+    match run() {
+        Ok(()) => ExitCode::SUCCESS,
+        Err(problem) => {
+            eprintln!("speed: {problem}");
+            ExitCode::FAILURE
+        }
+    }
+}
+
+fn run() -> Result<(), String> {
+    let words: Vec<String> = env::args().skip(1).collect();
+    let words: Vec<&str> = words.iter().map(String::as_str).collect();
+    let (all, path) = match words[..] {
+        [] => (false, FARMS),
+        ["all"] => (true, FARMS),
+        ["all", path] => (true, path),
+        [path] => (false, path),
+        _ => return Err("usage: speed [all] [FARMS]".to_string()),
+    };
+    let farms = farms::read(path)?;
+    speed::roots()?;
+    speed::grids()?;
+    speed::searches(&farms)?;
+    speed::solves(&farms, all)
+}

@@ -1,0 +1,266 @@
+//! 01's limits: each with one below and one above.
+
+use crate::together::call::{Call, Step, LENT_NUMBER};
+use crate::together::farm::{grid, record, rows};
+use crate::together::library::Sides;
+use crate::together::speed::{bent, even, seams};
+
+type Sink<'a> = &'a mut dyn FnMut(Call) -> Result<(), String>;
+
+pub fn all(sink: Sink) -> Result<(), String> {
+    regions_and_edges(sink)?;
+    sides(sink)?;
+    counts_and_moves(sink)?;
+    search(sink)?;
+    curve_points(sink)?;
+    grid_sizes(sink)?;
+    loops(sink)?;
+    lay(sink)?;
+    far_corners(sink)?;
+    largest(sink)
+}
+
+fn lent(length: usize) -> Vec<u32> {
+    vec![LENT_NUMBER; length]
+}
+
+/// All functions of the solver on a farm.
+fn solver_calls(sink: Sink, regions: &[u16], edges: usize) -> Result<(), String> {
+    let ideals: Vec<f64> = (0..edges).map(|edge| 0.6 + (edge % 5) as f64 * 0.5).collect();
+    let (regions, counts) = (regions.to_vec(), vec![2; edges]);
+    sink(Call::Solve { regions: regions.clone(), ideals: ideals.clone(), counts: lent(edges) })?;
+    sink(Call::Round { regions: regions.clone(), counts: counts.clone(), step: Step { ideals: ideals.clone(), limit: 50 } })?;
+    sink(Call::Hold { regions, counts: counts.clone() })?;
+    sink(Call::Energy { counts, ideals })
+}
+
+fn regions_and_edges(sink: Sink) -> Result<(), String> {
+    for number in [126, 127, 128, 129, 130] {
+        // A column of regions with one edge between two of them: few edges, many regions.
+        let regions: Vec<u16> = (0..number).flat_map(|k| record(&[vec![k], vec![], vec![k + 1], vec![]])).collect();
+        solver_calls(sink, &regions, usize::from(number) + 1)?;
+    }
+    for edges in [254, 255, 256, 257, 258, 1000] {
+        solver_calls(sink, &grid(3, 2).regions, edges)?;
+        sink(Call::Energy { counts: vec![1; edges], ideals: vec![1.0; 3] })?;
+        sink(Call::Round { regions: vec![], counts: vec![1; edges], step: Step { ideals: vec![1.0; 3], limit: 9 } })?;
+        sink(Call::Round { regions: vec![], counts: vec![1; 3], step: Step { ideals: vec![1.0; edges], limit: 9 } })?;
+        sink(Call::Solve { regions: vec![], ideals: vec![1.0; 3], counts: lent(edges) })?;
+    }
+    Ok(())
+}
+
+/// 15, 16 and 17 edges on a side; a side of 17 has its last edge where the next side begins.
+fn sides(sink: Sink) -> Result<(), String> {
+    for edges in [14, 15, 16, 17, 18] {
+        let bottom: Vec<u32> = (0..=edges).collect();
+        let mut farm = rows(&[vec![0, edges]]);
+        let long = rows(&[bottom, vec![0, edges]]);
+        solver_calls(sink, &long.regions, long.edges)?;
+        for side in 0..4 {
+            farm.regions[17 * side] = edges as u16;
+            solver_calls(sink, &farm.regions, farm.edges)?;
+            farm.regions[17 * side] = 1;
+        }
+    }
+    Ok(())
+}
+
+fn counts_and_moves(sink: Sink) -> Result<(), String> {
+    for count in [999_998, 999_999, 1_000_000, 1_000_001, u32::MAX] {
+        for ideal in [1.0, 999_999.5, 2e6, 1e300] {
+            let steps = vec![Step { ideals: vec![ideal; 2], limit: 3 }; 4];
+            sink(Call::Rounds { regions: vec![], counts: vec![1, count], steps })?;
+            sink(Call::Energy { counts: vec![count, 1], ideals: vec![ideal; 2] })?;
+            sink(Call::Hold { regions: record(&[vec![0], vec![], vec![1], vec![]]), counts: vec![count; 2] })?;
+        }
+    }
+    for ideal in [199_999.0, 200_000.0, 200_001.0] {
+        sink(Call::Solve { regions: vec![], ideals: vec![ideal], counts: lent(3) })?;
+    }
+    Ok(())
+}
+
+/// Limits around the entries that a search makes, and around 100,000.
+fn search(sink: Sink) -> Result<(), String> {
+    let chain = grid(12, 1);
+    for limit in (0..30).chain([99_998, 99_999, 100_000, 100_001, u32::MAX]) {
+        let step = Step { ideals: vec![1.5; chain.edges], limit };
+        for count in [0, 1, 3] {
+            sink(Call::Round { regions: chain.regions.clone(), counts: vec![count; chain.edges], step: step.clone() })?;
+        }
+        sink(Call::Round { regions: vec![], counts: vec![], step: Step { ideals: vec![], limit } })?;
+    }
+    // Two regions with 16 edges on each side between them: searches of many entries, limits on both sides of their number.
+    let wide = rows(&[vec![0, 16], (0..=16).collect(), vec![0, 16]]);
+    for limit in [200, 271, 272, 273, 274, 289, 290, 1000, 5000] {
+        let step = Step { ideals: (0..wide.edges).map(|edge| 1.0 + (edge % 7) as f64 * 0.3).collect(), limit };
+        sink(Call::Round { regions: wide.regions.clone(), counts: vec![1; wide.edges], step })?;
+    }
+    Ok(())
+}
+
+const OF_SIDE: [usize; 4] = [1022, 1023, 1024, 1025];
+
+/// A tile whose curve `side` has this many points.
+fn long_curve(side: usize, points: usize) -> Sides {
+    let mut curves = bent(5);
+    curves[side].clone_from(&bent(points)[side]);
+    curves
+}
+
+fn on_curves(sink: Sink, curves: Sides, cells: [u32; 2]) -> Result<(), String> {
+    let [n_u, n_v] = cells.map(|n| n.min(1025) as usize);
+    sink(Call::Curves { curves: curves.clone(), cells, out: 8 * n_u * n_v + 1 })?;
+    sink(Call::MeshCurves { curves, cells, points: 3 * (n_u + 1) * (n_v + 1) + 1, indices: 4 * n_u * n_v + 1 })
+}
+
+fn curve_points(sink: Sink) -> Result<(), String> {
+    for side in 0..4 {
+        for points in OF_SIDE {
+            let curves = long_curve(side, points);
+            sink(Call::FromParameters { curves: curves.clone(), seams: seams(4, true), out: 8 * 16 })?;
+            on_curves(sink, curves, [3, 2])?;
+        }
+        let mut odd = bent(5);
+        odd[side].pop();
+        on_curves(sink, odd, [3, 2])?;
+    }
+    Ok(())
+}
+
+/// Seams of 1,024 to 1,026 values, n_u and n_v at 1,024, output one too short, just right and one longer.
+fn grid_sizes(sink: Sink) -> Result<(), String> {
+    let curves = bent(9);
+    for long in [1023, 1024, 1025] {
+        for slanted in [false, true] {
+            let [across, up] = [seams(long, slanted), seams(2, slanted)];
+            let wide = [across[0].clone(), up[1].clone(), across[2].clone(), up[3].clone()];
+            let high = [up[0].clone(), across[1].clone(), up[2].clone(), across[3].clone()];
+            for (seams, room) in [(wide, 0), (high, 1)] {
+                sink(Call::FromParameters { curves: curves.clone(), seams, out: 16 * long + room })?;
+            }
+        }
+        for cells in [[long as u32, 1], [1, long as u32], [long as u32, 0], [0, long as u32], [long as u32, u32::MAX]] {
+            on_curves(sink, curves.clone(), cells)?;
+        }
+    }
+    for cells in [[1, 1], [2, 3], [5, 1]] {
+        let [n_u, n_v] = cells.map(|n| n as usize);
+        let (quads, points) = (n_u * n_v, 3 * (n_u + 1) * (n_v + 1));
+        for less in 0..3 {
+            let seams = [even(n_u), even(n_v), even(n_u), even(n_v)];
+            sink(Call::FromParameters { curves: curves.clone(), seams, out: 8 * quads + 1 - less })?;
+            sink(Call::Curves { curves: curves.clone(), cells, out: 8 * quads + 1 - less })?;
+            for other in 0..3 {
+                let (points, indices) = (points + 1 - less, 4 * quads + 1 - other);
+                sink(Call::MeshCurves { curves: curves.clone(), cells, points, indices })?;
+            }
+        }
+    }
+    Ok(())
+}
+
+/// A square as four pieces of this many points, which do not share their ends.
+fn pieces(points: usize) -> Vec<f64> {
+    let corners = [[0.0, 0.0], [2.0, 0.0], [2.0, 2.0], [0.0, 2.0]];
+    let mut list = Vec::new();
+    for k in 0..4 {
+        let (from, to): ([f64; 2], [f64; 2]) = (corners[k], corners[(k + 1) % 4]);
+        for t in even(points - 1) {
+            list.extend([from[0] + (to[0] - from[0]) * t, from[1] + (to[1] - from[1]) * t]);
+        }
+    }
+    list
+}
+
+fn loops(sink: Sink) -> Result<(), String> {
+    for points in [1022, 1023, 1024, 1025] {
+        let open = pieces(points);
+        let mut closed = open.clone();
+        closed.extend([0.0, 0.0]);
+        let mut odd = open.clone();
+        odd.push(0.0);
+        // The last point within the allowance of a corner, but not equal to the first: it is not dropped.
+        let mut apart = open.clone();
+        apart[8 * points - 1] = 1e-10;
+        for boundary in [open, closed, odd, apart] {
+            sink(Call::Checked { boundary: boundary.clone(), cells: [2, 3], out: 48 })?;
+            sink(Call::Mesh { boundary, cells: [2, 3], points: 36, indices: 24 })?;
+        }
+    }
+    for points in 0..20 {
+        let list: Vec<f64> = pieces(5)[..2 * points].to_vec();
+        let closed = [list.clone(), vec![0.0, 0.0]].concat();
+        for boundary in [list, closed] {
+            for cells in [[1, 1], [0, 1], [1025, 0]] {
+                sink(Call::Checked { boundary: boundary.clone(), cells, out: 8 })?;
+                sink(Call::Mesh { boundary: boundary.clone(), cells, points: 12, indices: 4 })?;
+            }
+        }
+    }
+    Ok(())
+}
+
+/// Sums of counts at 1,024, sides of 16 edges, 255 to 257 counts.
+fn lay(sink: Sink) -> Result<(), String> {
+    for sum in [1022, 1023, 1024, 1025] {
+        for long in 0..4 {
+            let counts: Vec<u32> = (0..4).map(|side| if side == long || side == (long + 2) % 4 { sum } else { 1 }).collect();
+            let breaks: Sides = std::array::from_fn(|_| vec![0.0, 1.0]);
+            let record = record(&[vec![0], vec![1], vec![2], vec![3]]);
+            sink(Call::Lay { record, counts, breaks, curves: bent(4), out: 8 * sum as usize })?;
+        }
+    }
+    for length in [255, 256, 257] {
+        let record = record(&[vec![0], vec![1], vec![2], vec![3]]);
+        let breaks: Sides = std::array::from_fn(|_| vec![0.0, 1.0]);
+        sink(Call::Lay { record, counts: vec![2; length], breaks, curves: bent(4), out: 32 })?;
+    }
+    for edges in [15, 16, 17] {
+        let side: Vec<u16> = (0..edges).collect();
+        let mut numbers = record(&[vec![0], vec![1], vec![2], vec![3]]);
+        if edges <= 16 {
+            numbers = record(&[side.clone(), side.clone(), side.clone(), side]);
+        } else {
+            numbers[34] = edges;
+        }
+        let breaks: Sides = std::array::from_fn(|_| even(usize::from(edges)));
+        let needed = 8 * usize::from(edges) * usize::from(edges);
+        sink(Call::Lay { record: numbers, counts: vec![1; 16], breaks, curves: bent(4), out: needed })?;
+    }
+    // 16 times the largest count: the sum is over 32 bits.
+    let side: Vec<u16> = vec![0; 16];
+    let record = record(&[side.clone(), side.clone(), side.clone(), side]);
+    for count in [0, 63, 64, 65, 1 << 28, u32::MAX] {
+        let breaks: Sides = std::array::from_fn(|_| even(16));
+        sink(Call::Lay { record: record.clone(), counts: vec![count], breaks, curves: bent(4), out: 0 })?;
+    }
+    Ok(())
+}
+
+/// Squares so large or small that lengths and areas leave the range of f64; a corner area may be a NaN, which 17 lets by.
+fn far_corners(sink: Sink) -> Result<(), String> {
+    for scale in [1e-170, 1e-162, 1e-160, 1e-154, 1e150, 1e153, 1.2e154, 1.35e154, 1.5e154, 1.9e154, 1e155] {
+        for shift in [0.0, -0.5, -1.0] {
+            for points in [2, 3, 9] {
+                let curves: Sides = std::array::from_fn(|side| {
+                    let corner = |k: usize| [[0.0, 0.0], [1.0, 0.0], [1.0, 1.0], [0.0, 1.0]][k % 4].map(|x: f64| (x + shift) * scale);
+                    let (from, to) = (corner(side), corner(side + 1));
+                    even(points - 1).into_iter().flat_map(|t| [0, 1].map(|axis| from[axis] + (to[axis] - from[axis]) * t)).collect()
+                });
+                for cells in [[1, 1], [8, 8]] {
+                    on_curves(sink, curves.clone(), cells)?;
+                }
+            }
+        }
+    }
+    Ok(())
+}
+
+/// Grids of 1,024 by 1,024 on curves of 1,024 points.
+fn largest(sink: Sink) -> Result<(), String> {
+    let curves = bent(1024);
+    sink(Call::FromParameters { curves: curves.clone(), seams: seams(1024, true), out: 8 << 20 })?;
+    on_curves(sink, curves, [1024, 1024])
+}

@@ -1,0 +1,99 @@
+//! Comparison at scale: calls are made, put to the oracle and to this library, and every result and buffer is compared.
+//!
+//! - `exhaustive`: all short inputs of some kinds; `limits`: 01's limits, with one below and one above.
+//! - `solver`, `geometry`: random calls, most of them small, and damaged ones.
+//! - `shrink`: the smallest form of a difference.
+
+mod exhaustive;
+mod geometry;
+mod limits;
+mod shrink;
+mod solver;
+
+use super::call::{difference, Call};
+use super::random::Random;
+use super::{clock, expected, line};
+use std::collections::BTreeMap;
+
+/// Differences of a function that are shown, in their smallest form.
+const SHOWN: usize = 3;
+
+/// What was compared, by the kind of input and the function.
+#[derive(Default)]
+struct Tally {
+    cases: u64,
+    accepted: u64,
+    /// How often each refusal was answered.
+    refused: BTreeMap<u32, u64>,
+}
+
+pub struct Run {
+    tallies: BTreeMap<(&'static str, &'static str), Tally>,
+    /// The differences shown of each function.
+    shown: BTreeMap<&'static str, Vec<String>>,
+    pub cases: u64,
+    pub different: u64,
+}
+
+/// All short inputs, the limits, and `count` random calls.
+pub fn run(seed: u64, count: u64) -> Result<Run, String> {
+    let mut run = Run { tallies: BTreeMap::new(), shown: BTreeMap::new(), cases: 0, different: 0 };
+    let start = clock::now();
+    exhaustive::all(&mut |call| run.check("short", call))?;
+    limits::all(&mut |call| run.check("limits", call))?;
+    for index in 0..count {
+        // Each case has its own numbers, so that it is the same whatever came before it.
+        let mut random = Random::new(seed.wrapping_mul(0xD134_2543_DE82_EF95).wrapping_add(index));
+        let call = if random.chance(2) { solver::call(&mut random) } else { geometry::call(&mut random) };
+        run.check("random", call)?;
+    }
+    run.report(clock::now() - start);
+    Ok(run)
+}
+
+impl Run {
+    fn check(&mut self, kind: &'static str, call: Call) -> Result<(), String> {
+        let expected = expected::effects(&call)?;
+        self.cases += 1;
+        let tally = self.tallies.entry((kind, call.function())).or_default();
+        tally.cases += 1;
+        for effect in &expected {
+            match effect.refusal {
+                0 => tally.accepted += 1,
+                number => *tally.refused.entry(number).or_default() += 1,
+            }
+        }
+        if difference(&expected, &call.made()).is_some() {
+            self.different += 1;
+            self.show(call)?;
+        }
+        Ok(())
+    }
+
+    /// A difference in its smallest form, as the line that `replay` reads: with the answer that is expected.
+    fn show(&mut self, call: Call) -> Result<(), String> {
+        let shown = self.shown.entry(call.function()).or_default();
+        if shown.len() >= SHOWN {
+            return Ok(());
+        }
+        let call = shrink::smallest(call, shrink::differs);
+        let expected = expected::effects(&call)?;
+        let line = line::write("difference", &call, &expected);
+        if !shown.contains(&line) {
+            let what = difference(&expected, &call.made()).unwrap_or_default();
+            println!("different, {}: {what}\n{line}", call.function());
+            shown.push(line);
+        }
+        Ok(())
+    }
+
+    fn report(&self, seconds: f64) {
+        println!("\n| input | function | cases | accepted | refused, by number |");
+        println!("|---|---|---|---|---|");
+        for ((kind, function), tally) in &self.tallies {
+            let refused: Vec<String> = tally.refused.iter().map(|(number, times)| format!("{number}: {times}")).collect();
+            println!("| {kind} | {function} | {} | {} | {} |", tally.cases, tally.accepted, refused.join(", "));
+        }
+        println!("\n{} cases, {} different, {seconds:.0} s of CPU time", self.cases, self.different);
+    }
+}

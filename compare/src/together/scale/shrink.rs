@@ -1,0 +1,392 @@
+//! The smallest form of a call that differs: as long as a simpler call differs too, that one is taken.
+
+use crate::limits::{RECORD, SIDE};
+use crate::together::call::{difference, Call, Step};
+use crate::together::expected;
+
+/// Calls that are tried at most.
+const TRIES: usize = 20_000;
+
+/// Whether the oracle and this library differ on a call.
+pub fn differs(call: &Call) -> bool {
+    expected::effects(call).is_ok_and(|effects| difference(&effects, &call.made()).is_some())
+}
+
+/// A call with this property of which no simpler one has it.
+pub fn smallest(call: Call, has: impl Fn(&Call) -> bool) -> Call {
+    let mut call = call;
+    let mut tries = 0;
+    while tries < TRIES {
+        let simpler = simpler(&call);
+        let Some(next) = simpler.into_iter().inspect(|_| tries += 1).find(&has) else {
+            break;
+        };
+        call = next;
+    }
+    call
+}
+
+/// Calls that are simpler in one place, the boldest first.
+fn simpler(call: &Call) -> Vec<Call> {
+    let mut found = Vec::new();
+    rounds(call, &mut found);
+    regions(call, &mut found);
+    edges(call, &mut found);
+    points(call, &mut found);
+    seams(call, &mut found);
+    breaks(call, &mut found);
+    sizes(call, &mut found);
+    values(call, &mut found);
+    found
+}
+
+/// Parts of a list of this length that may be left out: halves, quarters, .. single ones.
+fn parts(length: usize) -> Vec<std::ops::Range<usize>> {
+    let mut found = Vec::new();
+    let mut size = length;
+    while size > 0 {
+        found.extend((0..length).step_by(size).map(|start| start..(start + size).min(length)));
+        size /= 2;
+    }
+    found
+}
+
+fn rounds(call: &Call, found: &mut Vec<Call>) {
+    let Call::Rounds { regions, counts, steps } = call else {
+        return;
+    };
+    for part in parts(steps.len()) {
+        let mut steps = steps.clone();
+        steps.drain(part);
+        found.push(Call::Rounds { regions: regions.clone(), counts: counts.clone(), steps });
+    }
+    for step in steps {
+        found.push(Call::Round { regions: regions.clone(), counts: counts.clone(), step: step.clone() });
+    }
+}
+
+fn records(call: &mut Call) -> Option<&mut Vec<u16>> {
+    match call {
+        Call::Solve { regions, .. } | Call::Round { regions, .. } | Call::Rounds { regions, .. } | Call::Hold { regions, .. } => {
+            Some(regions)
+        }
+        Call::Lay { record, .. } => Some(record),
+        _ => None,
+    }
+}
+
+/// The call with its records changed.
+fn with_records(call: &Call, change: impl FnOnce(&mut Vec<u16>)) -> Call {
+    let mut changed = call.clone();
+    if let Some(records) = records(&mut changed) {
+        change(records);
+    }
+    changed
+}
+
+/// Fewer regions, fewer edges on a side, zeros in the places that are not read.
+fn regions(call: &Call, found: &mut Vec<Call>) {
+    let Some(list) = records(&mut call.clone()).cloned() else {
+        return;
+    };
+    for part in parts(list.len() / RECORD) {
+        found.push(with_records(call, |list| drop(list.drain(part.start * RECORD..part.end * RECORD))));
+    }
+    for start in (0..list.len() / SIDE).map(|side| side * SIDE) {
+        let edges = usize::from(list[start]);
+        for place in (1..=edges).filter(|_| edges < SIDE) {
+            found.push(with_records(call, |list| {
+                list[start..start + SIDE][place..].rotate_left(1);
+                list[start] -= 1;
+            }));
+        }
+        if edges < SIDE && list[start + 1 + edges..start + SIDE].iter().any(|&place| place != 0) {
+            found.push(with_records(call, |list| list[start + 1 + edges..start + SIDE].fill(0)));
+        }
+    }
+    for index in (0..list.len()).filter(|&index| list[index] > 0) {
+        for lower in [0, list[index] / 2, list[index] - 1] {
+            found.push(with_records(call, |list| list[index] = lower));
+        }
+    }
+}
+
+/// Lists with a value for each edge.
+fn edge_lists(call: &mut Call) -> (Vec<&mut Vec<u32>>, Vec<&mut Vec<f64>>) {
+    match call {
+        Call::Solve { counts, ideals, .. } | Call::Energy { counts, ideals } => (vec![counts], vec![ideals]),
+        Call::Round { counts, step, .. } => (vec![counts], vec![&mut step.ideals]),
+        Call::Rounds { counts, steps, .. } => (vec![counts], steps.iter_mut().map(|step| &mut step.ideals).collect()),
+        Call::Hold { counts, .. } | Call::Lay { counts, .. } => (vec![counts], vec![]),
+        _ => (vec![], vec![]),
+    }
+}
+
+/// One edge less in all lists; the edges above it move down, and no side lists it any more.
+fn edges(call: &Call, found: &mut Vec<Call>) {
+    let mut copy = call.clone();
+    let (counts, ideals) = edge_lists(&mut copy);
+    let most = counts.iter().map(|list| list.len()).chain(ideals.iter().map(|list| list.len())).max().unwrap_or(0);
+    for edge in (0..most).rev() {
+        let mut fewer = with_records(call, |list| {
+            for side in list.chunks_exact_mut(SIDE) {
+                let edges = usize::from(side[0]).min(SIDE - 1);
+                let kept: Vec<u16> = side[1..=edges].iter().copied().filter(|&other| usize::from(other) != edge).collect();
+                side[0] = side[0] - edges as u16 + kept.len() as u16;
+                for (place, &other) in side[1..].iter_mut().zip(&kept) {
+                    *place = other - u16::from(usize::from(other) > edge);
+                }
+            }
+        });
+        let (counts, ideals) = edge_lists(&mut fewer);
+        for list in counts.into_iter().filter(|list| edge < list.len()) {
+            list.remove(edge);
+        }
+        for list in ideals.into_iter().filter(|list| edge < list.len()) {
+            list.remove(edge);
+        }
+        found.push(fewer);
+    }
+    shorter_alone(call, found);
+}
+
+/// Lists of different lengths: each of them shorter alone.
+fn shorter_alone(call: &Call, found: &mut Vec<Call>) {
+    let mut copy = call.clone();
+    let (of_counts, of_ideals) = edge_lists(&mut copy);
+    for index in 0..of_counts.len() + of_ideals.len() {
+        let mut fewer = call.clone();
+        let (mut counts, mut ideals) = edge_lists(&mut fewer);
+        let popped = match index.checked_sub(counts.len()) {
+            None => counts[index].pop().is_some(),
+            Some(index) => ideals[index].pop().is_some(),
+        };
+        if popped {
+            found.push(fewer);
+        }
+    }
+}
+
+fn curves(call: &mut Call) -> Vec<&mut Vec<f64>> {
+    match call {
+        Call::FromParameters { curves, .. } | Call::Curves { curves, .. } | Call::Lay { curves, .. } | Call::MeshCurves { curves, .. } => {
+            curves.iter_mut().collect()
+        }
+        Call::Checked { boundary, .. } | Call::Mesh { boundary, .. } => vec![boundary],
+        _ => vec![],
+    }
+}
+
+fn points(call: &Call, found: &mut Vec<Call>) {
+    let lengths: Vec<usize> = curves(&mut call.clone()).iter().map(|curve| curve.len()).collect();
+    for (index, length) in lengths.into_iter().enumerate() {
+        for part in parts(length / 2) {
+            let mut fewer = call.clone();
+            drop(curves(&mut fewer)[index].drain(2 * part.start..2 * part.end));
+            found.push(fewer);
+        }
+        let mut fewer = call.clone();
+        if curves(&mut fewer)[index].pop().is_some() {
+            found.push(fewer);
+        }
+    }
+}
+
+/// Seams lose values alone, or with the same values of the opposite seam.
+fn seams(call: &Call, found: &mut Vec<Call>) {
+    let Call::FromParameters { seams, .. } = call else {
+        return;
+    };
+    for chosen in [vec![0, 2], vec![1, 3], vec![0], vec![1], vec![2], vec![3]] {
+        let length = chosen.iter().map(|&side| seams[side].len()).min().unwrap_or(0);
+        for part in parts(length) {
+            let mut fewer = call.clone();
+            if let Call::FromParameters { seams, .. } = &mut fewer {
+                chosen.iter().for_each(|&side| drop(seams[side].drain(part.clone())));
+            }
+            found.push(fewer);
+        }
+    }
+}
+
+/// A side of lay loses an edge and a break.
+fn breaks(call: &Call, found: &mut Vec<Call>) {
+    let Call::Lay { breaks, .. } = call else {
+        return;
+    };
+    for side in 0..4 {
+        for place in 0..breaks[side].len() {
+            let mut fewer = call.clone();
+            if let Call::Lay { record, breaks, .. } = &mut fewer {
+                breaks[side].remove(place);
+                if let Some(edges @ [1..=16, ..]) = record.get_mut(side * SIDE..(side + 1) * SIDE) {
+                    edges[0] -= 1;
+                    edges[(place + 1).min(SIDE - 1)..].rotate_left(1);
+                }
+            }
+            found.push(fewer);
+        }
+    }
+}
+
+/// Cells, limits, lengths of output.
+fn sizes(call: &Call, found: &mut Vec<Call>) {
+    let lower = |n: u32| [0, 1, 2, n / 2, n.saturating_sub(1)].into_iter().filter(move |&m| m < n);
+    for index in 0..2 {
+        let mut copy = call.clone();
+        let Some(n) = cells(&mut copy).map(|cells| cells[index]) else {
+            break;
+        };
+        for m in lower(n) {
+            let mut fewer = call.clone();
+            if let Some(cells) = cells(&mut fewer) {
+                cells[index] = m;
+            }
+            found.push(fewer);
+        }
+    }
+    for index in 0..lengths(&mut call.clone()).len() {
+        let n = *lengths(&mut call.clone())[index] as u32;
+        for m in lower(n) {
+            let mut fewer = call.clone();
+            *lengths(&mut fewer)[index] = m as usize;
+            found.push(fewer);
+        }
+    }
+    for index in 0..steps(&mut call.clone()).len() {
+        let n = steps(&mut call.clone())[index].limit;
+        for m in lower(n) {
+            let mut fewer = call.clone();
+            steps(&mut fewer)[index].limit = m;
+            found.push(fewer);
+        }
+    }
+}
+
+fn cells(call: &mut Call) -> Option<&mut [u32; 2]> {
+    match call {
+        Call::Curves { cells, .. } | Call::Checked { cells, .. } | Call::MeshCurves { cells, .. } | Call::Mesh { cells, .. } => Some(cells),
+        _ => None,
+    }
+}
+
+fn lengths(call: &mut Call) -> Vec<&mut usize> {
+    match call {
+        Call::FromParameters { out, .. } | Call::Curves { out, .. } | Call::Lay { out, .. } | Call::Checked { out, .. } => vec![out],
+        Call::MeshCurves { points, indices, .. } | Call::Mesh { points, indices, .. } => vec![points, indices],
+        _ => vec![],
+    }
+}
+
+fn steps(call: &mut Call) -> Vec<&mut Step> {
+    match call {
+        Call::Round { step, .. } => vec![step],
+        Call::Rounds { steps, .. } => steps.iter_mut().collect(),
+        _ => vec![],
+    }
+}
+
+/// All f64 of a call.
+fn floats(call: &mut Call) -> Vec<&mut f64> {
+    match call {
+        Call::Root { x } => vec![x],
+        Call::FromParameters { curves, seams, .. } => curves.iter_mut().chain(seams).flatten().collect(),
+        Call::Lay { breaks, curves, .. } => breaks.iter_mut().chain(curves).flatten().collect(),
+        Call::Curves { .. } | Call::MeshCurves { .. } | Call::Checked { .. } | Call::Mesh { .. } => {
+            curves(call).into_iter().flatten().collect()
+        }
+        _ => edge_lists(call).1.into_iter().flatten().collect(),
+    }
+}
+
+/// How plain a number is: fewer digits are plainer.
+fn rank(x: f64) -> u64 {
+    match x {
+        0.0 if x.is_sign_positive() => 0,
+        1.0 => 1,
+        x if x == x.trunc() && x.abs() < 1000.0 => 2 + x.abs() as u64,
+        x if x.is_nan() || x.is_infinite() => 2000,
+        x => 3000 + 53 - u64::from(x.to_bits().trailing_zeros().min(52)),
+    }
+}
+
+fn plainer(x: f64) -> impl Iterator<Item = f64> {
+    let shorter = [4, 12, 24].map(|bits| f64::from_bits(x.to_bits() >> (52 - bits) << (52 - bits)));
+    let plain = [0.0, 1.0, 2.0, -1.0, 0.5, x.trunc(), x.ceil()];
+    plain.into_iter().chain(shorter).filter(move |&y| rank(y) < rank(x))
+}
+
+/// Plainer values: one alone, or all that are equal, as where curves meet.
+fn values(call: &Call, found: &mut Vec<Call>) {
+    let all = floats(&mut call.clone()).into_iter().map(|x| *x).collect::<Vec<f64>>();
+    for (index, &x) in all.iter().enumerate() {
+        for y in plainer(x) {
+            let mut together = call.clone();
+            floats(&mut together).into_iter().filter(|other| other.to_bits() == x.to_bits()).for_each(|other| *other = y);
+            found.push(together);
+            let mut next = call.clone();
+            *floats(&mut next)[index] = y;
+            found.push(next);
+        }
+    }
+    let counts: Vec<u32> = edge_lists(&mut call.clone()).0.into_iter().flatten().map(|count| *count).collect();
+    for (index, &n) in counts.iter().enumerate() {
+        for m in [0, 1, n / 2, n.saturating_sub(1)].into_iter().filter(|&m| m < n) {
+            let mut next = call.clone();
+            if let Some(count) = edge_lists(&mut next).0.into_iter().flatten().nth(index) {
+                *count = m;
+            }
+            found.push(next);
+        }
+    }
+}
+
+#[cfg(test)]
+mod tests {
+    use super::*;
+    use crate::together::farm::{grid, record};
+    use crate::together::speed::{bent, seams};
+
+    #[test]
+    fn farm() {
+        let farm = grid(4, 3);
+        let ideals = (0..farm.edges).map(|edge| 1.3 + edge as f64).collect();
+        let call = Call::Solve { regions: farm.regions, ideals, counts: vec![7; farm.edges] };
+        let has = |call: &Call| match call {
+            Call::Solve { regions, ideals, .. } => regions.chunks_exact(RECORD).any(|r| r[2 * SIDE] > 0) && ideals.iter().any(|&x| x > 9.0),
+            _ => false,
+        };
+        let smallest = smallest(call, has);
+        let expected = Call::Solve { regions: record(&[vec![], vec![], vec![0], vec![]]), ideals: vec![0.0, 10.0], counts: vec![] };
+        assert_eq!(
+            with_records(&smallest, |list| list.retain(|&place| place == 1)),
+            with_records(&expected, |list| list.retain(|&place| place == 1))
+        );
+    }
+
+    #[test]
+    fn rounds() {
+        let step = Step { ideals: vec![1.25, 3.5], limit: 77 };
+        let call = Call::Rounds { regions: vec![], counts: vec![5, 900], steps: vec![step; 5] };
+        let has = |call: &Call| match call {
+            Call::Round { counts, step, .. } => counts.iter().any(|&count| count > 20) && step.limit >= 3,
+            Call::Rounds { steps, .. } => !steps.is_empty(),
+            _ => false,
+        };
+        assert_eq!(smallest(call, has), Call::Round { regions: vec![], counts: vec![21], step: Step { ideals: vec![], limit: 3 } });
+    }
+
+    #[test]
+    fn seam() {
+        let call = Call::FromParameters { curves: bent(7), seams: seams(6, true), out: 300 };
+        let has = |call: &Call| match call {
+            Call::FromParameters { curves, seams, .. } => seams[2].iter().any(|&x| x > 0.1 && x < 0.9) && curves[1].len() >= 4,
+            _ => false,
+        };
+        let Call::FromParameters { curves, seams, out } = smallest(call, has) else {
+            panic!("the function has changed");
+        };
+        assert_eq!((seams, out), ([vec![], vec![], vec![0.5], vec![]], 0));
+        assert_eq!(curves, [vec![], vec![0.0; 4], vec![], vec![]]);
+    }
+}

@@ -1,0 +1,111 @@
+//! The tools that link this library: differences are found, and bad input gets a clear error and a non-zero exit.
+#![cfg(feature = "library")]
+
+use std::process::{Command, Output};
+
+fn replay(arguments: &[&str]) -> Output {
+    Command::new(env!("CARGO_BIN_EXE_replay")).args(arguments).output().expect("replay starts")
+}
+
+/// A replay of a file with this text.
+fn replayed(name: &str, text: &[u8]) -> Output {
+    let path = std::env::temp_dir().join(format!("together-{}-{name}.jsonl", std::process::id()));
+    std::fs::write(&path, text).expect("a temporary file");
+    let output = replay(&[&path.to_string_lossy()]);
+    std::fs::remove_file(&path).expect("the temporary file");
+    output
+}
+
+fn complains(output: &Output, words: &str) {
+    let said = String::from_utf8_lossy(&output.stdout) + String::from_utf8_lossy(&output.stderr);
+    assert_eq!(output.status.code(), Some(1), "{said}");
+    assert!(said.contains(words) && !said.contains("panicked"), "`{said}` should say `{words}`");
+}
+
+const ROOT: &str = r#"{"id":"a","fn":"root","in":{"x":"4010000000000000"},"out":{"refusal":0,"root":"4000000000000000"}}"#;
+
+#[test]
+fn nothing_differs() {
+    let output = replayed("same", format!("{ROOT}\n").as_bytes());
+    assert_eq!(output.status.code(), Some(0));
+    assert!(String::from_utf8_lossy(&output.stdout).contains("1 as expected, 0 different"));
+}
+
+#[test]
+fn differences() {
+    let changed = [
+        ("root", ROOT.replace("\"4000000000000000\"", "\"4000000000000001\""), "value: expected 2.0000000000000004e0"),
+        ("refusal", ROOT.replace("\"refusal\":0", "\"refusal\":28,\"places\":[0,0]"), "refusal: expected 28, came 0"),
+        (
+            "counts",
+            r#"{"id":"b","fn":"round","in":{"regions":[],"ideals":["3ff0000000000000"],"counts":[0],"limit":1},
+                "out":{"refusal":0,"cost":"bff0000000000000","cut":0,"counts":[0]}}"#
+                .replace('\n', ""),
+            "output of 32 bits at 0: expected 0, came 1",
+        ),
+        (
+            "steps",
+            r#"{"id":"c","fn":"rounds","in":{"regions":[],"counts":[0],"steps":[]},
+                "out":{"steps":[{"refusal":1,"places":[0,0],"counts":[0]}]}}"#
+                .replace('\n', ""),
+            "1 answers are expected, 0 came",
+        ),
+    ];
+    for (name, line, words) in changed {
+        complains(&replayed(name, format!("{ROOT}\n{line}\n").as_bytes()), words);
+    }
+}
+
+#[test]
+fn bad_files() {
+    let bad: [(&str, &[u8], &str); 7] = [
+        ("empty", b"", "cut off: the last line has no end"),
+        ("cut", b"{\"id\":\"a\",\"fn\":\"root\"", "cut off: the last line has no end"),
+        ("open", b"{\"id\":\"a\",\"fn\":\"root\"\n", "line 1: cut off"),
+        ("bytes", b"\xff\xfe\n", "this is no text"),
+        ("function", b"{\"id\":\"a\",\"fn\":\"rot\",\"in\":{},\"out\":{}}\n", "line 1: `rot` is no function"),
+        ("number", b"{\"id\":\"a\",\"fn\":\"root\",\"in\":{\"x\":\"4\"},\"out\":{}}\n", "line 1: `4` is not the 16 hexadecimal digits"),
+        (
+            "length",
+            b"{\"id\":\"a\",\"fn\":\"coons_curves\",\"in\":{\"curves\":[[],[],[],[]],\"n_u\":1,\"n_v\":1,\"out_len\":4000000000},\"out\":{}}\n",
+            "4000000000 values are more than",
+        ),
+    ];
+    for (name, text, words) in bad {
+        complains(&replayed(name, text), words);
+    }
+    complains(&replay(&[]), "usage");
+    complains(&replay(&["tests/no-such-file"]), "tests/no-such-file");
+}
+
+#[test]
+fn bad_numbers() {
+    let scale = |arguments: &[&str]| Command::new(env!("CARGO_BIN_EXE_scale")).args(arguments).output().expect("scale starts");
+    complains(&scale(&[]), "usage");
+    complains(&scale(&["1"]), "usage");
+    complains(&scale(&["1", "-5"]), "`-5` is no whole number");
+    complains(&scale(&["seed", "5"]), "`seed` is no whole number");
+    let growth = |folder: &str| Command::new(env!("CARGO_BIN_EXE_growth")).arg(folder).output().expect("growth starts");
+    complains(&growth("tests/no-such-folder"), "tests/no-such-folder: this is no folder");
+    let speed = |path: &str| Command::new(env!("CARGO_BIN_EXE_speed")).arg(path).output().expect("speed starts");
+    complains(&speed("tests/no-such-file"), "tests/no-such-file");
+}
+
+#[test]
+fn bad_farms() {
+    let farm = "a|68 0|1 3ff0000000000000|1|1|0|1|1 1|3:1 0\n";
+    let bad = [
+        ("cut", "a|68", "cut off: the last line has no end"),
+        ("fields", "a|68 0\n", "line 1: 2 fields and not nine"),
+        ("list", farm, "line 1: the case is cut off"),
+        ("number", &farm.replace("68 0", "0").replace("|1|1 1|", "|x|1 1|"), "line 1: `x` is no number of entries"),
+        ("open", &farm.replace("|1|0|", "|0|0|"), "line 1: the solve of a is not at its end"),
+    ];
+    for (name, text, words) in bad {
+        let path = std::env::temp_dir().join(format!("together-{}-{name}.txt", std::process::id()));
+        std::fs::write(&path, text).expect("a temporary file");
+        let output = Command::new(env!("CARGO_BIN_EXE_speed")).arg(&path).output().expect("speed starts");
+        std::fs::remove_file(&path).expect("the temporary file");
+        complains(&output, words);
+    }
+}
