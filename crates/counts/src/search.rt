@@ -612,7 +612,12 @@ pub(crate) fn run(
         state,
     );
     if second == 256 {
-        return r;
+        return SearchState {
+            kept: r.kept,
+            expansions: r.expansions,
+            len: r.len,
+            cut: r.cut,
+        };
     }
     let t = SearchState {
         kept: r.kept,
