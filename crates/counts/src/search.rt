@@ -633,6 +633,12 @@ fn cross_start(
     }
     let second = entry(incident, place + 1);
     let cost = edge_cost(costs, start);
+    let t = SearchState {
+        kept: state.kept,
+        expansions: state.expansions,
+        len: state.len,
+        cut: state.cut,
+    };
     let r = dfs(
         regions,
         incident,
@@ -647,11 +653,22 @@ fn cross_start(
         place,
         cost,
         second,
-        state,
+        t,
     );
     if second == 256 {
-        return r;
+        return SearchState {
+            kept: r.kept,
+            expansions: r.expansions,
+            len: r.len,
+            cut: r.cut,
+        };
     }
+    let u = SearchState {
+        kept: r.kept,
+        expansions: r.expansions,
+        len: r.len,
+        cut: r.cut,
+    };
     dfs(
         regions,
         incident,
@@ -666,7 +683,7 @@ fn cross_start(
         place + 1,
         cost,
         first,
-        r,
+        u,
     )
 }
 
