@@ -48,7 +48,8 @@ pub fn round(regions: &[u16], ideals: &[f64], counts: &mut [u32], limit: u32) ->
 pub fn solve_counts(regions: &[u16], ideals: &[f64], counts: &mut [u32]) -> SolveAnswer
     ensures { λ r. ⌜ solve-of r (now (counts .exit)) ≡ solve (now (regions .entry)) (now (ideals .entry)) (now (counts .entry)) ⌝ }
 {
-    if let Check::Refused(r) = check_solve(regions, ideals, counts.len()) {
+    let room = counts.len();
+    if let Check::Refused(r) = check_solve(regions, ideals, room) {
         return SolveAnswer::Refused(r);
     }
     let mut incident = [256; 512];
@@ -66,6 +67,7 @@ pub fn solve_counts(regions: &[u16], ideals: &[f64], counts: &mut [u32]) -> Solv
         MAX_LIMIT,
     )
 }
+
 // The energy of the counts: the sum of (s/ideal - 1)² over the edges.
 pub fn energy(counts: &[u32], ideals: &[f64]) -> EnergyAnswer
     ensures { λ r. ⌜ energy-of r ≡ energy (now (counts .entry)) (now (ideals .entry)) ⌝ }
