@@ -1,6 +1,7 @@
 // A round: the searches from every start, the choice among them, and the move made.
 use crate::cost::fill_costs;
 use crate::search::SearchState;
+use crate::search::fresh;
 use crate::search::infinity;
 use crate::search::run;
 use crate::search::wide;
@@ -79,12 +80,7 @@ fn search_from(
             c,
         );
     }
-    SearchState {
-        kept: infinity(),
-        expansions: 0,
-        len: 0,
-        cut: false,
-    }
+    fresh()
 }
 
 // Sees to it that the result from start c is known.

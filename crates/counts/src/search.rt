@@ -546,7 +546,7 @@ pub(crate) fn infinity() -> f64
 // has to do with a state that is lent.
 
 // The state that a search starts with.
-fn fresh() -> SearchState
+pub(crate) fn fresh() -> SearchState
     ensures { λ r. ⌜ r ≡ fresh-state ⌝ }
 {
     let kept = infinity();

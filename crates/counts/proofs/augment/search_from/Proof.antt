@@ -4,6 +4,7 @@ use native.Mathlib.Omega.{arith}
 use borrow.Author.Needs.{needs}
 use Rattle.counts.specs.RoundContract.{Buffers}
 use Rattle.counts.specs.Search.{State}
+use Rattle.counts.specs.declared.search.SearchState.{SearchState}
 use Rattle.counts.proofs.RoundLaws.{searched, not-searched}
 use Rattle.counts.proofs.augment.search_from.Statement.{statement}
 use Rattle.counts.proofs.augment.search_from.Tie as tie
@@ -23,17 +24,17 @@ returns c =
       len-fits = c .run .ensures .short;
     }
 
-infinity-requires : tie.Need-infinity-requires
-infinity-requires c κs = search needs
+fresh-requires : tie.Need-fresh-requires
+fresh-requires c κs = search needs
 
 returns-2 : tie.Need-returns-2
 returns-2 c =
     record {
-      answer = rw (c .infinity .ensures, not-searched _ _ _ _ _ (c .before .if1 .left));
+      answer = rw (c .fresh .ensures, not-searched _ _ _ _ _ (c .before .if1 .left));
       buffers = c .before .before .before .before .pre .1;
-      len-fits = omega arith;
+      len-fits = let l = ap (λ (s : SearchState). s .len) (c .fresh .ensures) in omega (arith, l);
     }
 
 pub search-from-spec : {M : Type 1} → statement M
 search-from-spec =
-    tie.close (tie.spec element-copy-out-if1 run-requires returns infinity-requires returns-2)
+    tie.close (tie.spec element-copy-out-if1 run-requires returns fresh-requires returns-2)
