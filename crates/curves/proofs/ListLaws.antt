@@ -2,11 +2,11 @@
 use mathlib.Core.Path.{_≡_, refl, sym, ap, _∙_}
 use mathlib.Core.List.{List, [], _∷_, _++_, append-assoc, append-nil}
 use Prim.Native.Nat.{ℕ, zero, suc, _+_, _-_, _*_, _<_, _≤_}
-use native.Mathlib.Nat.{add-zero, zero-add, add-suc, suc-add, add-assoc, add-comm, zero-mul, suc-mul}
+use native.Mathlib.Nat.{add-zero, zero-add, add-suc, suc-add, add-assoc, add-comm, zero-mul, suc-mul, mul-suc, mul-zero, le-of-suc-le-suc, not-suc-le-zero}
 use native.Mathlib.Numerals.{add-one}
 use native.Mathlib.Omega.{arith}
-use lib.ListN.{length, getD, set, take, drop, length-append, length-drop, take-append-drop}
-use lib.Seq.{drop-cons, set-at, append-snoc, set-split, length-take-le, take-at, drop-at, drop-drop, take-add, take-append-seam, drop-append-seam}
+use lib.ListN.{length, getD, set, take, drop, length-append, length-drop, take-append-drop, List·getD-append}
+use lib.Seq.{drop-cons, set-at, append-snoc, set-split, length-take-le, take-at, drop-at, drop-drop, take-add, take-append-seam, drop-append-seam, getD-append-add, getD-drop}
 use Rattle.curves.specs.Lists.{tab, cat, splice}
 
 module _ {A : Type 0} where
@@ -48,6 +48,27 @@ module _ {A : Type 0} where
 
   pub length-cat-more : (f : ℕ → List A) (n : ℕ) → length (cat f 0 (n + 1)) ≡ length (cat f 0 n) + length (f n)
   length-cat-more f n = ap length (cat-more f n) ∙ length-append (cat f 0 n) (f n)
+
+  pub cat-same : (f g : ℕ → List A) (k n : ℕ) → ((i : ℕ) → i < k + n → f i ≡ g i) → cat f k n ≡ cat g k n
+  cat-same f g k zero h = refl
+  cat-same f g k (suc n) h = ap (λ (r : List A). r ++ cat f (suc k) n) (h k (omega arith)) ∙ ap (λ (r : List A). g k ++ r) (cat-same f g (suc k) n (λ i l. h i (omega arith)))
+
+  -- the value r of the part i, of parts of one length
+  pub getD-cat : (f : ℕ → List A) (w k n i r : ℕ) (z : A) → ((j : ℕ) → length (f j) ≡ w) → i < n → r < w → getD (cat f k n) (w * i + r) z ≡ getD (f (k + i)) r z
+  getD-cat f w k zero i r z h l q = absurd (not-suc-le-zero l)
+  getD-cat f w k (suc n) zero r z h l q =
+      let g = h k in
+      ap (λ (x : ℕ). getD (f k ++ cat f (suc k) n) x z) (ap (λ (x : ℕ). x + r) (mul-zero w) ∙ zero-add r)
+      ∙ List·getD-append (f k) (cat f (suc k) n) z r (omega arith)
+      ∙ ap (λ (x : ℕ). getD (f x) r z) (sym (add-zero k))
+  getD-cat f w k (suc n) (suc i) r z h l q =
+      let g = h k in
+      let m = mul-suc w i in
+      let e : w * suc i + r ≡ length (f k) + (w * i + r) = omega arith in
+      ap (λ (x : ℕ). getD (f k ++ cat f (suc k) n) x z) e
+      ∙ getD-append-add (f k) (cat f (suc k) n) (w * i + r) z
+      ∙ getD-cat f w (suc k) n i r z h (le-of-suc-le-suc l) q
+      ∙ ap (λ (x : ℕ). getD (f x) r z) (suc-add k i ∙ sym (add-suc k i))
 
   cat-add : (f : ℕ → List A) (k n m : ℕ) → cat f k (n + m) ≡ cat f k n ++ cat f (k + n) m
   cat-add f k zero m = ap (cat f k) (zero-add m) ∙ ap (λ (j : ℕ). cat f j m) (sym (add-zero k))
@@ -112,6 +133,17 @@ module _ {A : Type 0} where
   cat-step d from f out j k next o e h w =
       w ∙ ap (λ (l : List A). splice l k (f j)) o ∙ splice-next d from (cat f 0 j) (f j) k e h ∙ ap (splice d from) (sym (cat-more f j))
 
+  -- two stores are a part of two values
+  pub pair-step : (d : List A) (f : ℕ → List A) (out : List A) (i k : ℕ) (x y : A)
+      → ((j : ℕ) → length (f j) ≡ 2) → out ≡ splice d 0 (cat f 0 i) → k ≡ 2 * i → k + 2 ≤ length d → x ∷ y ∷ [] ≡ f i → set (set out k x) (k + 1) y ≡ splice d 0 (cat f 0 (i + 1))
+  pair-step d f out i k x y w o e h q =
+      let vs : List A = cat f 0 i in
+      let l : length vs ≡ i * 2 = length-cat f 2 0 i (λ j l. w j) in
+      let s = store-next d 0 vs out k x o (omega arith) (omega arith) in
+      let m : k + 1 ≡ 0 + length (vs ++ (x ∷ [])) = simp length-append (omega arith) in
+      store-next d 0 (vs ++ (x ∷ [])) (set out k x) (k + 1) y s m (omega arith)
+      ∙ ap (splice d 0) (append-assoc vs (x ∷ []) (y ∷ []) ∙ ap (λ (r : List A). vs ++ r) q ∙ sym (cat-more f i))
+
   -- what was written is written over by a part that is as long or longer
   pub splice-over : (d : List A) (from : ℕ) (vs ws : List A) → length vs ≤ length ws → from + length ws ≤ length d → splice (splice d from vs) from ws ≡ splice d from ws
   splice-over d from vs ws h r =
@@ -153,3 +185,13 @@ module _ {A : Type 0} where
   -- what was written at the front
   pub take-splice : (d vs : List A) (n : ℕ) → length vs ≡ n → take n (splice d 0 vs) ≡ vs
   take-splice d vs n e = take-at vs (drop (0 + length vs) d) n e
+
+  -- what stands past it is as before
+  pub splice-past : (d : List A) (vs : List A) (k : ℕ) (z : A) → length vs ≤ k → getD (splice d 0 vs) k z ≡ getD d k z
+  splice-past d vs k z h =
+      let e : k ≡ length vs + (k - length vs) = omega arith in
+      let f : 0 + length vs + (k - length vs) ≡ k = omega arith in
+      ap (λ (x : ℕ). getD (splice d 0 vs) x z) e
+      ∙ getD-append-add vs (drop (0 + length vs) d) (k - length vs) z
+      ∙ getD-drop (0 + length vs) d (k - length vs) z
+      ∙ ap (λ (x : ℕ). getD d x z) f

@@ -106,8 +106,35 @@ module _ (f : ℕ → Verdict) where
       ∙ sym (first-snoc 0 n)
       ∙ ap (first-of f 0) (sym (add-one n))
 
+  -- tests that pass, and one more
+  pub first-passes : (n : ℕ) → first-of f 0 n ≡ passed → f n ≡ passed → first-of f 0 (n + 1) ≡ passed
+  first-passes n p q =
+      ap (first-of f 0) (add-one n)
+      ∙ first-snoc 0 n
+      ∙ ap (λ (v : Verdict). then-test v (then-test (f (0 + n)) passed)) p
+      ∙ ap (λ (v : Verdict). then-test v passed) (ap f (zero-add n) ∙ q)
+
 -- the tests from the second on
 pub first-shifted : (f g : ℕ → Verdict) → ((j : ℕ) → f (suc j) ≡ g j) → (k n : ℕ) → first-of f (suc k) n ≡ first-of g k n
 unfolding first-of
 first-shifted f g h k zero = refl
 first-shifted f g h k (suc n) = ap (λ (v : Verdict). then-test v (first-of f (suc (suc k)) n)) (h k) ∙ ap (then-test (g k)) (first-shifted f g h (suc k) n)
+
+pub first-same : (f g : ℕ → Verdict) (k n : ℕ) → ((i : ℕ) → i < k + n → f i ≡ g i) → first-of f k n ≡ first-of g k n
+unfolding first-of
+first-same f g k zero h = refl
+first-same f g k (suc n) h = ap (λ (v : Verdict). then-test v (first-of f (suc k) n)) (h k (omega arith)) ∙ ap (then-test (g k)) (first-same f g (suc k) n (λ i l. h i (omega arith)))
+
+-- tests that all pass
+pub first-all : (f : ℕ → Verdict) (k n : ℕ) → ((i : ℕ) → i < k + n → f i ≡ passed) → first-of f k n ≡ passed
+unfolding first-of
+first-all f k zero h = refl
+first-all f k (suc n) h = ap (λ (v : Verdict). then-test v (first-of f (suc k) n)) (h k (omega arith)) ∙ first-all f (suc k) n (λ i l. h i (omega arith))
+
+-- where they pass, each of them does
+pub first-each : (f : ℕ → Verdict) (k n i : ℕ) → T (is-passed (first-of f k n)) → i < n → T (is-passed (f (k + i)))
+unfolding first-of
+first-each f k zero i t h = absurd (omega arith)
+first-each f k (suc n) zero t h = subst (λ (j : ℕ). T (is-passed (f j))) (sym (add-zero k)) (then-left (f k) (first-of f (suc k) n) t)
+first-each f k (suc n) (suc i) t h =
+    subst (λ (j : ℕ). T (is-passed (f j))) (suc-add k i ∙ sym (add-suc k i)) (first-each f (suc k) n i (then-right (f k) (first-of f (suc k) n) t) (omega arith))

@@ -3,3 +3,4 @@ pub mod Halving
 pub mod Laws
 pub mod Near
 pub mod Cases
+pub mod Rise

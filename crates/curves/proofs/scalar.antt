@@ -1,4 +1,5 @@
 -- The laws of the scalars. Assumes nothing.
 pub mod Constants
+pub mod Exact
 pub mod Laws
 pub mod Order

@@ -5,11 +5,13 @@ use Prim.Native.Nat.{ℕ, _+_, _*_, _<_, _≤_}
 use lib.ListN.{length, getD}
 use lib.Ieee.{Float, nan}
 use Rattle.curves.specs.Scalar.{clamp-unit}
-use Rattle.curves.specs.Point.{point}
+use Rattle.curves.specs.Point.{point, values}
 use Rattle.curves.specs.Curve.{ArcCurve}
-use Rattle.curves.specs.Patch.{column-at}
+use Rattle.curves.specs.Lists.{cat}
+use Rattle.curves.specs.Patch.{column-at, patch-point}
 use Rattle.curves.specs.declared.boundary.Ends.{Ends}
 use Rattle.curves.specs.declared.patch.Column.{Column}
+use Rattle.curves.specs.declared.patch.Row.{Row}
 
 -- a column takes nine values: its parameter u, and then its four points
 abbrev pub column-values : Float → Column → List Float
@@ -28,10 +30,15 @@ stored-column table from = record {
 unfoldable pub seam-column : ArcCurve → ArcCurve → Ends → Ends → List Float → ℕ → List Float
 seam-column bottom top b t seam i = let u = clamp-unit (getD seam i nan) in column-values u (column-at bottom top b t u)
 
--- there is a column from the index `from` on, and it is the one of the parameter before it, whatever that is
-abbrev pub Holds : ArcCurve → ArcCurve → Ends → Ends → List Float → ℕ → Type 0
-Holds bottom top b t table from = (from + 9 ≤ length table) × (stored-column table from ≡ column-at bottom top b t (getD table from nan))
+-- a column stands from the index `from` on: the one of the parameter u, which stands first
+abbrev pub Holds : ArcCurve → ArcCurve → Ends → Ends → List Float → ℕ → Float → Type 0
+Holds bottom top b t table from u = (from + 9 ≤ length table) × (getD table from nan ≡ u) × (stored-column table from ≡ column-at bottom top b t u)
 
--- n columns, each of its own parameter
-abbrev pub Table : ArcCurve → ArcCurve → Ends → Ends → ℕ → List Float → Type 0
-Table bottom top b t n table = (i : ℕ) → i < n → Holds bottom top b t table (9 * i)
+-- n columns, of the first n values of a seam
+abbrev pub Table : ArcCurve → ArcCurve → Ends → Ends → List Float → ℕ → List Float → Type 0
+Table bottom top b t seam n table = (i : ℕ) → i < n → Holds bottom top b t table (9 * i) (clamp-unit (getD seam i nan))
+
+-- the points of n + 1 columns on one row of the patch, of the parameter v
+unfoldable pub level-points : List Float → Row → Float → ℕ → List Float
+unfolding patch-point
+level-points table row v n = cat (λ (i : ℕ). values (patch-point (stored-column table (9 * i)) row (getD table (9 * i) nan) v)) 0 (n + 1)

@@ -8,6 +8,7 @@ use Rattle.curves.specs.Answers.{Answer, good, turned-away, verdict}
 use Rattle.curves.specs.Scalar.{nought}
 use Rattle.curves.specs.Lists.{cat}
 use Rattle.curves.specs.Tests.{first-of}
+use Rattle.curves.specs.Point.{values}
 use Rattle.curves.specs.Curve.{point-at}
 use Rattle.curves.specs.Crossing.{logical-intersection}
 use Rattle.curves.specs.Boundary.{BoundaryCurves}
@@ -45,10 +46,13 @@ mapped c (turned-away v) = turned-away v
 abbrev pub Row : Type 0
 Row = ℕ → Answer Point
 
--- row j: the line from a on the left to b on the right meets the lines from bottom to top
+-- row j of the logical grid: the line from a on the left to b on the right meets the lines from bottom to top
+abbrev pub crossings : List Float → List Float → Float → Float → ℕ → Row
+crossings bottom top a b j i = logical-intersection a b (getD bottom i nan) (getD top i nan) i j
+
 unfoldable pub row-of : BoundaryCurves → List Float → List Float → Float → Float → ℕ → Row
 unfolding logical-intersection mapped
-row-of c bottom top a b j i = mapped c (logical-intersection a b (getD bottom i nan) (getD top i nan) i j)
+row-of c bottom top a b j i = mapped c (crossings bottom top a b j i)
 
 -- its rows
 abbrev pub Grid : Type 0
@@ -59,7 +63,7 @@ grid-of c s j = row-of c (s .bottom) (s .top) (getD (s .left) j nan) (getD (s .r
 
 -- the values of a point that is there
 abbrev pub coordinates : Answer Point → List Float
-coordinates (good p) = p .x ∷ p .y ∷ []
+coordinates (good p) = values p
 coordinates (turned-away v) = nan ∷ nan ∷ []
 
 -- the n + 1 points of a row, as x, y in turn

@@ -12,6 +12,7 @@ pub mod Boundary
 pub mod Seam
 pub mod Patch
 pub mod Columns
+pub mod Level
 pub mod Quad
 pub mod Grid
 pub mod Rows

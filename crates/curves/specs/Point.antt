@@ -1,4 +1,5 @@
 -- Points of the plane: 000's `signed_area`, each operation rounded once, and the answer that carries a point. Definitions only.
+use mathlib.Core.List.{List, [], _∷_}
 use lib.Ieee.{Float, binary64, add, sub, mul}
 use Rattle.counts.specs.Refusal.{verdict-of}
 use Rattle.curves.specs.Answers.{Answer, good, turned-away}
@@ -9,6 +10,10 @@ use Rattle.curves.specs.declared.point.PointAnswer.the-variants.{At, Ref
 
 abbrev pub point : Float → Float → Point
 point x y = record { x = x; y = y }
+
+-- as they stand in a list
+abbrev pub values : Point → List Float
+values p = p .x ∷ p .y ∷ []
 
 -- 01's number, places and values of each case
 unfoldable pub point-of : PointAnswer → Answer Point

@@ -1,21 +1,17 @@
-// Columns and rows of the patch that are worked out once for many points of a grid, and looked up by the bits of their parameter. Nothing
-// is assumed of the seams: where a point's parameter is another one, its column or row is worked out anew.
+// Columns of the patch that are worked out once for all the level lines of a grid.
 ghost use mathlib.Core.Path.{_≡_};
-ghost use mathlib.Core.Bool.{true};
 ghost use Prim.Native.Nat.{_+_, _*_, _≤_};
 ghost use lib.ListN.{length};
 ghost use Rattle.curves.specs.Lists.{splice};
-ghost use Rattle.curves.specs.Curve.{curve, Sampled, Rising};
-ghost use Rattle.curves.specs.Patch.{column-at, row-at};
-ghost use Rattle.curves.specs.Columns.{column-values, stored-column, Holds, Table};
+ghost use Rattle.curves.specs.Curve.{curve, Sampled};
+ghost use Rattle.curves.specs.Columns.{column-values, stored-column, Table, level-points};
 use crate::boundary::Ends;
 use crate::patch::Column;
 use crate::patch::Row;
 use crate::patch::column_at;
-use crate::patch::row_at;
+use crate::patch::patch_point;
 use crate::point::Point;
 use crate::scalar::clamp_unit;
-use crate::scalar::same_bits;
 
 // The column of a table whose nine values, its parameter first, begin at the index `from`.
 fn stored_column(table: &[f64], from: usize) -> Column
@@ -70,74 +66,41 @@ pub(crate) fn fill_columns(
     b: Ends,
     t: Ends,
     seam: &[f64],
-    steady: bool,
     hints: &mut [usize; 4],
     table: &mut [f64],
 )
     requires { ⌜ Sampled (now bottom) (now lengths0) × Sampled (now top) (now lengths2) ⌝ }
-    requires { ⌜ (steady ≡ true → Rising (now lengths0) × Rising (now lengths2)) ⌝ }
     requires { ⌜ (length (now seam) ≤ 1025) × (9 * length (now seam) ≤ length (now table)) ⌝ }
-    ensures { λ _. ⌜ Table (curve (now (bottom .entry)) (now (lengths0 .entry))) (curve (now (top .entry)) (now (lengths2 .entry))) b t (length (now (seam .entry))) (now (table .exit)) ⌝ }
+    ensures { λ _. ⌜ Table (curve (now (bottom .entry)) (now (lengths0 .entry))) (curve (now (top .entry)) (now (lengths2 .entry))) b t (now (seam .entry)) (length (now (seam .entry))) (now (table .exit)) ⌝ }
 {
     let mut i = 0usize;
     let mut from = 0usize;
     while i < seam.len() {
         let value = seam[i];
         let u = clamp_unit(value);
-        let column = column_at(bottom, lengths0, top, lengths2, b, t, u, steady, hints);
+        let column = column_at(bottom, lengths0, top, lengths2, b, t, u, hints);
         store_column(u, column, from, table);
         i += 1;
         from += 9;
     }
 }
 
-// The column at u: the one that begins at the index `from`, where that is of u.
-pub(crate) fn find_column(
-    bottom: &[f64],
-    lengths0: &[f64],
-    top: &[f64],
-    lengths2: &[f64],
-    b: Ends,
-    t: Ends,
-    table: &[f64],
-    from: usize,
-    u: f64,
-    steady: bool,
-    hints: &mut [usize; 4],
-) -> Column
-    requires { ⌜ Sampled (now bottom) (now lengths0) × Sampled (now top) (now lengths2) ⌝ }
-    requires { ⌜ (steady ≡ true → Rising (now lengths0) × Rising (now lengths2)) ⌝ }
-    requires { ⌜ Holds (curve (now bottom) (now lengths0)) (curve (now top) (now lengths2)) b t (now table) from ⌝ }
-    ensures { λ r. ⌜ r ≡ column-at (curve (now (bottom .entry)) (now (lengths0 .entry))) (curve (now (top .entry)) (now (lengths2 .entry))) b t u ⌝ }
+// The n + 1 points of a level line: those of the table's columns on the row of the patch at v.
+pub(crate) fn level_points(table: &[f64], row: Row, v: f64, n: usize, points: &mut [f64])
+    requires { ⌜ (n ≤ 1024) × (9 * (n + 1) ≤ length (now table)) × (2 * (n + 1) ≤ length (now points)) ⌝ }
+    ensures { λ _. ⌜ now (points .exit) ≡ splice (now (points .entry)) 0 (level-points (now (table .entry)) row v n) ⌝ }
 {
-    let key = table[from];
-    let same = same_bits(key, u);
-    if same {
-        return stored_column(table, from);
+    let mut i = 0usize;
+    let mut k = 0usize;
+    let mut from = 0usize;
+    while i <= n {
+        let u = table[from];
+        let column = stored_column(table, from);
+        let p = patch_point(column, row, u, v);
+        points[k] = p.x;
+        points[k + 1] = p.y;
+        i += 1;
+        k += 2;
+        from += 9;
     }
-    column_at(bottom, lengths0, top, lengths2, b, t, u, steady, hints)
-}
-
-// The row at v: the kept one, where its parameter `key` is v.
-pub(crate) fn find_row(
-    right: &[f64],
-    lengths1: &[f64],
-    left: &[f64],
-    lengths3: &[f64],
-    key: f64,
-    kept: Row,
-    v: f64,
-    steady: bool,
-    hints: &mut [usize; 4],
-) -> Row
-    requires { ⌜ Sampled (now right) (now lengths1) × Sampled (now left) (now lengths3) ⌝ }
-    requires { ⌜ (steady ≡ true → Rising (now lengths1) × Rising (now lengths3)) ⌝ }
-    requires { ⌜ kept ≡ row-at (curve (now right) (now lengths1)) (curve (now left) (now lengths3)) key ⌝ }
-    ensures { λ r. ⌜ r ≡ row-at (curve (now (right .entry)) (now (lengths1 .entry))) (curve (now (left .entry)) (now (lengths3 .entry))) v ⌝ }
-{
-    let same = same_bits(key, v);
-    if same {
-        return kept;
-    }
-    row_at(right, lengths1, left, lengths3, v, steady, hints)
 }

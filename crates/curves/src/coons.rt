@@ -1,5 +1,6 @@
 // The public functions of the grid: tests in their order, then the grid. specs/Coons.antt defines what each answers and leaves.
 ghost use mathlib.Core.Path.{_≡_};
+ghost use mathlib.Core.Bool.{true};
 ghost use Prim.Native.Nat.{_*_, _≤_, _<_};
 ghost use lib.ListN.{length};
 ghost use Rattle.counts.specs.Refusal.{outcome};
@@ -116,12 +117,16 @@ fn grid_stage(
     left_v: &[f64],
     right_v: &[f64],
     layout: Layout,
+    table: &mut [f64],
+    low: &mut [f64],
+    high: &mut [f64],
     out: &mut [f64],
 ) -> GridAnswer
     requires { ⌜ Sampled (now bottom) (now lengths0) × Sampled (now top) (now lengths2) ⌝ }
     requires { ⌜ Sampled (now right) (now lengths1) × Sampled (now left) (now lengths3) ⌝ }
     requires { ⌜ (b ≡ curve-ends (curve (now bottom) (now lengths0))) × (t ≡ curve-ends (curve (now top) (now lengths2))) ⌝ }
     requires { ⌜ (length (now «bottom_u») ≤ 1025) × (length (now «top_u») ≤ 1025) × (length (now «left_v») ≤ 1025) × (length (now «right_v») ≤ 1025) ⌝ }
+    requires { ⌜ (9 * length (now «bottom_u») ≤ length (now table)) × (2 * length (now «bottom_u») ≤ length (now low)) × (2 * length (now «bottom_u») ≤ length (now high)) ⌝ }
     ensures { λ r. ⌜ outcome-of r (now (out .exit)) ≡ grid-stage layout (boundary (curve (now (bottom .entry)) (now (lengths0 .entry))) (curve (now (right .entry)) (now (lengths1 .entry))) (curve (now (top .entry)) (now (lengths2 .entry))) (curve (now (left .entry)) (now (lengths3 .entry)))) (seams (now («bottom_u» .entry)) (now («top_u» .entry)) (now («left_v» .entry)) (now («right_v» .entry))) (now (out .entry)) ⌝ }
 {
     if let Check::Refused(cause) = check_seams(bottom_u, top_u, left_v, right_v) {
@@ -148,6 +153,9 @@ fn grid_stage(
         left_v,
         right_v,
         layout,
+        table,
+        low,
+        high,
         out,
     );
     if let Check::Refused(cause) = made {
@@ -157,7 +165,7 @@ fn grid_stage(
     GridAnswer::Made(quads as u32)
 }
 
-// The tests of the curves (13 to 17), then the rest. The tables of lengths are lent.
+// The tests of the curves (13 to 17), then the rest. The tables of lengths are lent, and room for the grid's columns and rows.
 fn patch_in(
     bottom: &[f64],
     lengths0: &mut [f64],
@@ -172,10 +180,14 @@ fn patch_in(
     left_v: &[f64],
     right_v: &[f64],
     layout: Layout,
+    table: &mut [f64],
+    low: &mut [f64],
+    high: &mut [f64],
     out: &mut [f64],
 ) -> GridAnswer
     requires { ⌜ (length (now bottom) ≤ 2 * length (now lengths0)) × (length (now right) ≤ 2 * length (now lengths1)) × (length (now top) ≤ 2 * length (now lengths2)) × (length (now left) ≤ 2 * length (now lengths3)) ⌝ }
     requires { ⌜ (length (now «bottom_u») ≤ 1025) × (length (now «top_u») ≤ 1025) × (length (now «left_v») ≤ 1025) × (length (now «right_v») ≤ 1025) ⌝ }
+    requires { ⌜ (9 * length (now «bottom_u») ≤ length (now table)) × (2 * length (now «bottom_u») ≤ length (now low)) × (2 * length (now «bottom_u») ≤ length (now high)) ⌝ }
     ensures { λ r. ⌜ outcome-of r (now (out .exit)) ≡ patch layout (now (bottom .entry)) (now (right .entry)) (now (top .entry)) (now (left .entry)) (seams (now («bottom_u» .entry)) (now («top_u» .entry)) (now («left_v» .entry)) (now («right_v» .entry))) (now (out .entry)) ⌝ }
 {
     let joined = checked_curves(
@@ -211,13 +223,62 @@ fn patch_in(
                 left_v,
                 right_v,
                 layout,
+                table,
+                low,
+                high,
                 out,
             )
         }
     }
 }
 
-fn make_patch(
+// Curves of at most 64 points, and 63 cells along the bottom. Most tiles are so small, and to clear tables for the largest ones would take
+// longer than their grid.
+fn small_patch(
+    bottom: &[f64],
+    right: &[f64],
+    top: &[f64],
+    left: &[f64],
+    bottom_u: &[f64],
+    top_u: &[f64],
+    left_v: &[f64],
+    right_v: &[f64],
+    layout: Layout,
+    out: &mut [f64],
+) -> GridAnswer
+    requires { ⌜ (length (now bottom) ≤ 128) × (length (now right) ≤ 128) × (length (now top) ≤ 128) × (length (now left) ≤ 128) ⌝ }
+    requires { ⌜ (length (now «bottom_u») ≤ 64) × (length (now «top_u») ≤ 1025) × (length (now «left_v») ≤ 1025) × (length (now «right_v») ≤ 1025) ⌝ }
+    ensures { λ r. ⌜ outcome-of r (now (out .exit)) ≡ patch layout (now (bottom .entry)) (now (right .entry)) (now (top .entry)) (now (left .entry)) (seams (now («bottom_u» .entry)) (now («top_u» .entry)) (now («left_v» .entry)) (now («right_v» .entry))) (now (out .entry)) ⌝ }
+{
+    let mut lengths0 = [0.0; 64];
+    let mut lengths1 = [0.0; 64];
+    let mut lengths2 = [0.0; 64];
+    let mut lengths3 = [0.0; 64];
+    let mut table = [0.0; 576];
+    let mut low = [0.0; 128];
+    let mut high = [0.0; 128];
+    patch_in(
+        bottom,
+        &mut lengths0,
+        right,
+        &mut lengths1,
+        top,
+        &mut lengths2,
+        left,
+        &mut lengths3,
+        bottom_u,
+        top_u,
+        left_v,
+        right_v,
+        layout,
+        &mut table,
+        &mut low,
+        &mut high,
+        out,
+    )
+}
+
+fn large_patch(
     bottom: &[f64],
     right: &[f64],
     top: &[f64],
@@ -237,6 +298,9 @@ fn make_patch(
     let mut lengths1 = [0.0; 1024];
     let mut lengths2 = [0.0; 1024];
     let mut lengths3 = [0.0; 1024];
+    let mut table = [0.0; 9225];
+    let mut low = [0.0; 2050];
+    let mut high = [0.0; 2050];
     patch_in(
         bottom,
         &mut lengths0,
@@ -246,6 +310,72 @@ fn make_patch(
         &mut lengths2,
         left,
         &mut lengths3,
+        bottom_u,
+        top_u,
+        left_v,
+        right_v,
+        layout,
+        &mut table,
+        &mut low,
+        &mut high,
+        out,
+    )
+}
+
+fn is_small(bottom: &[f64], right: &[f64], top: &[f64], left: &[f64], bottom_u: &[f64]) -> bool
+    ensures { λ r. ⌜ (r ≡ true → (length (now (bottom .entry)) ≤ 128) × (length (now (right .entry)) ≤ 128) × (length (now (top .entry)) ≤ 128) × (length (now (left .entry)) ≤ 128) × (length (now («bottom_u» .entry)) ≤ 64)) ⌝ }
+{
+    if bottom.len() > 128 {
+        return false;
+    }
+    if right.len() > 128 {
+        return false;
+    }
+    if top.len() > 128 {
+        return false;
+    }
+    if left.len() > 128 {
+        return false;
+    }
+    bottom_u.len() <= 64
+}
+
+fn make_patch(
+    bottom: &[f64],
+    right: &[f64],
+    top: &[f64],
+    left: &[f64],
+    bottom_u: &[f64],
+    top_u: &[f64],
+    left_v: &[f64],
+    right_v: &[f64],
+    layout: Layout,
+    out: &mut [f64],
+) -> GridAnswer
+    requires { ⌜ (length (now bottom) ≤ 2048) × (length (now right) ≤ 2048) × (length (now top) ≤ 2048) × (length (now left) ≤ 2048) ⌝ }
+    requires { ⌜ (length (now «bottom_u») ≤ 1025) × (length (now «top_u») ≤ 1025) × (length (now «left_v») ≤ 1025) × (length (now «right_v») ≤ 1025) ⌝ }
+    ensures { λ r. ⌜ outcome-of r (now (out .exit)) ≡ patch layout (now (bottom .entry)) (now (right .entry)) (now (top .entry)) (now (left .entry)) (seams (now («bottom_u» .entry)) (now («top_u» .entry)) (now («left_v» .entry)) (now («right_v» .entry))) (now (out .entry)) ⌝ }
+{
+    let small = is_small(bottom, right, top, left, bottom_u);
+    if small {
+        return small_patch(
+            bottom,
+            right,
+            top,
+            left,
+            bottom_u,
+            top_u,
+            left_v,
+            right_v,
+            layout,
+            out,
+        );
+    }
+    large_patch(
+        bottom,
+        right,
+        top,
+        left,
         bottom_u,
         top_u,
         left_v,

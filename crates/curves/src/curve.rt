@@ -165,22 +165,6 @@ fn segment_at(lengths: &[f64], target: f64) -> usize
     lo
 }
 
-// Whether no length is above the next. In a real curve none is, since a sum of lengths rounded to nearest never falls; it is tested instead of
-// proved, as that law of addition is not at hand.
-pub(crate) fn is_rising(lengths: &[f64]) -> bool
-    ensures { λ r. ⌜ (r ≡ true → Rising (now (lengths .entry))) ⌝ }
-{
-    let mut i = 0usize;
-    while i + 1 < lengths.len() {
-        let rises = lengths[i] <= lengths[i + 1];
-        if !rises {
-            return false;
-        }
-        i += 1;
-    }
-    true
-}
-
 fn in_segment(lengths: &[f64], k: usize, target: f64) -> bool
     requires { ⌜ 2 ≤ length (now lengths) ⌝ }
     ensures { λ r. ⌜ (r ≡ true → InSegment (now (lengths .entry)) k target) ⌝ }
@@ -197,28 +181,26 @@ fn in_segment(lengths: &[f64], k: usize, target: f64) -> bool
 }
 
 // The same segment, looked for at the hint `near` and on either side of it before halving: along a seam the next target lies close by.
-fn segment_near(lengths: &[f64], target: f64, steady: bool, near: usize) -> usize
+fn segment_near(lengths: &[f64], target: f64, near: usize) -> usize
     requires { ⌜ 2 ≤ length (now lengths) ⌝ }
-    requires { ⌜ (steady ≡ true → Rising (now lengths)) ⌝ }
+    requires { ⌜ Rising (now lengths) ⌝ }
     ensures { λ r. ⌜ r ≡ segment-at (now (lengths .entry)) target ⌝ }
     ensures { λ r. ⌜ r + 1 < length (now (lengths .entry)) ⌝ }
 {
-    if steady {
-        // any number may be lent as a hint, also one that has no next
-        if near < lengths.len() {
-            let here = in_segment(lengths, near, target);
-            if here {
-                return near;
-            }
-            let after = in_segment(lengths, near + 1, target);
-            if after {
-                return near + 1;
-            }
-            if near > 0 {
-                let before = in_segment(lengths, near - 1, target);
-                if before {
-                    return near - 1;
-                }
+    // any number may be lent as a hint, also one that has no next
+    if near < lengths.len() {
+        let here = in_segment(lengths, near, target);
+        if here {
+            return near;
+        }
+        let after = in_segment(lengths, near + 1, target);
+        if after {
+            return near + 1;
+        }
+        if near > 0 {
+            let before = in_segment(lengths, near - 1, target);
+            if before {
+                return near - 1;
             }
         }
     }
@@ -244,24 +226,16 @@ pub(crate) struct Located {
     pub(crate) segment: usize,
 }
 
-// The point at the fraction t of the curve's length, t clamped to 0..1. Where the lengths are known to rise (`steady`), the hint `near` spares
-// the halving.
-pub(crate) fn curve_near(
-    points: &[f64],
-    cumulative: &[f64],
-    t: f64,
-    steady: bool,
-    near: usize,
-) -> Located
+// The point at the fraction t of the curve's length, t clamped to 0..1. A good hint `near` spares the halving.
+pub(crate) fn curve_near(points: &[f64], cumulative: &[f64], t: f64, near: usize) -> Located
     requires { ⌜ Sampled (now points) (now cumulative) ⌝ }
-    requires { ⌜ (steady ≡ true → Rising (now cumulative)) ⌝ }
     ensures { λ r. ⌜ r .point ≡ curve-at (curve (now (points .entry)) (now (cumulative .entry))) t ⌝ }
 {
     let clamped = clamp_unit(t);
     let last = cumulative.len() - 1;
     let total = cumulative[last];
     let target = clamped * total;
-    let k = segment_near(cumulative, target, steady, near);
+    let k = segment_near(cumulative, target, near);
     let start = knot_at(points, cumulative, k);
     let end = knot_at(points, cumulative, k + 1);
     let segment = Segment { start, end };
@@ -274,6 +248,6 @@ pub(crate) fn curve_at(points: &[f64], cumulative: &[f64], t: f64) -> Point
     requires { ⌜ Sampled (now points) (now cumulative) ⌝ }
     ensures { λ r. ⌜ r ≡ curve-at (curve (now (points .entry)) (now (cumulative .entry))) t ⌝ }
 {
-    let located = curve_near(points, cumulative, t, false, 0);
+    let located = curve_near(points, cumulative, t, 0);
     located.point
 }

@@ -6,32 +6,30 @@ ghost use lib.Dec.{T};
 ghost use lib.ListN.{length};
 ghost use Rattle.counts.specs.Refusal.{outcome, is-passed};
 ghost use Rattle.curves.specs.Lists.{splice};
-ghost use Rattle.curves.specs.Point.{point-of};
-ghost use Rattle.curves.specs.Curve.{curve, Sampled, Rising};
+ghost use Rattle.curves.specs.Curve.{curve, Sampled};
 ghost use Rattle.curves.specs.Boundary.{boundary, curve-ends};
-ghost use Rattle.curves.specs.Crossing.{logical-intersection};
-ghost use Rattle.curves.specs.Patch.{row-at};
-ghost use Rattle.curves.specs.Columns.{Holds, Table};
-ghost use Rattle.curves.specs.Grid.{mapped, row-of, row-points, row-test, seams, n-u, n-v, grid-of, grid-test, needed};
+ghost use Rattle.curves.specs.Columns.{Table};
+ghost use Rattle.curves.specs.Level.{Upright};
+ghost use Rattle.curves.specs.Grid.{crossings, row-of, row-points, row-test, seams, n-u, n-v, grid-of, grid-test, needed};
 ghost use Rattle.curves.specs.Quad.{zeros};
-ghost use Rattle.curves.specs.Rows.{Laid};
+ghost use Rattle.curves.specs.Rows.{mapped-points, Laid};
 ghost use Rattle.curves.specs.Coons.{filled};
 use crate::boundary::Ends;
 use crate::check::first_refused;
 use crate::columns::fill_columns;
-use crate::columns::find_column;
-use crate::columns::find_row;
+use crate::columns::level_points;
 use crate::crossing::logical_intersection;
-use crate::curve::is_rising;
-use crate::patch::Row;
+use crate::level::are_upright;
+use crate::level::is_straight;
+use crate::patch::column_at;
 use crate::patch::patch_point;
 use crate::patch::row_at;
 use crate::point::PointAnswer;
 use crate::quad::clear;
-use crate::rows::check_row;
+use crate::rows::copy_row;
+use crate::rows::lay_row;
 use crate::rows::needed;
-use crate::rows::write_row;
-use crate::scalar::clamp_unit;
+use crate::rows::row_size;
 use counts::refusal::Check;
 
 // What an output holds of a grid: its quads, or its points for a mesh.
@@ -40,81 +38,8 @@ pub(crate) enum Layout {
     Nodes,
 }
 
-// The grid point i, j: where the line from (0, v0) to (1, v1) meets the line from (u0, 0) to (u1, 1). A column of the table begins at
-// the index `from`, and the row `kept` is of the parameter `key`.
-fn grid_point(
-    bottom: &[f64],
-    lengths0: &[f64],
-    right: &[f64],
-    lengths1: &[f64],
-    top: &[f64],
-    lengths2: &[f64],
-    left: &[f64],
-    lengths3: &[f64],
-    b: Ends,
-    t: Ends,
-    table: &[f64],
-    from: usize,
-    key: f64,
-    kept: Row,
-    steady: bool,
-    hints: &mut [usize; 4],
-    v0: f64,
-    v1: f64,
-    u0: f64,
-    u1: f64,
-    i: u32,
-    j: u32,
-) -> PointAnswer
-    requires { ⌜ Sampled (now bottom) (now lengths0) × Sampled (now top) (now lengths2) ⌝ }
-    requires { ⌜ Sampled (now right) (now lengths1) × Sampled (now left) (now lengths3) ⌝ }
-    requires { ⌜ (steady ≡ true → Rising (now lengths0) × Rising (now lengths2)) ⌝ }
-    requires { ⌜ (steady ≡ true → Rising (now lengths1) × Rising (now lengths3)) ⌝ }
-    requires { ⌜ (b ≡ curve-ends (curve (now bottom) (now lengths0))) × (t ≡ curve-ends (curve (now top) (now lengths2))) ⌝ }
-    requires { ⌜ Holds (curve (now bottom) (now lengths0)) (curve (now top) (now lengths2)) b t (now table) from ⌝ }
-    requires { ⌜ kept ≡ row-at (curve (now right) (now lengths1)) (curve (now left) (now lengths3)) key ⌝ }
-    ensures { λ r. ⌜ point-of r ≡ mapped (boundary (curve (now (bottom .entry)) (now (lengths0 .entry))) (curve (now (right .entry)) (now (lengths1 .entry))) (curve (now (top .entry)) (now (lengths2 .entry))) (curve (now (left .entry)) (now (lengths3 .entry)))) (logical-intersection v0 v1 u0 u1 i j) ⌝ }
-{
-    match logical_intersection(v0, v1, u0, u1, i, j) {
-        PointAnswer::At(u, v) => {
-            let column = find_column(
-                bottom,
-                lengths0,
-                top,
-                lengths2,
-                b,
-                t,
-                table,
-                from,
-                u,
-                steady,
-                hints,
-            );
-            let row = find_row(right, lengths1, left, lengths3, key, kept, v, steady, hints);
-            let p = patch_point(column, row, u, v);
-            PointAnswer::At(p.x, p.y)
-        }
-        PointAnswer::Refused(cause) => PointAnswer::Refused(cause),
-    }
-}
-
-// The n + 1 points of row j, given the row `kept` of the patch at the parameter `key`.
-fn fill_points(
-    bottom: &[f64],
-    lengths0: &[f64],
-    right: &[f64],
-    lengths1: &[f64],
-    top: &[f64],
-    lengths2: &[f64],
-    left: &[f64],
-    lengths3: &[f64],
-    b: Ends,
-    t: Ends,
-    table: &[f64],
-    key: f64,
-    kept: Row,
-    steady: bool,
-    hints: &mut [usize; 4],
+// The n + 1 crossings of row j of the logical grid, which lie on the line from (0, v0) to (1, v1) (23, 24).
+fn fill_crossings(
     v0: f64,
     v1: f64,
     seam0: &[f64],
@@ -123,51 +48,20 @@ fn fill_points(
     j: u32,
     row: &mut [f64],
 ) -> Check
-    requires { ⌜ Sampled (now bottom) (now lengths0) × Sampled (now top) (now lengths2) ⌝ }
-    requires { ⌜ Sampled (now right) (now lengths1) × Sampled (now left) (now lengths3) ⌝ }
-    requires { ⌜ (steady ≡ true → Rising (now lengths0) × Rising (now lengths2)) ⌝ }
-    requires { ⌜ (steady ≡ true → Rising (now lengths1) × Rising (now lengths3)) ⌝ }
-    requires { ⌜ (b ≡ curve-ends (curve (now bottom) (now lengths0))) × (t ≡ curve-ends (curve (now top) (now lengths2))) ⌝ }
-    requires { ⌜ Table (curve (now bottom) (now lengths0)) (curve (now top) (now lengths2)) b t (n + 1) (now table) ⌝ }
-    requires { ⌜ kept ≡ row-at (curve (now right) (now lengths1)) (curve (now left) (now lengths3)) key ⌝ }
     requires { ⌜ (n ≤ 1024) × (n + 1 ≤ length (now seam0)) × (n + 1 ≤ length (now seam2)) × (2 * (n + 1) ≤ length (now row)) ⌝ }
-    ensures { λ r. ⌜ outcome r ≡ row-test (row-of (boundary (curve (now (bottom .entry)) (now (lengths0 .entry))) (curve (now (right .entry)) (now (lengths1 .entry))) (curve (now (top .entry)) (now (lengths2 .entry))) (curve (now (left .entry)) (now (lengths3 .entry)))) (now (seam0 .entry)) (now (seam2 .entry)) v0 v1 j) n ⌝ }
-    ensures { λ r. ⌜ (T (is-passed (outcome r)) → now (row .exit) ≡ splice (now (row .entry)) 0 (row-points (row-of (boundary (curve (now (bottom .entry)) (now (lengths0 .entry))) (curve (now (right .entry)) (now (lengths1 .entry))) (curve (now (top .entry)) (now (lengths2 .entry))) (curve (now (left .entry)) (now (lengths3 .entry)))) (now (seam0 .entry)) (now (seam2 .entry)) v0 v1 j) n)) ⌝ }
+    ensures { λ r. ⌜ outcome r ≡ row-test (crossings (now (seam0 .entry)) (now (seam2 .entry)) v0 v1 j) n ⌝ }
+    ensures { λ r. ⌜ (T (is-passed (outcome r)) → now (row .exit) ≡ splice (now (row .entry)) 0 (row-points (crossings (now (seam0 .entry)) (now (seam2 .entry)) v0 v1 j) n)) ⌝ }
 {
     let mut i = 0usize;
     let mut k = 0usize;
-    let mut from = 0usize;
     while i <= n {
         let u0 = seam0[i];
         let u1 = seam2[i];
         let place = i as u32;
-        match grid_point(
-            bottom,
-            lengths0,
-            right,
-            lengths1,
-            top,
-            lengths2,
-            left,
-            lengths3,
-            b,
-            t,
-            table,
-            from,
-            key,
-            kept,
-            steady,
-            hints,
-            v0,
-            v1,
-            u0,
-            u1,
-            place,
-            j,
-        ) {
-            PointAnswer::At(x, y) => {
-                row[k] = x;
-                row[k + 1] = y;
+        match logical_intersection(v0, v1, u0, u1, place, j) {
+            PointAnswer::At(u, v) => {
+                row[k] = u;
+                row[k + 1] = v;
             }
             PointAnswer::Refused(cause) => {
                 return Check::Refused(cause);
@@ -175,13 +69,51 @@ fn fill_points(
         }
         i += 1;
         k += 2;
-        from += 9;
     }
     Check::Passed
 }
 
-// The n + 1 points of row j, which lie on the line from (0, v0) to (1, v1) (23, 24).
-pub(crate) fn fill_row(
+// Puts the patch's points in the place of n + 1 pairs u, v. A loop of its own, since the crossings of a row do not wait for each other, nor
+// do its points.
+fn map_points(
+    bottom: &[f64],
+    lengths0: &[f64],
+    right: &[f64],
+    lengths1: &[f64],
+    top: &[f64],
+    lengths2: &[f64],
+    left: &[f64],
+    lengths3: &[f64],
+    b: Ends,
+    t: Ends,
+    hints: &mut [usize; 4],
+    n: usize,
+    row: &mut [f64],
+)
+    requires { ⌜ Sampled (now bottom) (now lengths0) × Sampled (now top) (now lengths2) ⌝ }
+    requires { ⌜ Sampled (now right) (now lengths1) × Sampled (now left) (now lengths3) ⌝ }
+    requires { ⌜ (b ≡ curve-ends (curve (now bottom) (now lengths0))) × (t ≡ curve-ends (curve (now top) (now lengths2))) ⌝ }
+    requires { ⌜ (n ≤ 1024) × (2 * (n + 1) ≤ length (now row)) ⌝ }
+    ensures { λ _. ⌜ now (row .exit) ≡ splice (now (row .entry)) 0 (mapped-points (boundary (curve (now (bottom .entry)) (now (lengths0 .entry))) (curve (now (right .entry)) (now (lengths1 .entry))) (curve (now (top .entry)) (now (lengths2 .entry))) (curve (now (left .entry)) (now (lengths3 .entry)))) (now (row .entry)) n) ⌝ }
+{
+    let mut i = 0usize;
+    let mut k = 0usize;
+    while i <= n {
+        let u = row[k];
+        let v = row[k + 1];
+        let column = column_at(bottom, lengths0, top, lengths2, b, t, u, hints);
+        let across = row_at(right, lengths1, left, lengths3, v, hints);
+        let p = patch_point(column, across, u, v);
+        row[k] = p.x;
+        row[k + 1] = p.y;
+        i += 1;
+        k += 2;
+    }
+}
+
+// The n + 1 points of row j, which lie on the line from (0, v0) to (1, v1) (23, 24). Where it is level, and the lines across it are upright
+// and their columns in the table, the points are those of the columns.
+fn fill_row(
     bottom: &[f64],
     lengths0: &[f64],
     right: &[f64],
@@ -193,7 +125,7 @@ pub(crate) fn fill_row(
     b: Ends,
     t: Ends,
     table: &[f64],
-    steady: bool,
+    upright: bool,
     hints: &mut [usize; 4],
     v0: f64,
     v1: f64,
@@ -205,19 +137,26 @@ pub(crate) fn fill_row(
 ) -> Check
     requires { ⌜ Sampled (now bottom) (now lengths0) × Sampled (now top) (now lengths2) ⌝ }
     requires { ⌜ Sampled (now right) (now lengths1) × Sampled (now left) (now lengths3) ⌝ }
-    requires { ⌜ (steady ≡ true → Rising (now lengths0) × Rising (now lengths2)) ⌝ }
-    requires { ⌜ (steady ≡ true → Rising (now lengths1) × Rising (now lengths3)) ⌝ }
     requires { ⌜ (b ≡ curve-ends (curve (now bottom) (now lengths0))) × (t ≡ curve-ends (curve (now top) (now lengths2))) ⌝ }
-    requires { ⌜ Table (curve (now bottom) (now lengths0)) (curve (now top) (now lengths2)) b t (n + 1) (now table) ⌝ }
+    requires { ⌜ Table (curve (now bottom) (now lengths0)) (curve (now top) (now lengths2)) b t (now seam0) (n + 1) (now table) ⌝ }
+    requires { ⌜ (upright ≡ true → Upright (now seam0) (now seam2)) ⌝ }
     requires { ⌜ (n ≤ 1024) × (j ≤ 1024) × (n + 1 ≤ length (now seam0)) × (n + 1 ≤ length (now seam2)) × (2 * (n + 1) ≤ length (now row)) ⌝ }
     ensures { λ r. ⌜ outcome r ≡ row-test (row-of (boundary (curve (now (bottom .entry)) (now (lengths0 .entry))) (curve (now (right .entry)) (now (lengths1 .entry))) (curve (now (top .entry)) (now (lengths2 .entry))) (curve (now (left .entry)) (now (lengths3 .entry)))) (now (seam0 .entry)) (now (seam2 .entry)) v0 v1 j) n ⌝ }
     ensures { λ r. ⌜ (T (is-passed (outcome r)) → now (row .exit) ≡ splice (now (row .entry)) 0 (row-points (row-of (boundary (curve (now (bottom .entry)) (now (lengths0 .entry))) (curve (now (right .entry)) (now (lengths1 .entry))) (curve (now (top .entry)) (now (lengths2 .entry))) (curve (now (left .entry)) (now (lengths3 .entry)))) (now (seam0 .entry)) (now (seam2 .entry)) v0 v1 j) n)) ⌝ }
 {
-    // where the line is level, all its points have this parameter
-    let v = clamp_unit(v0);
-    let kept = row_at(right, lengths1, left, lengths3, v, steady, hints);
+    if upright {
+        let level = is_straight(v0, v1);
+        if level {
+            let across = row_at(right, lengths1, left, lengths3, v0, hints);
+            level_points(table, across, v0, n, row);
+            return Check::Passed;
+        }
+    }
     let index = j as u32;
-    fill_points(
+    if let Check::Refused(cause) = fill_crossings(v0, v1, seam0, seam2, n, index, row) {
+        return Check::Refused(cause);
+    }
+    map_points(
         bottom,
         lengths0,
         right,
@@ -228,41 +167,15 @@ pub(crate) fn fill_row(
         lengths3,
         b,
         t,
-        table,
-        v,
-        kept,
-        steady,
         hints,
-        v0,
-        v1,
-        seam0,
-        seam2,
         n,
-        index,
         row,
-    )
-}
-
-// Whether the lengths of all four curves rise, so that hints hold.
-fn all_rising(lengths0: &[f64], lengths1: &[f64], lengths2: &[f64], lengths3: &[f64]) -> bool
-    ensures { λ r. ⌜ (r ≡ true → Rising (now (lengths0 .entry)) × Rising (now (lengths2 .entry))) ⌝ }
-    ensures { λ r. ⌜ (r ≡ true → Rising (now (lengths1 .entry)) × Rising (now (lengths3 .entry))) ⌝ }
-{
-    let rising0 = is_rising(lengths0);
-    if rising0 {
-        let rising1 = is_rising(lengths1);
-        if rising1 {
-            let rising2 = is_rising(lengths2);
-            if rising2 {
-                return is_rising(lengths3);
-            }
-        }
-    }
-    false
+    );
+    Check::Passed
 }
 
 // The rows of a grid from the bottom. All points are tested before any quad is refused, so a quad's refusal waits for the end. What a
-// refusal leaves of them in the output is still to be cleared.
+// refusal leaves of them in the output is still to be cleared. Two rows at a time stand in `low` and `high`.
 fn grid_rows(
     bottom: &[f64],
     lengths0: &[f64],
@@ -275,22 +188,24 @@ fn grid_rows(
     b: Ends,
     t: Ends,
     table: &[f64],
-    steady: bool,
+    upright: bool,
     hints: &mut [usize; 4],
     bottom_u: &[f64],
     top_u: &[f64],
     left_v: &[f64],
     right_v: &[f64],
     layout: Layout,
+    low: &mut [f64],
+    high: &mut [f64],
     out: &mut [f64],
 ) -> Check
     requires { ⌜ Sampled (now bottom) (now lengths0) × Sampled (now top) (now lengths2) ⌝ }
     requires { ⌜ Sampled (now right) (now lengths1) × Sampled (now left) (now lengths3) ⌝ }
-    requires { ⌜ (steady ≡ true → Rising (now lengths0) × Rising (now lengths2)) ⌝ }
-    requires { ⌜ (steady ≡ true → Rising (now lengths1) × Rising (now lengths3)) ⌝ }
-    requires { ⌜ Table (curve (now bottom) (now lengths0)) (curve (now top) (now lengths2)) b t (length (now «bottom_u»)) (now table) ⌝ }
+    requires { ⌜ Table (curve (now bottom) (now lengths0)) (curve (now top) (now lengths2)) b t (now «bottom_u») (length (now «bottom_u»)) (now table) ⌝ }
+    requires { ⌜ (upright ≡ true → Upright (now «bottom_u») (now «top_u»)) ⌝ }
     requires { ⌜ (b ≡ curve-ends (curve (now bottom) (now lengths0))) × (t ≡ curve-ends (curve (now top) (now lengths2))) ⌝ }
     requires { ⌜ (2 ≤ length (now «bottom_u»)) × (length (now «bottom_u») ≤ 1025) × (length (now «bottom_u») ≡ length (now «top_u»)) × (2 ≤ length (now «left_v»)) × (length (now «left_v») ≤ 1025) × (length (now «left_v») ≡ length (now «right_v»)) ⌝ }
+    requires { ⌜ (2 * length (now «bottom_u») ≤ length (now low)) × (2 * length (now «bottom_u») ≤ length (now high)) ⌝ }
     requires { ⌜ needed layout (n-u (seams (now «bottom_u») (now «top_u») (now «left_v») (now «right_v»))) (n-v (seams (now «bottom_u») (now «top_u») (now «left_v») (now «right_v»))) ≤ length (now out) ⌝ }
     ensures { λ r. ⌜ outcome r ≡ grid-test (grid-of (boundary (curve (now (bottom .entry)) (now (lengths0 .entry))) (curve (now (right .entry)) (now (lengths1 .entry))) (curve (now (top .entry)) (now (lengths2 .entry))) (curve (now (left .entry)) (now (lengths3 .entry)))) (seams (now («bottom_u» .entry)) (now («top_u» .entry)) (now («left_v» .entry)) (now («right_v» .entry)))) (n-u (seams (now («bottom_u» .entry)) (now («top_u» .entry)) (now («left_v» .entry)) (now («right_v» .entry)))) (n-v (seams (now («bottom_u» .entry)) (now («top_u» .entry)) (now («left_v» .entry)) (now («right_v» .entry)))) ⌝ }
     ensures { λ r. ⌜ Laid layout (grid-of (boundary (curve (now (bottom .entry)) (now (lengths0 .entry))) (curve (now (right .entry)) (now (lengths1 .entry))) (curve (now (top .entry)) (now (lengths2 .entry))) (curve (now (left .entry)) (now (lengths3 .entry)))) (seams (now («bottom_u» .entry)) (now («top_u» .entry)) (now («left_v» .entry)) (now («right_v» .entry)))) (n-u (seams (now («bottom_u» .entry)) (now («top_u» .entry)) (now («left_v» .entry)) (now («right_v» .entry)))) (n-v (seams (now («bottom_u» .entry)) (now («top_u» .entry)) (now («left_v» .entry)) (now («right_v» .entry)))) (now (out .entry)) (now (out .exit)) (outcome r) ⌝ }
@@ -298,8 +213,6 @@ fn grid_rows(
     let n = bottom_u.len() - 1;
     let m = left_v.len() - 1;
     let width = 2 * (n + 1);
-    let mut low = [0.0; 2050];
-    let mut high = [0.0; 2050];
     let mut cells = Check::Passed;
     let mut at = 0usize;
     let mut j = 0usize;
@@ -318,7 +231,7 @@ fn grid_rows(
             b,
             t,
             table,
-            steady,
+            upright,
             hints,
             v0,
             v1,
@@ -326,17 +239,17 @@ fn grid_rows(
             top_u,
             n,
             j,
-            &mut high,
+            high,
         );
         if let Check::Refused(_) = points {
             return points;
         }
         let lower = &low[..width];
         let upper = &high[..width];
-        let below = check_row(lower, upper, n, j);
+        let below = lay_row(layout, lower, upper, n, j, at, out);
         cells = first_refused(cells, below);
-        at = write_row(layout, lower, upper, n, j, at, out);
-        low = high;
+        at += row_size(layout, n, j);
+        copy_row(upper, low);
         j += 1;
     }
     cells
@@ -355,7 +268,7 @@ fn clear_refused(answer: Check, layout: Layout, n: usize, m: usize, out: &mut [f
 }
 
 // The grid of a patch between the curves of sides 0 to 3, each with its table of lengths, and the ends b and t of bottom and top. A
-// refusal leaves the needed output +0.0.
+// refusal leaves the needed output +0.0. `table`, `low` and `high` are room for columns and rows, and may hold anything.
 pub(crate) fn coons_grid(
     bottom: &[f64],
     lengths0: &[f64],
@@ -372,19 +285,22 @@ pub(crate) fn coons_grid(
     left_v: &[f64],
     right_v: &[f64],
     layout: Layout,
+    table: &mut [f64],
+    low: &mut [f64],
+    high: &mut [f64],
     out: &mut [f64],
 ) -> Check
     requires { ⌜ Sampled (now bottom) (now lengths0) × Sampled (now top) (now lengths2) ⌝ }
     requires { ⌜ Sampled (now right) (now lengths1) × Sampled (now left) (now lengths3) ⌝ }
     requires { ⌜ (b ≡ curve-ends (curve (now bottom) (now lengths0))) × (t ≡ curve-ends (curve (now top) (now lengths2))) ⌝ }
     requires { ⌜ (2 ≤ length (now «bottom_u»)) × (length (now «bottom_u») ≤ 1025) × (length (now «bottom_u») ≡ length (now «top_u»)) × (2 ≤ length (now «left_v»)) × (length (now «left_v») ≤ 1025) × (length (now «left_v») ≡ length (now «right_v»)) ⌝ }
+    requires { ⌜ (9 * length (now «bottom_u») ≤ length (now table)) × (2 * length (now «bottom_u») ≤ length (now low)) × (2 * length (now «bottom_u») ≤ length (now high)) ⌝ }
     requires { ⌜ needed layout (n-u (seams (now «bottom_u») (now «top_u») (now «left_v») (now «right_v»))) (n-v (seams (now «bottom_u») (now «top_u») (now «left_v») (now «right_v»))) ≤ length (now out) ⌝ }
     ensures { λ r. ⌜ outcome r ≡ grid-test (grid-of (boundary (curve (now (bottom .entry)) (now (lengths0 .entry))) (curve (now (right .entry)) (now (lengths1 .entry))) (curve (now (top .entry)) (now (lengths2 .entry))) (curve (now (left .entry)) (now (lengths3 .entry)))) (seams (now («bottom_u» .entry)) (now («top_u» .entry)) (now («left_v» .entry)) (now («right_v» .entry)))) (n-u (seams (now («bottom_u» .entry)) (now («top_u» .entry)) (now («left_v» .entry)) (now («right_v» .entry)))) (n-v (seams (now («bottom_u» .entry)) (now («top_u» .entry)) (now («left_v» .entry)) (now («right_v» .entry)))) ⌝ }
     ensures { λ r. ⌜ now (out .exit) ≡ filled layout (grid-of (boundary (curve (now (bottom .entry)) (now (lengths0 .entry))) (curve (now (right .entry)) (now (lengths1 .entry))) (curve (now (top .entry)) (now (lengths2 .entry))) (curve (now (left .entry)) (now (lengths3 .entry)))) (seams (now («bottom_u» .entry)) (now («top_u» .entry)) (now («left_v» .entry)) (now («right_v» .entry)))) (n-u (seams (now («bottom_u» .entry)) (now («top_u» .entry)) (now («left_v» .entry)) (now («right_v» .entry)))) (n-v (seams (now («bottom_u» .entry)) (now («top_u» .entry)) (now («left_v» .entry)) (now («right_v» .entry)))) (now (out .entry)) .out ⌝ }
 {
-    let steady = all_rising(lengths0, lengths1, lengths2, lengths3);
+    let upright = are_upright(bottom_u, top_u);
     let mut hints = [0usize; 4];
-    let mut table = [0.0; 9225];
     fill_columns(
         bottom,
         lengths0,
@@ -393,9 +309,8 @@ pub(crate) fn coons_grid(
         b,
         t,
         bottom_u,
-        steady,
         &mut hints,
-        &mut table,
+        table,
     );
     let answer = grid_rows(
         bottom,
@@ -408,14 +323,16 @@ pub(crate) fn coons_grid(
         lengths3,
         b,
         t,
-        &table,
-        steady,
+        table,
+        upright,
         &mut hints,
         bottom_u,
         top_u,
         left_v,
         right_v,
         layout,
+        low,
+        high,
         out,
     );
     let n = bottom_u.len() - 1;

@@ -8,6 +8,7 @@ mod crossing;
 mod curve;
 mod grid;
 pub mod lay;
+mod level;
 mod patch;
 mod point;
 mod quad;

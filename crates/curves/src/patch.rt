@@ -1,8 +1,7 @@
 // One point of the Coons patch, split into what u decides (a column), what v decides (a row), and the rest, since the points of a grid
 // share columns and rows.
 ghost use mathlib.Core.Path.{_≡_};
-ghost use mathlib.Core.Bool.{true};
-ghost use Rattle.curves.specs.Curve.{curve, Sampled, Rising};
+ghost use Rattle.curves.specs.Curve.{curve, Sampled};
 ghost use Rattle.curves.specs.Patch.{lerp2, combined, column-at, row-at, patch-point};
 use crate::boundary::Ends;
 use crate::curve::curve_near;
@@ -40,7 +39,7 @@ fn combined(p: Point, q: Point, r: Point) -> Point
 }
 
 // The curves of sides 0 and 2 with their tables and ends b and t. A hint for each side is lent, and its segment left there: it may be any
-// number, and is used only where the lengths are known to rise.
+// number.
 pub(crate) fn column_at(
     bottom: &[f64],
     lengths0: &[f64],
@@ -49,19 +48,17 @@ pub(crate) fn column_at(
     b: Ends,
     t: Ends,
     u: f64,
-    steady: bool,
     hints: &mut [usize; 4],
 ) -> Column
     requires { ⌜ Sampled (now bottom) (now lengths0) × Sampled (now top) (now lengths2) ⌝ }
-    requires { ⌜ (steady ≡ true → Rising (now lengths0) × Rising (now lengths2)) ⌝ }
     ensures { λ r. ⌜ r ≡ column-at (curve (now (bottom .entry)) (now (lengths0 .entry))) (curve (now (top .entry)) (now (lengths2 .entry))) b t u ⌝ }
 {
     let near_bottom = hints[0];
-    let on_bottom = curve_near(bottom, lengths0, u, steady, near_bottom);
+    let on_bottom = curve_near(bottom, lengths0, u, near_bottom);
     hints[0] = on_bottom.segment;
     // the top runs right to left
     let near_top = hints[2];
-    let on_top = curve_near(top, lengths2, 1.0 - u, steady, near_top);
+    let on_top = curve_near(top, lengths2, 1.0 - u, near_top);
     hints[2] = on_top.segment;
     let bottom_point = on_bottom.point;
     let top_point = on_top.point;
@@ -82,19 +79,17 @@ pub(crate) fn row_at(
     left: &[f64],
     lengths3: &[f64],
     v: f64,
-    steady: bool,
     hints: &mut [usize; 4],
 ) -> Row
     requires { ⌜ Sampled (now right) (now lengths1) × Sampled (now left) (now lengths3) ⌝ }
-    requires { ⌜ (steady ≡ true → Rising (now lengths1) × Rising (now lengths3)) ⌝ }
     ensures { λ r. ⌜ r ≡ row-at (curve (now (right .entry)) (now (lengths1 .entry))) (curve (now (left .entry)) (now (lengths3 .entry))) v ⌝ }
 {
     let near_right = hints[1];
-    let on_right = curve_near(right, lengths1, v, steady, near_right);
+    let on_right = curve_near(right, lengths1, v, near_right);
     hints[1] = on_right.segment;
     // the left runs top to bottom
     let near_left = hints[3];
-    let on_left = curve_near(left, lengths3, 1.0 - v, steady, near_left);
+    let on_left = curve_near(left, lengths3, 1.0 - v, near_left);
     hints[3] = on_left.segment;
     let right_point = on_right.point;
     let left_point = on_left.point;

@@ -4,6 +4,8 @@ ghost use Prim.Native.Nat.{_≤_};
 ghost use lib.ListN.{length};
 ghost use Rattle.counts.specs.Refusal.{outcome};
 ghost use Rattle.curves.specs.Lists.{splice};
+ghost use Rattle.curves.specs.Scalar.{is-positive};
+ghost use Rattle.curves.specs.Point.{signed-area};
 ghost use Rattle.curves.specs.Quad.{quad-test, zeros};
 use crate::point::Point;
 use crate::point::signed_area;
@@ -11,13 +13,20 @@ use crate::scalar::is_positive;
 use counts::refusal::Check;
 use counts::refusal::Refusal;
 
+// Whether a quad has an area, finite and above zero.
+pub(crate) fn has_area(a: Point, b: Point, c: Point, d: Point) -> bool
+    ensures { λ r. ⌜ r ≡ is-positive (signed-area a b c d) ⌝ }
+{
+    let area = signed_area(a, b, c, d);
+    is_positive(area)
+}
+
 // The quad with the corners a, b, c, d stands at i, j.
 pub(crate) fn check_quad(a: Point, b: Point, c: Point, d: Point, i: u32, j: u32) -> Check
     ensures { λ r. ⌜ outcome r ≡ quad-test a b c d i j ⌝ }
 {
-    let area = signed_area(a, b, c, d);
-    let positive = is_positive(area);
-    if positive {
+    let sound = has_area(a, b, c, d);
+    if sound {
         return Check::Passed;
     }
     Check::Refused(Refusal::BadQuadArea(i, j))

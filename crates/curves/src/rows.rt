@@ -5,11 +5,15 @@ ghost use Prim.Native.Nat.{_+_, _*_, _<_, _≤_};
 ghost use lib.ListN.{length};
 ghost use Rattle.counts.specs.Refusal.{outcome};
 ghost use Rattle.curves.specs.Lists.{splice};
+ghost use mathlib.Core.Bool.{true};
+ghost use Rattle.curves.specs.Rows.{row-size, AllSound};
+ghost use Rattle.curves.specs.declared.grid.Layout.the-variants.{Quads};
 ghost use Rattle.curves.specs.Grid.{cell-test, cells-test, below-test, quad-values, quads-between, node-values, nodes-of, row-part, needed};
 use crate::curve::point_at;
 use crate::grid::Layout;
 use crate::point::Point;
 use crate::quad::check_quad;
+use crate::quad::has_area;
 use counts::refusal::Check;
 
 // 25 at the cell i of row j.
@@ -42,7 +46,7 @@ fn check_cells(low: &[f64], high: &[f64], n: usize, j: usize) -> Check
 }
 
 // 25 of the cells below row j of the points: the lowest row has none, and `low` is not read there.
-pub(crate) fn check_row(low: &[f64], high: &[f64], n: usize, j: usize) -> Check
+fn check_row(low: &[f64], high: &[f64], n: usize, j: usize) -> Check
     requires { ⌜ (n ≤ 1024) × (j ≤ 1024) × (2 * (n + 1) ≤ length (now low)) × (2 * (n + 1) ≤ length (now high)) ⌝ }
     ensures { λ r. ⌜ outcome r ≡ below-test (now (low .entry)) (now (high .entry)) n j ⌝ }
 {
@@ -66,22 +70,29 @@ fn write_quad(a: Point, b: Point, c: Point, d: Point, from: usize, out: &mut [f6
     out[from + 7] = d.y;
 }
 
-// Writes the n quads between two rows, from an index on.
-fn write_quads(low: &[f64], high: &[f64], n: usize, from: usize, out: &mut [f64])
+// Writes the n quads between two rows, from an index on, and says whether each has an area: one pass over both rows does for the two.
+fn write_quads(low: &[f64], high: &[f64], n: usize, from: usize, out: &mut [f64]) -> bool
     requires { ⌜ (2 * (n + 1) ≤ length (now low)) × (2 * (n + 1) ≤ length (now high)) × (from + 8 * n ≤ length (now out)) ⌝ }
+    ensures { λ r. ⌜ (r ≡ true → AllSound (now (low .entry)) (now (high .entry)) n) ⌝ }
     ensures { λ _. ⌜ now (out .exit) ≡ splice (now (out .entry)) from (quads-between (now (low .entry)) (now (high .entry)) n) ⌝ }
 {
     let mut i = 0usize;
     let mut at = from;
+    let mut sound = true;
     while i < n {
         let a = point_at(low, i);
         let b = point_at(low, i + 1);
         let c = point_at(high, i + 1);
         let d = point_at(high, i);
         write_quad(a, b, c, d, at, out);
+        let positive = has_area(a, b, c, d);
+        if !positive {
+            sound = false;
+        }
         i += 1;
         at += 8;
     }
+    sound
 }
 
 fn write_node(p: Point, from: usize, out: &mut [f64])
@@ -108,8 +119,25 @@ fn write_nodes(row: &[f64], n: usize, from: usize, out: &mut [f64])
     }
 }
 
-// Writes what row j of the points adds, from an index on, and returns the index after it. At the lowest row `low` is not read.
-pub(crate) fn write_row(
+// Writes the quads below row j of the points, and tests them (25). The lowest row has none.
+fn lay_quads(low: &[f64], high: &[f64], n: usize, j: usize, from: usize, out: &mut [f64]) -> Check
+    requires { ⌜ (n ≤ 1024) × (j ≤ 1024) × (2 * (n + 1) ≤ length (now low)) × (2 * (n + 1) ≤ length (now high)) × (from + length (row-part Quads (now low) (now high) n j) ≤ length (now out)) ⌝ }
+    ensures { λ r. ⌜ outcome r ≡ below-test (now (low .entry)) (now (high .entry)) n j ⌝ }
+    ensures { λ _. ⌜ now (out .exit) ≡ splice (now (out .entry)) from (row-part Quads (now (low .entry)) (now (high .entry)) n j) ⌝ }
+{
+    if j == 0 {
+        return Check::Passed;
+    }
+    let sound = write_quads(low, high, n, from, out);
+    if sound {
+        return Check::Passed;
+    }
+    // one is at fault: which?
+    check_cells(low, high, n, j - 1)
+}
+
+// Writes what row j of the points adds, from an index on, and tests the cells below it (25). At the lowest row `low` is not read.
+pub(crate) fn lay_row(
     layout: Layout,
     low: &[f64],
     high: &[f64],
@@ -117,23 +145,45 @@ pub(crate) fn write_row(
     j: usize,
     from: usize,
     out: &mut [f64],
-) -> usize
-    requires { ⌜ (2 * (n + 1) ≤ length (now low)) × (2 * (n + 1) ≤ length (now high)) × (from + length (row-part layout (now low) (now high) n j) ≤ length (now out)) ⌝ }
-    ensures { λ r. ⌜ r ≡ from + length (row-part layout (now (low .entry)) (now (high .entry)) n j) ⌝ }
-    ensures { λ r. ⌜ now (out .exit) ≡ splice (now (out .entry)) from (row-part layout (now (low .entry)) (now (high .entry)) n j) ⌝ }
+) -> Check
+    requires { ⌜ (n ≤ 1024) × (j ≤ 1024) × (2 * (n + 1) ≤ length (now low)) × (2 * (n + 1) ≤ length (now high)) × (from + length (row-part layout (now low) (now high) n j) ≤ length (now out)) ⌝ }
+    ensures { λ r. ⌜ outcome r ≡ below-test (now (low .entry)) (now (high .entry)) n j ⌝ }
+    ensures { λ _. ⌜ now (out .exit) ≡ splice (now (out .entry)) from (row-part layout (now (low .entry)) (now (high .entry)) n j) ⌝ }
+{
+    match layout {
+        Layout::Quads => lay_quads(low, high, n, j, from, out),
+        Layout::Nodes => {
+            write_nodes(high, n, from, out);
+            check_row(low, high, n, j)
+        }
+    }
+}
+
+// How many values row j of the points adds.
+pub(crate) fn row_size(layout: Layout, n: usize, j: usize) -> usize
+    requires { ⌜ n ≤ 1024 ⌝ }
+    ensures { λ r. ⌜ r ≡ row-size layout n j ⌝ }
 {
     match layout {
         Layout::Quads => {
             if j == 0 {
-                return from;
+                return 0;
             }
-            write_quads(low, high, n, from, out);
-            from + 8 * n
+            8 * n
         }
-        Layout::Nodes => {
-            write_nodes(high, n, from, out);
-            from + 3 * (n + 1)
-        }
+        Layout::Nodes => 3 * (n + 1),
+    }
+}
+
+// The row that was above is below the next one.
+pub(crate) fn copy_row(row: &[f64], low: &mut [f64])
+    requires { ⌜ length (now row) ≤ length (now low) ⌝ }
+    ensures { λ _. ⌜ now (low .exit) ≡ splice (now (low .entry)) 0 (now (row .entry)) ⌝ }
+{
+    let mut i = 0usize;
+    while i < row.len() {
+        low[i] = row[i];
+        i += 1;
     }
 }
 

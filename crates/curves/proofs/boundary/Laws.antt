@@ -16,7 +16,7 @@ use Rattle.curves.specs.declared.boundary.BoundaryEnds.{BoundaryEnds}
 use Rattle.curves.specs.declared.boundary.BoundaryAnswer.the-variants as boundary-answer
 use Rattle.counts.proofs.RefusalLaws.{then-left, refusal-number, chain-stops, chain-goes-on}
 use Rattle.curves.proofs.TestLaws.{in-four, four-passed, told-passed, both-passed, follows, refuses}
-use Rattle.curves.proofs.curve.Laws.{sampled}
+use Rattle.curves.proofs.curve.Rise.{sampled}
 
 -- ---- the chain over the four curves, as the code makes it from its end
 

@@ -1,20 +1,22 @@
 -- The table of columns: nine stores, the columns of a seam one after the other, and that each of them is the one of its parameter. Assumes nothing.
-use mathlib.Core.Path.{_≡_, refl, sym, ap, _∙_}
-use mathlib.Core.List.{List, [], _∷_, _++_}
-use Prim.Native.Nat.{ℕ, zero, suc, _+_, _*_, _<_, _≤_}
-use native.Mathlib.Nat.{add-zero, zero-add, add-suc, suc-add, le-of-suc-le-suc, not-suc-le-zero}
+use mathlib.Core.Path.{_≡_, refl, ap, _∙_}
+use mathlib.Core.List.{List, [], _∷_}
+use Prim.Native.Nat.{ℕ, _+_, _*_, _<_, _≤_}
+use native.Mathlib.Nat.{zero-add}
 use native.Mathlib.Omega.{arith}
 use lib.ListN.{length, getD, set, List·getD-append}
-use lib.Seq.{getD-append-add}
 use lib.Ieee.{Float, nan}
 use Rattle.curves.specs.Lists.{cat, splice}
 use Rattle.curves.specs.Scalar.{clamp-unit}
 use Rattle.curves.specs.Curve.{ArcCurve}
-use Rattle.curves.specs.Patch.{column-at}
+use Rattle.curves.specs.Point.{values}
+use Rattle.curves.specs.Patch.{column-at, patch-point}
 use Rattle.curves.specs.Columns.{column-values, stored-column, seam-column, Table}
 use Rattle.curves.specs.declared.boundary.Ends.{Ends}
 use Rattle.curves.specs.declared.patch.Column.{Column}
-use Rattle.curves.proofs.ListLaws.{splice-none, store-next, length-cat, cat-step}
+use Rattle.curves.specs.declared.patch.Row.{Row}
+use Rattle.curves.specs.declared.point.Point.{Point}
+use Rattle.curves.proofs.ListLaws.{splice-none, store-next, length-cat, getD-cat, cat-step, pair-step}
 
 module _ {A : Type 0} where
   pub store-nine : (d : List A) (from : ℕ) (a b c e f g h i j : A) → from + 9 ≤ length d
@@ -30,23 +32,6 @@ module _ {A : Type 0} where
       let s6 = store-next d from (a ∷ b ∷ c ∷ e ∷ f ∷ g ∷ []) _ (from + 6) h s5 refl (omega arith) in
       let s7 = store-next d from (a ∷ b ∷ c ∷ e ∷ f ∷ g ∷ h ∷ []) _ (from + 7) i s6 refl (omega arith) in
       store-next d from (a ∷ b ∷ c ∷ e ∷ f ∷ g ∷ h ∷ i ∷ []) _ (from + 8) j s7 refl (omega arith)
-
-  -- the value r of the list i, among lists of nine
-  getD-nines : (g : ℕ → List A) (k n i r : ℕ) (z : A) → ((j : ℕ) → length (g j) ≡ 9) → i < n → r < 9 → getD (cat g k n) (9 * i + r) z ≡ getD (g (k + i)) r z
-  getD-nines g k zero i r z h l q = absurd (not-suc-le-zero l)
-  getD-nines g k (suc n) zero r z h l q =
-      let e : 9 * 0 + r ≡ r = omega arith in
-      let w = h k in
-      ap (λ (x : ℕ). getD (g k ++ cat g (suc k) n) x z) e
-      ∙ List·getD-append (g k) (cat g (suc k) n) z r (omega arith)
-      ∙ ap (λ (x : ℕ). getD (g x) r z) (sym (add-zero k))
-  getD-nines g k (suc n) (suc i) r z h l q =
-      let w = h k in
-      let e : 9 * suc i + r ≡ length (g k) + (9 * i + r) = omega arith in
-      ap (λ (x : ℕ). getD (g k ++ cat g (suc k) n) x z) e
-      ∙ getD-append-add (g k) (cat g (suc k) n) (9 * i + r) z
-      ∙ getD-nines g (suc k) n i r z h (le-of-suc-le-suc l) q
-      ∙ ap (λ (x : ℕ). getD (g x) r z) (suc-add k i ∙ sym (add-suc k i))
 
 -- where the nine values of a column stand, it is what is stored
 stored : (table : List Float) (from : ℕ) (u : Float) (c : Column) → ((r : ℕ) → r < 9 → getD table (from + r) nan ≡ getD (column-values u c) r nan) → stored-column table from ≡ c
@@ -77,18 +62,34 @@ module _ (bottom top : ArcCurve) (b t : Ends) (seam : List Float) where
         let l : length (cat g 0 n) ≡ n * 9 = length-cat g 9 0 n (λ j l. length-column j) in
         ap (λ (x : List Float). getD x (9 * i + r) nan) o
         ∙ List·getD-append (cat g 0 n) _ nan (9 * i + r) (omega arith)
-        ∙ getD-nines g 0 n i r nan length-column h q
+        ∙ getD-cat g 9 0 n i r nan length-column h q
         ∙ ap (λ (x : ℕ). getD (g x) r nan) (zero-add i)
 
     -- the table that the loop leaves
-    pub filled : 9 * n ≤ length table → Table bottom top b t n table
+    pub filled : 9 * n ≤ length table → Table bottom top b t seam n table
     unfolding seam-column
     filled h i g =
         let u = clamp-unit (getD seam i nan) in
         let k : 9 * i ≡ 9 * i + 0 = omega arith in
         let e : getD table (9 * i) nan ≡ u = ap (λ (x : ℕ). getD table x nan) k ∙ value-at i 0 g (omega arith) in
-        (omega arith, stored table (9 * i) u (column-at bottom top b t u) (λ r q. value-at i r g q) ∙ ap (column-at bottom top b t) (sym e))
+        (omega arith, e, stored table (9 * i) u (column-at bottom top b t u) (λ r q. value-at i r g q))
 
 -- a table of more columns serves
-pub fewer : (bottom top : ArcCurve) (b t : Ends) (n m : ℕ) (table : List Float) → n ≤ m → Table bottom top b t m table → Table bottom top b t n table
-fewer bottom top b t n m table h w i g = w i (omega arith)
+pub fewer : (bottom top : ArcCurve) (b t : Ends) (seam : List Float) (n m : ℕ) (table : List Float) → n ≤ m → Table bottom top b t seam m table → Table bottom top b t seam n table
+fewer bottom top b t seam n m table h w i g = w i (omega arith)
+
+-- ---- the points of a level line
+
+abbrev pub level-point : List Float → Row → Float → ℕ → List Float
+level-point table row v i = values (patch-point (stored-column table (9 * i)) row (getD table (9 * i) nan) v)
+
+-- a turn of the loop that writes them
+pub next-point : (d points table : List Float) (row : Row) (v : Float) (i k from : ℕ) (column : Column) (p : Point) → points ≡ splice d 0 (cat (level-point table row v) 0 i)
+    → k ≡ 2 * i → k + 2 ≤ length d → from ≡ 9 * i → column ≡ stored-column table from → p ≡ patch-point column row (getD table from nan) v
+    → set (set points k (p .x)) (k + 1) (p .y) ≡ splice d 0 (cat (level-point table row v) 0 (i + 1))
+next-point d points table row v i k from column p o e h f q w =
+    let z : values p ≡ level-point table row v i =
+    ap values w
+    ∙ ap (λ (x : Column). values (patch-point x row (getD table from nan) v)) q
+    ∙ ap (λ (x : ℕ). values (patch-point (stored-column table x) row (getD table x nan) v)) f in
+    pair-step d (level-point table row v) points i k (p .x) (p .y) (λ j. refl) o e h z

@@ -2,12 +2,14 @@
 use mathlib.Core.Path.{_≡_, refl, sym, ap, _∙_}
 use mathlib.Core.Bool.{Bool, true, false, _&&_, cond}
 use Prim.Native.Nat.{ℕ}
+use lib.Dec.{T}
 use lib.Ieee.{Float, lt}
-use Rattle.counts.specs.Refusal.{refused}
-use Rattle.curves.specs.Answers.{good, turned-away}
+use Rattle.counts.specs.Refusal.{refused, is-passed}
+use Rattle.curves.specs.Answers.{Answer, good, turned-away, verdict}
 use Rattle.curves.specs.Scalar.{e-12, float-abs, clamp-unit, in-unit}
 use Rattle.curves.specs.Point.{point}
 use Rattle.curves.specs.Crossing.{denominator, crossing-u, crossing-v, inside-or-refused, logical-intersection}
+use Rattle.curves.specs.declared.point.Point.{Point}
 
 pub parallel : (a b c d : Float) (i j : ℕ) → lt (float-abs (denominator a b c d)) e-12 ≡ true → turned-away (refused 23 i j) ≡ logical-intersection a b c d i j
 unfolding logical-intersection
@@ -32,3 +34,19 @@ u-outside u v i j e = by-tests u v i j false (in-unit v) e refl
 
 pub v-outside : (u v : Float) (i j : ℕ) → in-unit u ≡ true → in-unit v ≡ false → turned-away (refused 24 i j) ≡ inside-or-refused u v i j
 v-outside u v i j e f = by-tests u v i j true false e f
+
+-- ---- there is a crossing where no test refuses it
+
+abbrev pub There : Answer Point → Type 0
+There (good p) = Unit
+There (turned-away v) = ⊥
+
+pub crossing-there : (a b c d : Float) (i j : ℕ) → T (is-passed (verdict (logical-intersection a b c d i j))) → There (logical-intersection a b c d i j)
+unfolding logical-intersection inside-or-refused
+crossing-there a b c d i j t =
+    go (lt (float-abs (denominator a b c d)) e-12) (in-unit (crossing-u a b c d) && in-unit (crossing-v a b c d)) (point (clamp-unit (crossing-u a b c d)) (clamp-unit (crossing-v a b c d))) t
+  where
+    go : (x y : Bool) (p : Point) → T (is-passed (verdict (cond x (turned-away (refused 23 i j)) (cond y (good p) (turned-away (refused 24 i j)))))) → There (cond x (turned-away (refused 23 i j)) (cond y (good p) (turned-away (refused 24 i j))))
+    go true y p t = absurd t
+    go false true p t = tt
+    go false false p t = absurd t

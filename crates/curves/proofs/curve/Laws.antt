@@ -1,21 +1,18 @@
 -- The tests of one curve: the values one by one, and the chain of 13, 14, 15 by its tests. Assumes nothing.
-use mathlib.Core.Path.{_≡_, refl, sym, ap, subst, _∙_}
+use mathlib.Core.Path.{_≡_, refl, sym, ap, _∙_}
 use mathlib.Core.Bool.{Bool, true, false, not, _&&_}
 use mathlib.Core.List.{List}
-use Prim.Native.Nat.{ℕ, suc, _+_, _*_, _<_, _≤_}
+use Prim.Native.Nat.{ℕ, suc, _+_, _<_, _≤_}
 use native.Mathlib.Numerals.{add-one}
-use native.Mathlib.Omega.{arith}
 use lib.ListN.{length, getD, take, drop, drop-of-length-le}
 use lib.Seq.{drop-cons}
-use lib.Dec.{T, T-not, ltb}
+use lib.Dec.{ltb}
 use lib.Ieee.{Float, nan, binary64, add}
-use borrow.Author.Tests.{ltb-false, lt-ltb, le-ltb}
-use Rattle.counts.specs.Refusal.{refused, is-passed, then-test, refuse-if}
-use Rattle.counts.proofs.BoolLaws.{not-T-false}
-use Rattle.counts.proofs.RefusalLaws.{then-left, not-refused}
+use borrow.Author.Tests.{lt-ltb, le-ltb}
+use Rattle.counts.specs.Refusal.{refused, then-test, refuse-if}
 use Rattle.curves.specs.Scalar.{is-finite}
 use Rattle.curves.specs.Lists.{splice}
-use Rattle.curves.specs.Curve.{point-count, point-at, distance, length-to, total-length, cumulative-of, Sampled, all-finite, total-test, curve-test}
+use Rattle.curves.specs.Curve.{point-count, point-at, distance, length-to, total-length, cumulative-of, all-finite, total-test, curve-test}
 use Rattle.curves.specs.declared.point.Point.{Point}
 use Rattle.curves.proofs.ListLaws.{length-tab, take-splice}
 
@@ -76,12 +73,3 @@ not-finite points side h f = by-tests points side false false _ (le-ltb (point-c
 
 pub measured : (points : List Float) (side : ℕ) (total : Float) → 2 ≤ point-count points → all-finite points ≡ true → total ≡ total-length points → total-test total side ≡ curve-test points side
 measured points side total h f g = by-tests points side false true total (le-ltb (point-count points) 2 h) f g
-
--- a curve that has passed can be asked for its points
-pub sampled : (points : List Float) (side : ℕ) → T (is-passed (curve-test points side)) → Sampled points (cumulative-of points)
-unfolding curve-test
-sampled points side t =
-    let short = ltb (point-count points) 2 in
-    let long : T (not short) = not-refused short 12 side 0 (then-left (refuse-if short (refused 13 side 0)) _ t) in
-    let two : 2 ≤ point-count points = ltb-false (point-count points) 2 (not-T-false short (T-not short long)) in
-    subst (λ (n : ℕ). (2 ≤ n) × (2 * n ≤ length points)) (sym (length-cumulative points)) (two, omega arith)

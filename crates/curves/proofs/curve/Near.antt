@@ -12,29 +12,6 @@ use Rattle.curves.specs.Curve.{segment-at, Rising, InSegment}
 use Rattle.curves.proofs.scalar.Order.{le-le, lt-le, lt-not-le}
 use Rattle.curves.proofs.curve.Halving.{halved, step-right, step-left, stop}
 
--- ---- lengths that rise up to the index i
-
-unfoldable pub RisingTo : List Float → ℕ → Type 0
-RisingTo c i = (k : ℕ) → k < i → le (getD c k nan) (getD c (k + 1) nan) ≡ true
-
-pub rising-none : (c : List Float) → RisingTo c 0
-unfolding RisingTo
-rising-none c k h = absurd (omega arith)
-
-pub rising-more : (c : List Float) (i : ℕ) → RisingTo c i → le (getD c i nan) (getD c (i + 1) nan) ≡ true → RisingTo c (i + 1)
-unfolding RisingTo
-rising-more c i f e k h = go (ltb k i) refl
-  where
-    go : (b : Bool) → ltb k i ≡ b → le (getD c k nan) (getD c (k + 1) nan) ≡ true
-    go true q = f k (ltb-true k i q)
-    go false q = let p = ltb-false k i q in let z : i ≡ k = omega arith in subst (λ (n : ℕ). le (getD c n nan) (getD c (n + 1) nan) ≡ true) z e
-
-pub rising-all : (c : List Float) (i : ℕ) → length c ≤ i + 1 → RisingTo c i → Rising c
-unfolding RisingTo
-rising-all c i h f k l = f k (omega arith)
-
--- ---- the halving ends in the segment that holds the target
-
 module _ (c : List Float) (target : Float) (rises : Rising c) where
   -- before a length that is not above the target none is
   before : (i j : ℕ) → i + j < length c → le (getD c (i + j) nan) target ≡ true → le (getD c i nan) target ≡ true

@@ -1,30 +1,38 @@
--- A point of the grid from its column and row, and a row of points as a loop writes and tests it. Assumes nothing.
-use mathlib.Core.Path.{_≡_, refl, sym, ap, _∙_}
-use mathlib.Core.List.{List, [], _∷_, _++_, append-assoc}
-use Prim.Native.Nat.{ℕ, _+_, _-_, _*_, _≤_}
+-- A point of the grid from its column and row, a row of points as a loop writes and tests it, and the patch's points from crossings or from a table of columns. Assumes nothing.
+use mathlib.Core.Path.{_≡_, refl, sym, ap, subst, _∙_}
+use mathlib.Core.List.{List}
+use Prim.Native.Nat.{ℕ, _+_, _-_, _*_, _<_, _≤_}
+use native.Mathlib.Nat.{zero-add}
 use native.Mathlib.Omega.{arith}
-use lib.ListN.{length, getD, set, length-append}
+use lib.ListN.{length, getD, set, take}
+use lib.Seq.{getD-take}
+use lib.Dec.{T}
 use lib.Ieee.{Float, nan}
-use Rattle.counts.specs.Refusal.{Verdict, passed, outcome}
+use Rattle.counts.specs.Refusal.{passed, outcome, is-passed}
 use Rattle.counts.specs.declared.refusal.Check.the-variants.{Passed, Refused}
 use Rattle.counts.specs.declared.refusal.Refusal.{Refusal}
 use Rattle.curves.specs.Answers.{Answer, good, turned-away, verdict}
 use Rattle.curves.specs.Lists.{cat, splice}
 use Rattle.curves.specs.Tests.{first-of}
-use Rattle.curves.specs.Point.{point, point-of}
-use Rattle.curves.specs.Crossing.{logical-intersection}
+use Rattle.curves.specs.Scalar.{clamp-unit}
+use Rattle.curves.specs.Point.{point, values, point-of}
+use Rattle.curves.specs.Curve.{point-at}
 use Rattle.curves.specs.Boundary.{BoundaryCurves, curve-ends}
 use Rattle.curves.specs.Patch.{coons-point, column-at, row-at, patch-point}
-use Rattle.curves.specs.Grid.{mapped, Row, row-of, coordinates, row-points, row-test}
+use Rattle.curves.specs.Columns.{stored-column, Table, level-points}
+use Rattle.curves.specs.Grid.{mapped, Row, crossings, row-of, coordinates, row-points, row-test}
+use Rattle.curves.specs.Rows.{mapped-points}
 use Rattle.curves.specs.declared.boundary.Ends.{Ends}
 use Rattle.curves.specs.declared.patch.Column.{Column}
 use Rattle.curves.specs.declared.patch.Row.{Row as PatchRow}
 use Rattle.curves.specs.declared.point.Point.{Point}
 use Rattle.curves.specs.declared.point.PointAnswer.{PointAnswer}
 use Rattle.curves.specs.declared.point.PointAnswer.the-variants.{At, Refused as NoPoint}
-use Rattle.curves.proofs.ListLaws.{splice-none, store-next, cat-more, length-cat}
-use Rattle.curves.proofs.TestLaws.{first-start, first-next, first-stops, first-done}
+use Rattle.curves.proofs.ListLaws.{splice-none, length-cat, cat-same, getD-cat, pair-step, splice-past}
+use Rattle.curves.proofs.TestLaws.{first-start, first-next, first-stops, first-done, first-same, first-all, first-each}
+use Rattle.curves.proofs.crossing.Laws.{There, crossing-there}
 use Rattle.curves.proofs.patch.Laws.{split-patch}
+use Rattle.curves.proofs.columns.Laws.{level-point}
 
 -- ---- one point
 
@@ -33,38 +41,26 @@ module _ (c : BoundaryCurves) where
   unfolding mapped
   mapped-good p = refl
 
-  mapped-away : (v : Verdict) → mapped c (turned-away v) ≡ turned-away v
-  unfolding mapped
-  mapped-away v = refl
-
-  -- a crossing a, which the definition has as l
-  pub put-together : (b t : Ends) (u v : Float) (column : Column) (row : PatchRow) (p : Point) (a : PointAnswer) (l : Answer Point)
-      → b ≡ curve-ends (c .bottom)
-      → t ≡ curve-ends (c .top)
-      → column ≡ column-at (c .bottom) (c .top) b t u
-      → row ≡ row-at (c .right) (c .left) v
-      → p ≡ patch-point column row u v
-      → a ≡ At u v
-      → point-of a ≡ l
-      → good p ≡ mapped c l
-  unfolding point-of
-  put-together b t u v column row p a l eb et ec er ep ea el =
-      let q : p ≡ coons-point c u v =
+  -- the point of a column and a row
+  patched : (b t : Ends) (u v : Float) (column : Column) (row : PatchRow) (p : Point) → b ≡ curve-ends (c .bottom) → t ≡ curve-ends (c .top) → column ≡ column-at (c .bottom) (c .top) b t u → row ≡ row-at (c .right) (c .left) v
+      → p ≡ patch-point column row u v → p ≡ coons-point c u v
+  patched b t u v column row p eb et ec er ep =
       ep
       ∙ ap (λ (x : Column). patch-point x row u v) ec
       ∙ ap (λ (x : PatchRow). patch-point (column-at (c .bottom) (c .top) b t u) x u v) er
       ∙ ap (λ (x : Ends). patch-point (column-at (c .bottom) (c .top) x t u) (row-at (c .right) (c .left) v) u v) eb
       ∙ ap (λ (x : Ends). patch-point (column-at (c .bottom) (c .top) (curve-ends (c .bottom)) x u) (row-at (c .right) (c .left) v) u v) et
-      ∙ split-patch c u v in
-      ap good q ∙ sym (mapped-good (point u v)) ∙ ap (mapped c) (sym (ap point-of ea) ∙ el)
+      ∙ split-patch c u v
 
-  pub no-crossing : (r : Refusal) (a : PointAnswer) (l : Answer Point) → a ≡ NoPoint r → point-of a ≡ l → point-of (NoPoint r) ≡ mapped c l
-  unfolding point-of
-  no-crossing r a l e el = let q : point-of (NoPoint r) ≡ l = sym (ap point-of e) ∙ el in sym (mapped-away _) ∙ ap (mapped c) q
+  mapped-verdict : (x : Answer Point) → verdict (mapped c x) ≡ verdict x
+  unfolding mapped
+  mapped-verdict (good p) = refl
+  mapped-verdict (turned-away v) = refl
 
-  pub of-row : (bottom top : List Float) (a b : Float) (i j : ℕ) → mapped c (logical-intersection a b (getD bottom i nan) (getD top i nan) i j) ≡ row-of c bottom top a b j i
-  unfolding row-of
-  of-row bottom top a b i j = refl
+-- the patch's point at a crossing
+there : (c : BoundaryCurves) (x : Answer Point) (u v : Float) → There x → u ≡ getD (coordinates x) 0 nan → v ≡ getD (coordinates x) 1 nan → values (coons-point c u v) ≡ coordinates (mapped c x)
+there c (good p) u v h e f = ap (λ (z : Float). values (coons-point c z v)) e ∙ ap (λ (z : Float). values (coons-point c (p .x) z)) f ∙ sym (ap coordinates (mapped-good c p))
+there c (turned-away w) u v h e f = absurd h
 
 -- ---- a row of n + 1 points, written over d
 
@@ -86,15 +82,8 @@ module _ (f : Row) (n : ℕ) (d : List Float) where
       → Begun f n d (i + 1) (set (set row k x) (k + 1) y)
   unfolding point-of outcome
   row-goes-on i k row a x y s h e r w q =
-      let g : ℕ → List Float = λ (k : ℕ). coordinates (f k) in
-      let vs : List Float = cat g 0 i in
-      let m : f i ≡ good (point x y) = sym q ∙ ap point-of w in
-      let l : length vs ≡ i * 2 = length-cat g 2 0 i (λ j l. length-coordinates (f j)) in
-      let s0 = store-next d 0 vs row k x (s .0) (omega arith) (omega arith) in
-      let l1 : k + 1 ≡ 0 + length (vs ++ (x ∷ [])) = simp length-append (omega arith) in
-      let s1 = store-next d 0 (vs ++ (x ∷ [])) (set row k x) (k + 1) y s0 l1 (omega arith) in
-      let more : cat g 0 (i + 1) ≡ vs ++ (x ∷ y ∷ []) = cat-more g i ∙ ap (λ (p : Answer Point). vs ++ coordinates p) m in (
-        s1 ∙ ap (splice d 0) (append-assoc vs (x ∷ []) (y ∷ []) ∙ sym more),
+      let m : f i ≡ good (point x y) = sym q ∙ ap point-of w in (
+        pair-step d (λ (k : ℕ). coordinates (f k)) row i k x y (λ j. length-coordinates (f j)) (s .0) e (omega arith) (sym (ap coordinates m)),
         s .1 ∙ first-next (λ (k : ℕ). verdict (f k)) i (n + 1) Passed (omega arith) refl (sym (ap verdict m)),
       )
 
@@ -108,3 +97,87 @@ module _ (f : Row) (n : ℕ) (d : List Float) where
   pub row-ends : (i : ℕ) (row : List Float) → Begun f n d i row → i ≡ n + 1 → (passed ≡ row-test f n) × (row ≡ splice d 0 (row-points f n))
   unfolding row-points
   row-ends i row s e = (first-done (λ (k : ℕ). verdict (f k)) i (n + 1) (omega arith) ∙ sym (s .1), s .0 ∙ ap (λ (k : ℕ). splice d 0 (cat (λ (k : ℕ). coordinates (f k)) 0 k)) e)
+
+-- ---- the points of a patch in the place of the crossings
+
+abbrev pub mapped-point : BoundaryCurves → List Float → ℕ → List Float
+mapped-point c row i = values (coons-point c (point-at row i .x) (point-at row i .y))
+
+-- a turn of the loop that puts them there: what it reads is still as it was
+pub next-mapped : (c : BoundaryCurves) (b t : Ends) (d row : List Float) (i k : ℕ) (column : Column) (across : PatchRow) (p : Point) → row ≡ splice d 0 (cat (mapped-point c d) 0 i) → k ≡ 2 * i → k + 2 ≤ length d
+    → b ≡ curve-ends (c .bottom) → t ≡ curve-ends (c .top) → column ≡ column-at (c .bottom) (c .top) b t (getD row k nan) → across ≡ row-at (c .right) (c .left) (getD row (k + 1) nan)
+    → p ≡ patch-point column across (getD row k nan) (getD row (k + 1) nan) → set (set row k (p .x)) (k + 1) (p .y) ≡ splice d 0 (cat (mapped-point c d) 0 (i + 1))
+next-mapped c b t d row i k column across p o e h eb et ec er ep =
+    let vs : List Float = cat (mapped-point c d) 0 i in
+    let l : length vs ≡ i * 2 = length-cat (mapped-point c d) 2 0 i (λ j l. refl) in
+    let u : getD row k nan ≡ getD d (2 * i) nan = ap (λ (x : List Float). getD x k nan) o ∙ splice-past d vs k nan (omega arith) ∙ ap (λ (x : ℕ). getD d x nan) e in
+    let v : getD row (k + 1) nan ≡ getD d (2 * i + 1) nan = ap (λ (x : List Float). getD x (k + 1) nan) o ∙ splice-past d vs (k + 1) nan (omega arith) ∙ ap (λ (x : ℕ). getD d (x + 1) nan) e in
+    let q : values p ≡ mapped-point c d i =
+    ap values (patched c b t (getD row k nan) (getD row (k + 1) nan) column across p eb et ec er ep)
+    ∙ ap (λ (x : Float). values (coons-point c x (getD row (k + 1) nan))) u
+    ∙ ap (λ (x : Float). values (coons-point c (getD d (2 * i) nan) x)) v in
+    pair-step d (mapped-point c d) row i k (p .x) (p .y) (λ j. refl) o e h q
+
+module _ (c : BoundaryCurves) (bottom top : List Float) (a b : Float) (j : ℕ) where
+  of-crossing : (i : ℕ) → row-of c bottom top a b j i ≡ mapped c (crossings bottom top a b j i)
+  unfolding row-of
+  of-crossing i = refl
+
+  -- the same points are refused
+  pub mapped-test : (n : ℕ) → row-test (row-of c bottom top a b j) n ≡ row-test (crossings bottom top a b j) n
+  unfolding row-test
+  mapped-test n =
+      first-same (λ (i : ℕ). verdict (row-of c bottom top a b j i)) (λ (i : ℕ). verdict (crossings bottom top a b j i)) 0 (n + 1) (λ i h. ap verdict (of-crossing i) ∙ mapped-verdict c (crossings bottom top a b j i))
+
+  module _ (n : ℕ) (row : List Float) (t : T (is-passed (row-test (crossings bottom top a b j) n))) (e : take (2 * (n + 1)) row ≡ row-points (crossings bottom top a b j) n) where
+    crossing-at : (i r : ℕ) → i ≤ n → r < 2 → getD row (2 * i + r) nan ≡ getD (coordinates (crossings bottom top a b j i)) r nan
+    unfolding row-points
+    crossing-at i r h q =
+        let f : ℕ → List Float = λ (k : ℕ). coordinates (crossings bottom top a b j k) in
+        sym (getD-take (2 * (n + 1)) row (2 * i + r) nan (omega arith))
+        ∙ ap (λ (x : List Float). getD x (2 * i + r) nan) e
+        ∙ getD-cat f 2 0 (n + 1) i r nan (λ k. length-coordinates (crossings bottom top a b j k)) (omega arith) q
+        ∙ ap (λ (x : ℕ). getD (f x) r nan) (zero-add i)
+
+    passed-at : (i : ℕ) → i ≤ n → T (is-passed (verdict (crossings bottom top a b j i)))
+    unfolding row-test
+    passed-at i h =
+        subst (λ (k : ℕ). T (is-passed (verdict (crossings bottom top a b j k)))) (zero-add i) (first-each (λ (k : ℕ). verdict (crossings bottom top a b j k)) 0 (n + 1) i t (omega arith))
+
+    mapped-at : (i : ℕ) → i < 0 + (n + 1) → mapped-point c row i ≡ coordinates (row-of c bottom top a b j i)
+    mapped-at i h =
+        let m : 2 * i ≡ 2 * i + 0 = omega arith in
+        there c (crossings bottom top a b j i) (getD row (2 * i) nan) (getD row (2 * i + 1) nan) (crossing-there a b (getD bottom i nan) (getD top i nan) i j (passed-at i (omega arith)))
+        (ap (λ (x : ℕ). getD row x nan) m ∙ crossing-at i 0 (omega arith) (omega arith)) (crossing-at i 1 (omega arith) (omega arith))
+        ∙ ap coordinates (sym (of-crossing i))
+
+  -- a row of crossings that passed, with the patch's points in their place
+  pub mapped-row : (n : ℕ) (row : List Float) → T (is-passed (row-test (crossings bottom top a b j) n)) → take (2 * (n + 1)) row ≡ row-points (crossings bottom top a b j) n
+      → mapped-points c row n ≡ row-points (row-of c bottom top a b j) n
+  unfolding mapped-points row-points
+  mapped-row n row t e = cat-same (mapped-point c row) (λ (i : ℕ). coordinates (row-of c bottom top a b j i)) 0 (n + 1) (mapped-at n row t e)
+
+-- ---- a level line, whose crossings lie at the seam's values
+
+module _ (c : BoundaryCurves) (b t : Ends) (bottom top table : List Float) (v : Float) (j n : ℕ) (across : PatchRow)
+    (eb : b ≡ curve-ends (c .bottom)) (et : t ≡ curve-ends (c .top)) (w : Table (c .bottom) (c .top) b t bottom (n + 1) table) (ea : across ≡ row-at (c .right) (c .left) v)
+    (h : (i : ℕ) → i ≤ n → (clamp-unit (getD bottom i nan) ≡ getD bottom i nan) × (crossings bottom top v v j i ≡ good (point (getD bottom i nan) v))) where
+  level-at : (i : ℕ) → i ≤ n → row-of c bottom top v v j i ≡ good (coons-point c (getD bottom i nan) v)
+  level-at i l = of-crossing c bottom top v v j i ∙ ap (mapped c) (h i l .1) ∙ mapped-good c (point (getD bottom i nan) v)
+
+  level-same : (i : ℕ) → i < 0 + (n + 1) → level-point table across v i ≡ coordinates (row-of c bottom top v v j i)
+  level-same i l =
+      let s = w i (omega arith) in
+      let u : Float = getD bottom i nan in
+      let e : getD table (9 * i) nan ≡ u = s .1 ∙ h i (omega arith) .0 in
+      let k : stored-column table (9 * i) ≡ column-at (c .bottom) (c .top) b t u = s .2 ∙ ap (column-at (c .bottom) (c .top) b t) (h i (omega arith) .0) in
+      ap (λ (x : Float). values (patch-point (stored-column table (9 * i)) across x v)) e
+      ∙ ap values (patched c b t u v (stored-column table (9 * i)) across (patch-point (stored-column table (9 * i)) across u v) eb et k ea refl)
+      ∙ sym (ap coordinates (level-at i (omega arith)))
+
+  pub level-row : (level-points table across v n ≡ row-points (row-of c bottom top v v j) n) × (row-test (row-of c bottom top v v j) n ≡ passed)
+  unfolding level-points row-points row-test
+  level-row = (
+    cat-same (level-point table across v) (λ (i : ℕ). coordinates (row-of c bottom top v v j i)) 0 (n + 1) level-same,
+    first-all (λ (i : ℕ). verdict (row-of c bottom top v v j i)) 0 (n + 1) (λ i l. ap verdict (level-at i (omega arith))),
+  )

@@ -1,25 +1,29 @@
 -- The rows of a grid: how long what each adds is, and a loop over rows 0 to m of the points that tests the cells below each one and writes what it adds. Assumes nothing.
 use mathlib.Core.Path.{_≡_, refl, sym, ap, _∙_}
+use mathlib.Core.Bool.{Bool, true, not}
 use mathlib.Core.List.{List, [], _∷_}
 use Prim.Native.Nat.{ℕ, zero, suc, _+_, _-_, _*_, _<_, _≤_}
 use native.Mathlib.Nat.{mul-comm, mul-le-mul-right}
 use native.Mathlib.Numerals.{add-one}
 use native.Mathlib.Omega.{arith}
-use lib.ListN.{length, set}
-use lib.Ieee.{Float}
-use Rattle.counts.specs.Refusal.{Verdict, passed, outcome, then-test}
+use lib.ListN.{length, getD, set, take}
+use lib.Seq.{length-take-le, take-suc}
+use lib.Ieee.{Float, nan}
+use Rattle.counts.specs.Refusal.{Verdict, passed, refused, refuse-if, outcome, then-test}
 use Rattle.counts.specs.declared.refusal.Check.{Check}
 use Rattle.counts.specs.declared.refusal.Check.the-variants.{Passed}
 use Rattle.curves.specs.Lists.{cat, splice}
 use Rattle.curves.specs.Tests.{first-of}
-use Rattle.curves.specs.Scalar.{nought}
+use Rattle.curves.specs.Scalar.{nought, is-positive}
+use Rattle.curves.specs.Point.{signed-area}
 use Rattle.curves.specs.Curve.{point-at}
-use Rattle.curves.specs.Quad.{zeros}
-use Rattle.curves.specs.Grid.{Row, Grid, coordinates, row-points, cells-test, below-test, quads-test, quad-values, quads-between, node-values, nodes-of, row-part, grid-part, grid-values, needed}
+use Rattle.curves.specs.Quad.{quad-test, zeros}
+use Rattle.curves.specs.Grid.{Row, Grid, coordinates, row-points, cell-test, cells-test, below-test, quads-test, quad-values, quads-between, node-values, nodes-of, row-part, grid-part, grid-values, needed}
+use Rattle.curves.specs.Rows.{row-size}
 use Rattle.curves.specs.declared.point.Point.{Point}
 use Rattle.curves.specs.declared.grid.Layout.{Layout}
 use Rattle.curves.specs.declared.grid.Layout.the-variants.{Quads, Nodes}
-use Rattle.curves.proofs.ListLaws.{length-tab, length-cat, length-cat-more, cat-grows, splice-none, store-next, cat-step, splice-over}
+use Rattle.curves.proofs.ListLaws.{length-tab, length-cat, length-cat-more, cat-grows, splice-none, store-next, cat-step, splice-over, take-splice}
 use Rattle.curves.proofs.TestLaws.{first-more, first-shifted}
 use Rattle.curves.proofs.grid.Laws.{length-coordinates}
 
@@ -43,6 +47,17 @@ node-stored d k p h =
     let s1 = store-next d k (p .x ∷ []) _ (k + 1) (p .y) s0 refl (omega arith) in
     store-next d k (p .x ∷ p .y ∷ []) _ (k + 2) nought s1 refl (omega arith)
 
+-- ---- a row copied to the front of a list
+
+pub copy-step : (d row out : List Float) (i : ℕ) → out ≡ splice d 0 (take i row) → i < length row → length row ≤ length d → set out i (getD row i nan) ≡ splice d 0 (take (i + 1) row)
+copy-step d row out i o h r =
+    let t : length (take i row) ≡ i = length-take-le i row (omega arith) in
+    store-next d 0 (take i row) out i (getD row i nan) o (omega (arith, t)) (omega arith)
+    ∙ ap (splice d 0) (sym (ap (λ (k : ℕ). take k row) (add-one i) ∙ take-suc row i nan h))
+
+pub copied-row : (row low next : List Float) (w : ℕ) → length row ≡ w → next ≡ splice low 0 row → take w next ≡ row
+copied-row row low next w e n = ap (take w) n ∙ take-splice low row w e
+
 -- ---- what a row adds, and its length
 
 abbrev pub quad-at : List Float → List Float → ℕ → List Float
@@ -65,20 +80,30 @@ quad-same low high i out at a b c d next p q r s w =
     ∙ ap (λ (x : Point). splice out at (quad-values (point-at low i) (point-at low (i + 1)) x d)) r
     ∙ ap (λ (x : Point). splice out at (quad-values (point-at low i) (point-at low (i + 1)) (point-at high (i + 1)) x)) s
 
+-- a quad with an area passes, as the one of its four points
+pub cell-passes : (low high : List Float) (i j : ℕ) (a b c d : Point)
+    → a ≡ point-at low i → b ≡ point-at low (i + 1) → c ≡ point-at high (i + 1) → d ≡ point-at high i → is-positive (signed-area a b c d) ≡ true
+    → cell-test low high j i ≡ passed
+unfolding cell-test quad-test
+cell-passes low high i j a b c d p q r s t =
+    let e : signed-area a b c d ≡ signed-area (point-at low i) (point-at low (i + 1)) (point-at high (i + 1)) (point-at high i) =
+    ap (λ (x : Point). signed-area x b c d) p
+    ∙ ap (λ (x : Point). signed-area (point-at low i) x c d) q
+    ∙ ap (λ (x : Point). signed-area (point-at low i) (point-at low (i + 1)) x d) r
+    ∙ ap (λ (x : Point). signed-area (point-at low i) (point-at low (i + 1)) (point-at high (i + 1)) x) s in
+    ap (λ (x : Bool). refuse-if (not x) (refused 25 i j)) (sym (ap is-positive e) ∙ t)
+
 pub nodes-length : (row : List Float) (n : ℕ) → length (cat (node-at row) 0 n) ≡ 3 * n
 nodes-length row n = length-cat (node-at row) 3 0 n (λ i h. refl) ∙ mul-comm n 3
 
-pub first-row : (layout : Layout) (low high : List Float) (n j : ℕ) → layout ≡ Quads → j ≡ 0 → row-part layout low high n j ≡ []
+pub first-quads : (low high : List Float) (n j : ℕ) → j ≡ 0 → row-part Quads low high n j ≡ []
 unfolding row-part
-first-row layout low high n j e z = ap (λ (l : Layout). row-part l low high n j) e ∙ ap (row-part Quads low high n) z
+first-quads low high n j z = ap (row-part Quads low high n) z
 
-later-quads : (low high : List Float) (n j : ℕ) → 0 < j → row-part Quads low high n j ≡ quads-between low high n
+pub later-quads : (low high : List Float) (n j : ℕ) → 0 < j → row-part Quads low high n j ≡ quads-between low high n
 unfolding row-part
 later-quads low high n zero h = absurd (omega arith)
 later-quads low high n (suc j) h = refl
-
-pub later-row : (layout : Layout) (low high : List Float) (n j : ℕ) → layout ≡ Quads → 0 < j → row-part layout low high n j ≡ quads-between low high n
-later-row layout low high n j e h = ap (λ (l : Layout). row-part l low high n j) e ∙ later-quads low high n j h
 
 pub nodes-row : (layout : Layout) (low high : List Float) (n j : ℕ) → layout ≡ Nodes → row-part layout low high n j ≡ nodes-of high n
 unfolding row-part
@@ -92,9 +117,27 @@ pub length-nodes : (row : List Float) (n : ℕ) → length (nodes-of row n) ≡ 
 unfolding nodes-of
 length-nodes row n = nodes-length row (n + 1)
 
--- the part ws was written, from one index to the next, and it is the one to write
-pub part-told : (out : List Float) (from to k : ℕ) (vs ws next : List Float) → vs ≡ ws → length ws ≡ k → to ≡ from + k → next ≡ splice out from ws → (to ≡ from + length vs) × (next ≡ splice out from vs)
-part-told out from to k vs ws next e l t w = (t ∙ ap (λ (i : ℕ). from + i) (sym (ap length e ∙ l)), w ∙ ap (splice out from) (sym e))
+pub size-told : (layout : Layout) (low high : List Float) (n j : ℕ) → length (row-part layout low high n j) ≡ row-size layout n j
+unfolding row-part row-size
+size-told Quads low high n zero = refl
+size-told Quads low high n (suc j) = length-quads low high n
+size-told Nodes low high n j = length-nodes high n
+
+pub first-size : (layout : Layout) (n j : ℕ) → layout ≡ Quads → j ≡ 0 → 0 ≡ row-size layout n j
+unfolding row-size
+first-size layout n j e z = sym (ap (λ (l : Layout). row-size l n j) e ∙ ap (row-size Quads n) z)
+
+later-size : (n j : ℕ) → 0 < j → row-size Quads n j ≡ 8 * n
+unfolding row-size
+later-size n zero h = absurd (omega arith)
+later-size n (suc j) h = refl
+
+pub quads-size : (layout : Layout) (n j : ℕ) → layout ≡ Quads → 0 < j → 8 * n ≡ row-size layout n j
+quads-size layout n j e h = sym (ap (λ (l : Layout). row-size l n j) e ∙ later-size n j h)
+
+pub nodes-size : (layout : Layout) (n j : ℕ) → layout ≡ Nodes → 3 * (n + 1) ≡ row-size layout n j
+unfolding row-size
+nodes-size layout n j e = sym (ap (λ (l : Layout). row-size l n j) e)
 
 -- what stands below the lowest row does not matter
 pub part-first : (layout : Layout) (low low' high : List Float) (n : ℕ) → row-part layout low high n 0 ≡ row-part layout low' high n 0
@@ -203,12 +246,13 @@ module _ (f : Grid) (n : ℕ) where
         omega (arith, p, q, w, a, r)
 
     pub row-end : (j at next : ℕ) (low high : List Float) → RowBefore j low → high ≡ row-points (f j) n
-        → at ≡ length (cat (grid-part layout f n) 0 j) → next ≡ at + length (row-part layout low high n j)
+        → at ≡ length (cat (grid-part layout f n) 0 j) → next ≡ at + row-size layout n j
         → next ≡ length (cat (grid-part layout f n) 0 (j + 1))
     row-end j at next low high b e a w =
         let p = ap length (part-same j low high b e) in
         let q = length-cat-more (grid-part layout f n) j in
-        omega (arith, p, q, a, w)
+        let s = size-told layout low high n j in
+        omega (arith, p, q, s, a, w)
 
     pub row-written : (d out next : List Float) (m j at : ℕ) (low high : List Float) → RowBefore j low → high ≡ row-points (f j) n
         → at ≡ length (cat (grid-part layout f n) 0 j) → j ≤ m → needed layout n m ≤ length d

@@ -1,11 +1,10 @@
 -- `curve::curve_at` meets its contract. Assumes nothing.
-use Rattle.curves.proofs.scalar.Laws.{impossible}
 use borrow.Author.Needs.{needs}
 use Rattle.curves.proofs.curve.curve_at.Statement.{statement}
 use Rattle.curves.proofs.curve.curve_at.Tie as tie
 
 curve-near-requires : tie.Need-curve-near-requires
-curve-near-requires c κs = (c .before .before .pre, impossible)
+curve-near-requires c κs = c .before .before .pre
 
 returns : tie.Need-returns
 returns c = search needs

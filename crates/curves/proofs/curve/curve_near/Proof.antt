@@ -17,7 +17,7 @@ shared-slice-read-total : tie.Need-shared-slice-read-total
 shared-slice-read-total c = search needs
 
 segment-near-requires : tie.Need-segment-near-requires
-segment-near-requires c κs = search needs
+segment-near-requires c κs = (c .before .before .before .before .pre .0, c .before .before .before .before .pre .2)
 
 knot-at-requires : tie.Need-knot-at-requires
 knot-at-requires c κs = search needs

@@ -8,7 +8,7 @@ in-segment-requires : tie.Need-in-segment-requires
 in-segment-requires c κs = search needs
 
 returns : tie.Need-returns
-returns c = let h = c .before .in-segment .ensures (c .if3 .taken) in (hinted _ _ (c .before .before .before .before .before .pre .1 (c .before .before .before .if1 .taken)) _ h, h .0)
+returns c = let h = c .before .in-segment .ensures (c .if2 .taken) in (hinted _ _ (c .before .before .before .before .pre .1) _ h, h .0)
 
 add-in-segment : tie.Need-add-in-segment
 add-in-segment c = search needs
@@ -20,7 +20,7 @@ add-result : tie.Need-add-result
 add-result c = search needs
 
 returns-2 : tie.Need-returns-2
-returns-2 c = let h = c .before .in-segment2 .ensures (c .if4 .taken) in (hinted _ _ (c .before .before .before .before .before .before .before .pre .1 (c .before .before .before .before .before .if1 .taken)) _ h, h .0)
+returns-2 c = let h = c .before .in-segment2 .ensures (c .if3 .taken) in (hinted _ _ (c .before .before .before .before .before .before .pre .1) _ h, h .0)
 
 sub-in-segment : tie.Need-sub-in-segment
 sub-in-segment c = search needs
@@ -32,7 +32,7 @@ sub-result : tie.Need-sub-result
 sub-result c = search needs
 
 returns-3 : tie.Need-returns-3
-returns-3 c = let h = c .before .in-segment3 .ensures (c .if6 .taken) in (hinted _ _ (c .before .before .before .before .before .before .before .before .before .before .pre .1 (c .before .before .before .before .before .before .before .before .if1 .taken)) _ h, h .0)
+returns-3 c = let h = c .before .in-segment3 .ensures (c .if5 .taken) in (hinted _ _ (c .before .before .before .before .before .before .before .before .before .pre .1) _ h, h .0)
 
 segment-at-requires : tie.Need-segment-at-requires
 segment-at-requires c κs = search needs

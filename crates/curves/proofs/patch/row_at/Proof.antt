@@ -8,7 +8,7 @@ element-copy-out-near-right : tie.Need-element-copy-out-near-right
 element-copy-out-near-right c = search needs
 
 curve-near-requires : tie.Need-curve-near-requires
-curve-near-requires c κs = let s = c .before .before .before .before .before in (s .pre .0 .0, λ e. s .pre .1 e .0)
+curve-near-requires c κs = c .before .before .before .before .before .pre .0
 
 element-write-hints : tie.Need-element-write-hints
 element-write-hints c = search needs
@@ -17,7 +17,7 @@ element-copy-out-near-left : tie.Need-element-copy-out-near-left
 element-copy-out-near-left c = search needs
 
 curve-near-requires-2 : tie.Need-curve-near-requires-2
-curve-near-requires-2 c κs = let s = c .before .before .before .before .before .before .before in (s .pre .0 .1, λ e. s .pre .1 e .1)
+curve-near-requires-2 c κs = c .before .before .before .before .before .before .before .pre .1
 
 element-write-hints-2 : tie.Need-element-write-hints-2
 element-write-hints-2 c = search needs

@@ -5,19 +5,16 @@ use borrow.Author.Needs.{needs}
 use Rattle.curves.proofs.quad.check_quad.Statement.{statement}
 use Rattle.curves.proofs.quad.check_quad.Tie as tie
 
-signed-area-requires : tie.Need-signed-area-requires
-signed-area-requires c κs = search needs
-
-is-positive-requires : tie.Need-is-positive-requires
-is-positive-requires c κs = search needs
+has-area-requires : tie.Need-has-area-requires
+has-area-requires c κs = search needs
 
 returns : tie.Need-returns
 unfolding outcome quad-test
-returns c = simp (← c .before .before .signed-area .ensures, ← c .before .is-positive .ensures, c .if1 .taken)
+returns c = simp (← c .before .has-area .ensures, c .if1 .taken)
 
 returns-2 : tie.Need-returns-2
 unfolding outcome verdict-of quad-test
-returns-2 c = simp (← c .before .before .signed-area .ensures, ← c .before .is-positive .ensures, c .if1 .left)
+returns-2 c = simp (← c .before .has-area .ensures, c .if1 .left)
 
 pub check-quad-spec : {M : Type 1} → statement M
-check-quad-spec = tie.close (tie.spec signed-area-requires is-positive-requires returns returns-2)
+check-quad-spec = tie.close (tie.spec has-area-requires returns returns-2)

@@ -1,0 +1,2 @@
+-- The laws of level and upright lines. Assumes nothing.
+pub mod Laws
