@@ -1,17 +1,18 @@
 // The public functions on a tile: its mesh from four boundary curves, and its quads and its mesh from a loop of points. specs/Mesh.antt and
 // specs/Tile.antt define what each answers and leaves.
 ghost use mathlib.Core.Path.{_≡_};
-ghost use Prim.Native.Nat.{_*_, _≤_};
+ghost use Prim.Native.Nat.{_≤_};
 ghost use lib.ListN.{length};
 ghost use lib.Dec.{leb};
 ghost use Rattle.counts.specs.Refusal.{outcome};
 ghost use Rattle.curves.specs.Curve.{point-count};
 ghost use Rattle.curves.specs.Coons.{outcome-of, coons-quads};
-ghost use Rattle.mesh.specs.Loop.{piece};
+ghost use Rattle.mesh.specs.Loop.{corner-pair, quarter};
 ghost use Rattle.mesh.specs.Mesh.{mesh-of, needed-cells, mesh-tile-curves};
 ghost use Rattle.mesh.specs.Tile.{tile-test, coons-checked, mesh-tile};
 use crate::boundary::check_loop;
-use crate::boundary::from_loop;
+use crate::boundary::points_used;
+use crate::boundary::quarter;
 use crate::cells::clear;
 use crate::cells::write_cells;
 use crate::cells::zeroes;
@@ -79,27 +80,17 @@ fn check_tile(boundary: &[f64], n_u: u32, n_v: u32) -> Check
     check_loop(boundary)
 }
 
-// The curves of the loop are put into the buffers bottom to left, and the quads go to `out`.
-fn quads_in(
-    boundary: &[f64],
-    n_u: u32,
-    n_v: u32,
-    bottom: &mut [f64],
-    right: &mut [f64],
-    top: &mut [f64],
-    left: &mut [f64],
-    out: &mut [f64],
-) -> GridAnswer
-    requires { ⌜ point-count (now boundary) ≤ 4096 ⌝ }
-    requires { ⌜ (2048 ≤ length (now bottom)) × (2048 ≤ length (now right)) × (2048 ≤ length (now top)) × (2048 ≤ length (now left)) ⌝ }
-    ensures { λ r. ⌜ outcome-of r (now (out .exit)) ≡ coons-quads (piece (now (boundary .entry)) 0) (piece (now (boundary .entry)) 1) (piece (now (boundary .entry)) 2) (piece (now (boundary .entry)) 3) «n_u» «n_v» (now (out .entry)) ⌝ }
+// The quads of a 4-point loop, whose sides share its corners: only the last side, which ends where the loop begins, does not lie in the list.
+fn quads_of_corners(boundary: &[f64], n_u: u32, n_v: u32, out: &mut [f64]) -> GridAnswer
+    requires { ⌜ 8 ≤ length (now boundary) ⌝ }
+    ensures { λ r. ⌜ outcome-of r (now (out .exit)) ≡ coons-quads (corner-pair (now (boundary .entry)) 0) (corner-pair (now (boundary .entry)) 1) (corner-pair (now (boundary .entry)) 2) (corner-pair (now (boundary .entry)) 3) «n_u» «n_v» (now (out .entry)) ⌝ }
 {
-    let n = from_loop(boundary, bottom, right, top, left);
+    let left = [boundary[6], boundary[7], boundary[0], boundary[1]];
     coons_curves(
-        &bottom[..n],
-        &right[..n],
-        &top[..n],
-        &left[..n],
+        &boundary[..4],
+        &boundary[2..6],
+        &boundary[4..8],
+        &left,
         n_u,
         n_v,
         out,
@@ -107,32 +98,64 @@ fn quads_in(
 }
 
 // The same for a mesh.
-fn mesh_in(
+fn mesh_of_corners(
     boundary: &[f64],
     n_u: u32,
     n_v: u32,
-    bottom: &mut [f64],
-    right: &mut [f64],
-    top: &mut [f64],
-    left: &mut [f64],
     points: &mut [f64],
     cells: &mut [u32],
 ) -> GridAnswer
-    requires { ⌜ point-count (now boundary) ≤ 4096 ⌝ }
-    requires { ⌜ (2048 ≤ length (now bottom)) × (2048 ≤ length (now right)) × (2048 ≤ length (now top)) × (2048 ≤ length (now left)) ⌝ }
-    ensures { λ r. ⌜ mesh-of r (now (points .exit)) (now (cells .exit)) ≡ mesh-tile-curves (piece (now (boundary .entry)) 0) (piece (now (boundary .entry)) 1) (piece (now (boundary .entry)) 2) (piece (now (boundary .entry)) 3) «n_u» «n_v» (now (points .entry)) (now (cells .entry)) ⌝ }
+    requires { ⌜ 8 ≤ length (now boundary) ⌝ }
+    ensures { λ r. ⌜ mesh-of r (now (points .exit)) (now (cells .exit)) ≡ mesh-tile-curves (corner-pair (now (boundary .entry)) 0) (corner-pair (now (boundary .entry)) 1) (corner-pair (now (boundary .entry)) 2) (corner-pair (now (boundary .entry)) 3) «n_u» «n_v» (now (points .entry)) (now (cells .entry)) ⌝ }
 {
-    let n = from_loop(boundary, bottom, right, top, left);
+    let left = [boundary[6], boundary[7], boundary[0], boundary[1]];
     mesh_tile_curves(
-        &bottom[..n],
-        &right[..n],
-        &top[..n],
-        &left[..n],
+        &boundary[..4],
+        &boundary[2..6],
+        &boundary[4..8],
+        &left,
         n_u,
         n_v,
         points,
         cells,
     )
+}
+
+// The quads of a loop of 8 points or more, whose quarters are lent as they lie in the list.
+fn quads_of_quarters(
+    boundary: &[f64],
+    used: usize,
+    n_u: u32,
+    n_v: u32,
+    out: &mut [f64],
+) -> GridAnswer
+    requires { ⌜ used ≤ point-count (now boundary) ⌝ }
+    ensures { λ r. ⌜ outcome-of r (now (out .exit)) ≡ coons-quads (quarter (now (boundary .entry)) used 0) (quarter (now (boundary .entry)) used 1) (quarter (now (boundary .entry)) used 2) (quarter (now (boundary .entry)) used 3) «n_u» «n_v» (now (out .entry)) ⌝ }
+{
+    let bottom = quarter(boundary, used, 0);
+    let right = quarter(boundary, used, 1);
+    let top = quarter(boundary, used, 2);
+    let left = quarter(boundary, used, 3);
+    coons_curves(bottom, right, top, left, n_u, n_v, out)
+}
+
+// The same for a mesh.
+fn mesh_of_quarters(
+    boundary: &[f64],
+    used: usize,
+    n_u: u32,
+    n_v: u32,
+    points: &mut [f64],
+    cells: &mut [u32],
+) -> GridAnswer
+    requires { ⌜ used ≤ point-count (now boundary) ⌝ }
+    ensures { λ r. ⌜ mesh-of r (now (points .exit)) (now (cells .exit)) ≡ mesh-tile-curves (quarter (now (boundary .entry)) used 0) (quarter (now (boundary .entry)) used 1) (quarter (now (boundary .entry)) used 2) (quarter (now (boundary .entry)) used 3) «n_u» «n_v» (now (points .entry)) (now (cells .entry)) ⌝ }
+{
+    let bottom = quarter(boundary, used, 0);
+    let right = quarter(boundary, used, 1);
+    let top = quarter(boundary, used, 2);
+    let left = quarter(boundary, used, 3);
+    mesh_tile_curves(bottom, right, top, left, n_u, n_v, points, cells)
 }
 
 // The n_u by n_v quads of a tile.
@@ -142,20 +165,11 @@ pub fn coons_checked(boundary: &[f64], n_u: u32, n_v: u32, out: &mut [f64]) -> G
     if let Check::Refused(cause) = check_tile(boundary, n_u, n_v) {
         return GridAnswer::Refused(cause);
     }
-    let mut bottom = [0.0; 2048];
-    let mut right = [0.0; 2048];
-    let mut top = [0.0; 2048];
-    let mut left = [0.0; 2048];
-    quads_in(
-        boundary,
-        n_u,
-        n_v,
-        &mut bottom,
-        &mut right,
-        &mut top,
-        &mut left,
-        out,
-    )
+    let used = points_used(boundary);
+    if used == 4 {
+        return quads_of_corners(boundary, n_u, n_v, out);
+    }
+    quads_of_quarters(boundary, used, n_u, n_v, out)
 }
 
 // The same quads as a mesh.
@@ -171,19 +185,9 @@ pub fn mesh_tile(
     if let Check::Refused(cause) = check_tile(boundary, n_u, n_v) {
         return GridAnswer::Refused(cause);
     }
-    let mut bottom = [0.0; 2048];
-    let mut right = [0.0; 2048];
-    let mut top = [0.0; 2048];
-    let mut left = [0.0; 2048];
-    mesh_in(
-        boundary,
-        n_u,
-        n_v,
-        &mut bottom,
-        &mut right,
-        &mut top,
-        &mut left,
-        points,
-        cells,
-    )
+    let used = points_used(boundary);
+    if used == 4 {
+        return mesh_of_corners(boundary, n_u, n_v, points, cells);
+    }
+    mesh_of_quarters(boundary, used, n_u, n_v, points, cells)
 }

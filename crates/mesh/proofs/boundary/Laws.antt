@@ -1,20 +1,17 @@
--- The tests of a loop by what their parts say, and its pieces as they are copied to a buffer. Assumes nothing.
+-- The tests of a loop by what their parts say, and its pieces as they are lent. Assumes nothing.
 use mathlib.Core.Path.{_≡_, refl, sym, ap, _∙_}
 use mathlib.Core.Bool.{Bool, true, false, not, _&&_, _||_, cond}
-use mathlib.Core.List.{List, [], _∷_, _++_, append-nil}
+use mathlib.Core.List.{List, [], _∷_, _++_}
 use Prim.Native.Nat.{ℕ, zero, suc, _+_, _-_, _*_, _/_, _%_, _<_, _≤_}
-use native.Mathlib.Numerals.{add-one}
 use native.Mathlib.Omega.{arith}
-use lib.ListN.{length, getD, set, take, drop, length-drop, length-append}
-use lib.Seq.{length-take-le, take-all, take-suc, getD-drop, take-at, drop-at}
+use lib.ListN.{length, getD, take, drop}
+use lib.Seq.{drop-cons, drop-drop, take-add}
 use lib.Dec.{leb, ltb, eqb}
 use lib.Ieee.{Float, nan, eq}
-use borrow.Author.Tests.{leb-true, lt-ltb, le-ltb, le-leb, lt-leb, eq-eqb, ne-eqb, eqb-true, eqb-false}
-use Rattle.counts.specs.Refusal.{Verdict, passed, refused, then-test, refuse-if}
+use borrow.Author.Tests.{leb-true, lt-ltb, le-ltb, le-leb, lt-leb, eq-eqb, ne-eqb}
+use Rattle.counts.specs.Refusal.{passed, refused, then-test, refuse-if}
 use Rattle.curves.specs.Curve.{point-count}
-use Rattle.curves.specs.Lists.{splice}
-use Rattle.curves.proofs.ListLaws.{splice-snoc, part-written}
-use Rattle.mesh.specs.Loop.{same-point, closes, points-used, size-test, fours-test, loop-test, points-from, corner-pair, quarter, piece}
+use Rattle.mesh.specs.Loop.{same-point, closes, points-used, size-test, fours-test, loop-test, corner-pair, quarter, piece}
 
 -- ---- 12
 
@@ -84,24 +81,7 @@ module _ (points : List Float) where
   pub whole-points : point-count points ≤ 4096 → length points % 2 ≡ 0 → fours-test (points-used points) ≡ loop-test points
   whole-points h e = size-by false true (le-ltb 4096 (point-count points) h) (eq-eqb (length points % 2) 0 e)
 
--- ---- copying
-
--- a turn of a loop that copies values of a list l, from its index s on, to a buffer from an index on
-pub copy-turn : (d : List Float) (from : ℕ) (l : List Float) (s : ℕ) (out : List Float) (i : ℕ) → out ≡ splice d from (take i (drop s l)) → from + i < length d → s + i < length l
-    → set out (from + i) (getD l (s + i) nan) ≡ splice d from (take (i + 1) (drop s l))
-copy-turn d from l s out i o h g =
-    let r : List Float = drop s l in
-    let e : length r ≡ length l - s = length-drop s l in
-    let v : Float = getD l (s + i) nan in
-    ap (λ (x : List Float). set x (from + i) v) o
-    ∙ splice-snoc d from (take i r) v (from + i) (ap (λ (n : ℕ). from + n) (sym (length-take-le i r (omega (arith, e))))) h
-    ∙ ap (λ (x : Float). splice d from (take i r ++ (x ∷ []))) (sym (getD-drop s l i nan))
-    ∙ ap (splice d from) (sym (take-suc r i nan (omega (arith, e))) ∙ ap (λ (n : ℕ). take n r) (sym (add-one i)))
-
 -- ---- the pieces
-
-length-points-from : (points : List Float) (k n : ℕ) → 2 * k + 2 * n ≤ length points → length (points-from points k n) ≡ 2 * n
-length-points-from points k n h = let e = length-drop (2 * k) points in length-take-le (2 * n) (drop (2 * k) points) (omega (arith, e, h))
 
 -- the last of the four quarters ends within the whole
 quarter-within : (k n : ℕ) → k < 4 → k * (n / 4) + n / 4 ≤ n
@@ -110,6 +90,10 @@ quarter-within (suc zero) n h = omega arith
 quarter-within (suc (suc zero)) n h = omega arith
 quarter-within (suc (suc (suc zero))) n h = omega arith
 quarter-within (suc (suc (suc (suc k)))) n h = absurd (omega arith)
+
+-- a point, value by value
+point-read : (points : List Float) (i : ℕ) → suc i < length points → take 2 (drop i points) ≡ getD points i nan ∷ getD points (suc i) nan ∷ []
+point-read points i h = ap (take 2) (drop-cons points i nan (omega (arith, h))) ∙ ap (λ (r : List Float). getD points i nan ∷ take 1 r) (drop-cons points (suc i) nan h)
 
 module _ (points : List Float) where
   used-at-most : points-used points ≤ point-count points
@@ -120,59 +104,51 @@ module _ (points : List Float) where
       go true = omega arith
       go false = omega arith
 
-  -- of the number used, as a function has it
+  -- ---- a quarter, as it is lent
+
+  pub quarter-fits : (used k : ℕ) → k < 4 → used ≤ point-count points → 2 * (k * (used / 4)) + 2 * (used / 4) ≤ length points
+  quarter-fits used k h u = let q = quarter-within k used h in omega (arith, q, u)
+
+  pub quarter-lent : (used k : ℕ) → take (2 * (k * (used / 4)) + 2 * (used / 4) - 2 * (k * (used / 4))) (drop (2 * (k * (used / 4))) points) ≡ quarter points used k
+  unfolding quarter
+  quarter-lent used k =
+      let start : ℕ = 2 * (k * (used / 4)) in
+      let e : start + 2 * (used / 4) - start ≡ 2 * (used / 4) = omega arith in
+      ap (λ (n : ℕ). take n (drop start points)) e
+
+  -- ---- the sides of a 4-point loop, as they are lent: three lie in the list
+
+  pub side-0 : take 4 points ≡ corner-pair points 0
+  unfolding corner-pair
+  side-0 = take-add 2 2 points
+
+  pub side-1 : take 4 (drop 2 points) ≡ corner-pair points 1
+  unfolding corner-pair
+  side-1 = take-add 2 2 (drop 2 points) ∙ ap (λ (r : List Float). take 2 (drop 2 points) ++ take 2 r) (drop-drop 2 2 points)
+
+  pub side-2 : take 4 (drop 4 points) ≡ corner-pair points 2
+  unfolding corner-pair
+  side-2 = take-add 2 2 (drop 4 points) ∙ ap (λ (r : List Float). take 2 (drop 4 points) ++ take 2 r) (drop-drop 2 4 points)
+
+  pub side-3 : 8 ≤ length points → getD points 6 nan ∷ getD points 7 nan ∷ getD points 0 nan ∷ getD points 1 nan ∷ [] ≡ corner-pair points 3
+  unfolding corner-pair
+  side-3 h =
+      sym
+      (ap (λ (r : List Float). r ++ take 2 points) (point-read points 6 (omega (arith, h)))
+      ∙ ap (λ (r : List Float). getD points 6 nan ∷ getD points 7 nan ∷ r) (point-read points 0 (omega (arith, h))))
+
+  -- ---- of the number used, as a function has it
+
   module _ (r : ℕ) (e : r ≡ points-used points) where
     pub used-few : r ≤ point-count points
     used-few = let h = used-at-most in omega (arith, e, h)
-
-    pub quarter-fits : (k : ℕ) → k < 4 → 2 * (k * (r / 4)) + 2 * (r / 4) ≤ length points
-    quarter-fits k h = let q = quarter-within k r h in let u = used-few in omega (arith, q, u)
 
     piece-by : (k : ℕ) (b : Bool) → eqb (points-used points) 4 ≡ b → cond b (corner-pair points k) (quarter points (points-used points) k) ≡ piece points k
     unfolding piece
     piece-by k b f = ap (λ (x : Bool). cond x (corner-pair points k) (quarter points (points-used points) k)) (sym f)
 
-    -- the piece of a 4-point loop, written corner by corner
-    pub corners-written : (k : ℕ) (d first out : List Float) → k < 4 → r ≡ 4 → 4 ≤ length d → first ≡ splice d 0 (points-from points k 1) → out ≡ splice first 2 (points-from points ((k + 1) % 4) 1)
-        → (4 ≡ length (piece points k)) × (out ≡ splice d 0 (piece points k))
-    unfolding corner-pair
-    corners-written k d first out h f g w v =
-        let a : List Float = points-from points k 1 in
-        let b : List Float = points-from points ((k + 1) % 4) 1 in
-        let u = used-few in
-        let la : length a ≡ 2 = length-points-from points k 1 (omega (arith, u, f, h)) in
-        let lb : length b ≡ 2 = length-points-from points ((k + 1) % 4) 1 (omega (arith, u, f, h)) in
-        let ls : length (a ++ b) ≡ 4 = length-append a b ∙ ap (λ (n : ℕ). n + length b) la ∙ ap (λ (n : ℕ). 2 + n) lb in
-        let is : a ++ b ≡ piece points k = piece-by k true (eq-eqb (points-used points) 4 (sym e ∙ f)) in
-        let o : out ≡ splice d 0 (take (2 + length b) (a ++ b)) =
-        part-written d first (a ++ b) b [] 2 out (omega (arith, ls)) (omega (arith, ls, g)) (drop-at a b 2 la ∙ sym (append-nil b)) (w ∙ ap (splice d 0) (sym (take-at a b 2 la))) v in (
-          sym ls ∙ ap length is,
-          o ∙ ap (splice d 0) (take-all (2 + length b) (a ++ b) (omega (arith, ls, lb)) ∙ is),
-        )
+    pub corner-piece : r ≡ 4 → (k : ℕ) → corner-pair points k ≡ piece points k
+    corner-piece f k = piece-by k true (eq-eqb (points-used points) 4 (sym e ∙ f))
 
-    -- the piece of a longer loop
-    pub quarter-written : (k : ℕ) (d out : List Float) → k < 4 → (r ≡ 4 → ⊥) → out ≡ splice d 0 (points-from points (k * (r / 4)) (r / 4)) → (2 * (r / 4) ≡ length (piece points k)) × (out ≡ splice d 0 (piece points k))
-    unfolding quarter
-    quarter-written k d out h n w =
-        let is : points-from points (k * (r / 4)) (r / 4) ≡ piece points k =
-        ap (λ (x : ℕ). points-from points (k * (x / 4)) (x / 4)) e ∙ piece-by k false (ne-eqb (points-used points) 4 (λ q. n (e ∙ q))) in (
-          sym (length-points-from points (k * (r / 4)) (r / 4) (quarter-fits k h)) ∙ ap length is,
-          w ∙ ap (splice d 0) is,
-        )
-
-  -- the four pieces are equally long
-  pub pieces-alike : (j k : ℕ) → j < 4 → k < 4 → length (piece points j) ≡ length (piece points k)
-  pieces-alike j k g h = go (eqb used 4) refl
-    where
-      used : ℕ
-      used = points-used points
-
-      corners : (k : ℕ) → k < 4 → used ≡ 4 → 4 ≡ length (piece points k)
-      corners k h e = let u = used-at-most in corners-written used refl k points _ _ h e (omega (arith, u, e)) refl refl .0
-
-      quarters : (k : ℕ) → k < 4 → (used ≡ 4 → ⊥) → 2 * (used / 4) ≡ length (piece points k)
-      quarters k h n = quarter-written used refl k points _ h n refl .0
-
-      go : (b : Bool) → eqb used 4 ≡ b → length (piece points j) ≡ length (piece points k)
-      go true e = let q = eqb-true used 4 e in sym (corners j g q) ∙ corners k h q
-      go false e = let q = eqb-false used 4 e in sym (quarters j g q) ∙ quarters k h q
+    pub quarter-piece : (r ≡ 4 → ⊥) → (k : ℕ) → quarter points r k ≡ piece points k
+    quarter-piece n k = ap (λ (x : ℕ). quarter points x k) e ∙ piece-by k false (ne-eqb (points-used points) 4 (λ q. n (e ∙ q)))

@@ -1,29 +1,26 @@
 -- What the functions on a tile answer and leave, by the outcomes of their tests. Assumes nothing.
 use mathlib.Core.Path.{_≡_, refl, sym, ap, subst, _∙_}
-use mathlib.Core.Bool.{Bool, true, false, not, _||_, cond}
+use mathlib.Core.Bool.{Bool, true, false, _||_, cond}
 use mathlib.Core.List.{List, []}
-use Prim.Native.Nat.{ℕ, _+_, _*_, _/_, _%_, _<_, _≤_}
+use Prim.Native.Nat.{ℕ, _*_, _/_, _<_, _≤_}
 use native.Mathlib.Nat.{mul-le-mul-right}
 use native.Mathlib.Omega.{arith}
-use lib.ListN.{length, take, drop, length-append}
-use lib.Seq.{length-take-le}
-use lib.Dec.{T, leb, ltb, eqb}
+use lib.ListN.{length}
+use lib.Dec.{T, leb, ltb}
 use lib.Ieee.{Float}
-use borrow.Author.Tests.{lt-ltb, le-ltb, ltb-false, le-leb, lt-leb, leb-true, leb-false}
+use borrow.Author.Tests.{lt-ltb, le-ltb, le-leb, lt-leb, leb-true, leb-false}
 use Rattle.counts.specs.Refusal.{Verdict, passed, refused, verdict-of, outcome, is-passed, then-test, refuse-if}
 use Rattle.counts.specs.declared.refusal.Check.{Check}
 use Rattle.counts.specs.declared.refusal.Check.the-variants.{Passed, Refused}
 use Rattle.counts.specs.declared.refusal.Refusal.{Refusal}
-use Rattle.counts.proofs.RefusalLaws.{then-left, then-right, not-refused, refusal-number}
-use Rattle.curves.specs.Curve.{point-count}
+use Rattle.counts.proofs.RefusalLaws.{then-right, refusal-number}
 use Rattle.curves.specs.Lists.{splice}
 use Rattle.curves.specs.Coons.{Outcome, outcome-of, refusal, unless, curves-limit, cells-limit, coons-curves, coons-quads, coons-nodes}
 use Rattle.curves.specs.declared.coons.GridAnswer.{GridAnswer}
 use Rattle.curves.specs.declared.coons.GridAnswer.the-variants as grid-answer
-use Rattle.curves.proofs.ListLaws.{take-splice}
-use Rattle.curves.proofs.TestLaws.{told-passed, follows, refuses}
+use Rattle.curves.proofs.TestLaws.{follows, refuses}
 use Rattle.curves.proofs.coons.Laws.{cells-let-by}
-use Rattle.mesh.specs.Loop.{size-test, loop-test, fours-test, points-used, piece}
+use Rattle.mesh.specs.Loop.{loop-test, piece}
 use Rattle.mesh.specs.Mesh.{Mesh, mesh-of, needed-cells, mesh-cells, no-cells, zeroes, cells-left, with-cells, without-cells, mesh-tile-curves}
 use Rattle.mesh.specs.Tile.{cells-test, tile-test, coons-checked, mesh-tile}
 
@@ -129,20 +126,6 @@ module _ (boundary : List Float) (n m : ℕ) where
   pub in-size : n ≤ 1024 → m ≤ 1024 → loop-test boundary ≡ tile-test boundary n m
   in-size h g = tile-test-by false false (le-ltb 1024 n h) (le-ltb 1024 m g)
 
-  -- a loop that is let by
-  pub few-points : (c : Check) → c ≡ Passed → outcome c ≡ tile-test boundary n m → point-count boundary ≤ 4096
-  unfolding tile-test loop-test size-test
-  few-points c e o =
-      let long : Bool = ltb 4096 (point-count boundary) in
-      let odd : Bool = not (eqb (length boundary % 2) 0) in
-      let p : T (is-passed (tile-test boundary n m)) = subst (λ (v : Verdict). T (is-passed v)) o (told-passed c e) in
-      let q = then-left (size-test boundary) (fours-test (points-used boundary)) (then-right (cells-test n m) (loop-test boundary) p) in
-      ltb-false 4096 (point-count boundary) (neither long odd (not-refused (long || odd) 0 0 0 q))
-    where
-      neither : (a b : Bool) → T (not (a || b)) → a ≡ false
-      neither true b t = absurd t
-      neither false b t = refl
-
   pub mesh-refused : (points : List Float) (cells : List ℕ) (c : Check) (cause : Refusal) → c ≡ Refused cause → outcome c ≡ tile-test boundary n m → mesh-of (grid-answer.Refused cause) points cells ≡ mesh-tile boundary n m points cells
   unfolding outcome-of mesh-of mesh-tile
   mesh-refused points cells c cause e o = refuses _ (λ (v : Verdict). record { grid = refusal points v; cells = cells }) c cause (tile-test boundary n m) e o
@@ -161,17 +144,10 @@ module _ (boundary : List Float) (n m : ℕ) where
   unfolding coons-checked
   quads-follow out x c e o h = h ∙ follows _ (refusal out) c (tile-test boundary n m) e o
 
--- ---- a curve of the loop, at the start of a buffer
-
-module _ (d vs out : List Float) (n : ℕ) (l : n ≡ length vs) (w : out ≡ splice d 0 vs) where
-  pub start-fits : n ≤ length out
-  start-fits = let q = ap length w ∙ length-append vs (drop (0 + length vs) d) in omega (arith, l, q)
-
-  pub start-long : n ≡ length (take n out)
-  start-long = sym (length-take-le n out start-fits)
-
-  pub start-is : take n out ≡ vs
-  start-is = ap (take n) w ∙ take-splice d vs n (sym l)
+-- ---- four curves in place of four
 
 pub in-four-curves : {A : Type 0} (f : List Float → List Float → List Float → List Float → A) (a a′ b b′ c c′ d d′ : List Float) → a ≡ a′ → b ≡ b′ → c ≡ c′ → d ≡ d′ → f a b c d ≡ f a′ b′ c′ d′
 in-four-curves f a a′ b b′ c c′ d d′ p q r s = ap (λ (x : List Float). f x b c d) p ∙ ap (λ (x : List Float). f a′ x c d) q ∙ ap (λ (x : List Float). f a′ b′ x d) r ∙ ap (f a′ b′ c′) s
+
+pub in-four-sides : {A : Type 0} (f : List Float → List Float → List Float → List Float → A) (g h : ℕ → List Float) → ((k : ℕ) → g k ≡ h k) → f (g 0) (g 1) (g 2) (g 3) ≡ f (h 0) (h 1) (h 2) (h 3)
+in-four-sides f g h e = in-four-curves f _ _ _ _ _ _ _ _ (e 0) (e 1) (e 2) (e 3)

@@ -1,7 +1,13 @@
 -- `tile::mesh_tile` meets its contract. Assumes nothing.
-use denote.Ref.{now}
+use mathlib.Core.Path.{_∙_}
+use mathlib.Core.List.{List}
 use native.Mathlib.Omega.{arith}
-use Rattle.mesh.proofs.tile.Laws.{few-points, mesh-refused, mesh-follows}
+use lib.Ieee.{Float}
+use denote.Ref.{now}
+use Rattle.mesh.specs.Mesh.{mesh-tile-curves}
+use Rattle.mesh.specs.Loop.{corner-pair, quarter, piece}
+use Rattle.mesh.proofs.boundary.Laws.{used-few, corner-piece, quarter-piece}
+use Rattle.mesh.proofs.tile.Laws.{mesh-refused, mesh-follows, in-four-sides}
 use borrow.Author.Needs.{needs}
 use Rattle.mesh.proofs.tile.mesh_tile.Statement.{statement}
 use Rattle.mesh.proofs.tile.mesh_tile.Tie as tie
@@ -18,20 +24,11 @@ returns c = mesh-refused _ _ _ (now (c .before .before .before .before .before .
 enum-told : tie.Need-enum-told
 enum-told c = search needs
 
-slice-aggregate-mesh-in : tie.Need-slice-aggregate-mesh-in
-slice-aggregate-mesh-in c = search needs
+points-used-requires : tie.Need-points-used-requires
+points-used-requires c κs = search needs
 
-slice-aggregate-mesh-in-2 : tie.Need-slice-aggregate-mesh-in-2
-slice-aggregate-mesh-in-2 c = search needs
-
-slice-aggregate-mesh-in-3 : tie.Need-slice-aggregate-mesh-in-3
-slice-aggregate-mesh-in-3 c = search needs
-
-slice-aggregate-mesh-in-4 : tie.Need-slice-aggregate-mesh-in-4
-slice-aggregate-mesh-in-4 c = search needs
-
-mesh-in-requires : tie.Need-mesh-in-requires
-mesh-in-requires c κs = (few-points _ _ _ _ (c .before .before .before .before .before .before .enum-told .given .1) (c .before .before .before .before .before .before .before .before .check-tile .ensures), (omega arith, omega arith, omega arith, omega arith))
+mesh-of-corners-requires : tie.Need-mesh-of-corners-requires
+mesh-of-corners-requires c κs = let u = used-few _ _ (c .before .before .before .points-used .ensures) in omega (arith, u, c .before .before .if1 .taken)
 
 same-length : tie.Need-same-length
 same-length c = search needs
@@ -40,7 +37,27 @@ same-length-2 : tie.Need-same-length-2
 same-length-2 c = search needs
 
 returns-2 : tie.Need-returns-2
-returns-2 c = mesh-follows _ _ _ _ _ _ _ (c .before .before .before .before .before .before .before .before .before .before .before .before .before .before .before .enum-told .given .1) (c .before .before .before .before .before .before .before .before .before .before .before .before .before .before .before .before .before .check-tile .ensures) (c .before .before .before .before .before .before .before .before .mesh-in .ensures)
+returns-2 c =
+    let a = c .before .before .before .before .before .before .before .before .before .before .before .before .before .before .before .args in
+    let loop = now (a .boundary) in
+    mesh-follows _ _ _ _ _ _ _ (c .before .before .before .before .before .before .before .before .before .enum-told .given .1) (c .before .before .before .before .before .before .before .before .before .before .before .check-tile .ensures)
+    (c .before .before .before .before .mesh-of-corners .ensures ∙ in-four-sides (λ (b r t l : List Float). mesh-tile-curves b r t l (a .n-u) (a .n-v) (now (a .points)) (now (a .cells))) (corner-pair loop) (piece loop) (corner-piece loop _ (c .before .before .before .before .before .before .before .before .points-used .ensures) (c .before .before .before .before .before .before .before .if1 .taken)))
+
+mesh-of-quarters-requires : tie.Need-mesh-of-quarters-requires
+mesh-of-quarters-requires c κs = used-few _ _ (c .before .before .before .points-used .ensures)
+
+same-length-3 : tie.Need-same-length-3
+same-length-3 c = search needs
+
+same-length-4 : tie.Need-same-length-4
+same-length-4 c = search needs
+
+returns-3 : tie.Need-returns-3
+returns-3 c =
+    let a = c .before .before .before .before .before .before .before .before .before .before .before .before .before .before .before .args in
+    let loop = now (a .boundary) in
+    mesh-follows _ _ _ _ _ _ _ (c .before .before .before .before .before .before .before .before .before .enum-told .given .1) (c .before .before .before .before .before .before .before .before .before .before .before .check-tile .ensures)
+    (c .before .before .before .before .mesh-of-quarters .ensures ∙ in-four-sides (λ (b r t l : List Float). mesh-tile-curves b r t l (a .n-u) (a .n-v) (now (a .points)) (now (a .cells))) (quarter loop (c .before .before .before .before .before .before .before .before .points-used .result)) (piece loop) (quarter-piece loop _ (c .before .before .before .before .before .before .before .before .points-used .ensures) (c .before .before .before .before .before .before .before .if1 .left)))
 
 pub mesh-tile-spec : {M : Type 1} → statement M
 mesh-tile-spec =
@@ -50,11 +67,12 @@ mesh-tile-spec =
     enum-known-cause
     returns
     enum-told
-    slice-aggregate-mesh-in
-    slice-aggregate-mesh-in-2
-    slice-aggregate-mesh-in-3
-    slice-aggregate-mesh-in-4
-    mesh-in-requires
+    points-used-requires
+    mesh-of-corners-requires
     same-length
     same-length-2
-    returns-2)
+    returns-2
+    mesh-of-quarters-requires
+    same-length-3
+    same-length-4
+    returns-3)
