@@ -1,4 +1,5 @@
-//! Random numbers by a fixed seed.
+//! Random numbers by a fixed seed, for the stored cases. These rest on this sequence, and the documented seeds of `scale` on that of
+//! `together::random`: so there are two.
 
 /// Numbers by xorshift, the same on each run.
 pub struct Dice(pub u64);

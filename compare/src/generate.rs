@@ -2,6 +2,7 @@
 //! decides, its answer is stored; the pairs of faults say what they expect, by 01's order of tests.
 
 use crate::dice::Dice;
+use crate::farm::{self, lists, record, Farm};
 use crate::limits;
 use crate::refusal::Refusal;
 use crate::stored::{self, Case};
@@ -32,17 +33,6 @@ pub fn all() -> Cases {
         cases.extend(part?);
     }
     Ok(cases)
-}
-
-/// A record; the places past a side's number of edges hold what would be out of range.
-pub fn record(sides: [&[u16]; 4]) -> Vec<u16> {
-    let mut numbers = Vec::new();
-    for side in sides {
-        numbers.push(side.len() as u16);
-        numbers.extend(side);
-        numbers.resize(numbers.len().next_multiple_of(limits::SIDE), u16::MAX);
-    }
-    numbers
 }
 
 fn lent(length: usize) -> Vec<u32> {
@@ -313,7 +303,7 @@ fn random_records() -> Cases {
         for _ in 0..1 + dice.below(3) {
             let mut side = || -> Vec<u16> { (0..dice.pick(&[0, 0, 1, 1, 2])).map(|_| dice.below(edges + 1) as u16).collect() };
             let sides = [side(), side(), side(), side()];
-            records.extend(record([&sides[0], &sides[1], &sides[2], &sides[3]]));
+            records.extend(record(lists(&sides)));
         }
         let edges = edges as usize;
         let ideals = dice.ideals(edges);
@@ -326,48 +316,9 @@ fn random_records() -> Cases {
     Ok(cases)
 }
 
-/// A field of rows, each cut into regions at its own places: where a cut meets a region of the neighbouring row is a T-junction.
-struct Field {
-    records: Vec<u16>,
-    edges: usize,
-}
-
-fn field(dice: &mut Dice, rows: usize, columns: usize) -> Field {
-    let cuts: Vec<Vec<usize>> = (0..rows).map(|_| random_cuts(dice, columns)).collect();
-    let mut edges = 0;
-    let mut fresh = |number: usize| -> Vec<u16> {
-        edges += number;
-        (edges - number..edges).map(|edge| edge as u16).collect()
-    };
-    // A line between two rows is cut where either row is.
-    let lines: Vec<Vec<usize>> = (0..=rows)
-        .map(|line| {
-            let mut all = cuts[line.min(rows - 1)].clone();
-            all.extend(&cuts[line.max(1) - 1]);
-            all.sort_unstable();
-            all.dedup();
-            all
-        })
-        .collect();
-    let level: Vec<Vec<u16>> = lines.iter().map(|line| fresh(line.len() - 1)).collect();
-    let upright: Vec<Vec<u16>> = cuts.iter().map(|row| fresh(row.len())).collect();
-    let between = |line: usize, from: usize, to: usize| -> &[u16] {
-        let place = |column: usize| lines[line].iter().position(|&cut| cut == column).unwrap_or(0);
-        &level[line][place(from)..place(to)]
-    };
-    let mut records = Vec::new();
-    for row in 0..rows {
-        for (index, pair) in cuts[row].windows(2).enumerate() {
-            let (left, right) = (&upright[row][index..=index], &upright[row][index + 1..index + 2]);
-            records.extend(record([between(row, pair[0], pair[1]), right, between(row + 1, pair[0], pair[1]), left]));
-        }
-    }
-    Field { records, edges }
-}
-
-fn random_cuts(dice: &mut Dice, columns: usize) -> Vec<usize> {
-    let inner = (1..columns).filter(|_| dice.below(2) == 0);
-    std::iter::once(0).chain(inner).chain(std::iter::once(columns)).collect()
+/// A field of rows, each cut into regions at its own places.
+fn field(dice: &mut Dice, rows: usize, columns: u32) -> Farm {
+    farm::cut_rows(rows, columns, || dice.below(2) == 0)
 }
 
 /// Fields with rounds from unbalanced counts under many limits, and their solves.
@@ -378,13 +329,13 @@ fn farms() -> Cases {
         for _ in 0..4 {
             let field = field(&mut dice, rows, columns);
             let ideals = dice.ideals(field.edges);
-            cases.push(stored::solve(field.records.clone(), ideals.clone(), lent(field.edges + 2))?);
+            cases.push(stored::solve(field.regions.clone(), ideals.clone(), lent(field.edges + 2))?);
             for limit in [1, 7, 60, 777, 100_000] {
                 let counts = dice.counts(field.edges, 6);
-                cases.push(stored::round(field.records.clone(), ideals.clone(), counts, limit)?);
+                cases.push(stored::round(field.regions.clone(), ideals.clone(), counts, limit)?);
             }
             let counts = dice.counts(field.edges, 3);
-            cases.push(stored::hold(field.records, counts.clone())?);
+            cases.push(stored::hold(field.regions, counts.clone())?);
             cases.push(stored::energy(counts, ideals)?);
         }
     }
@@ -399,7 +350,7 @@ fn lists_of_rounds() -> Cases {
         let field = field(&mut dice, rows, columns);
         let counts = dice.counts(field.edges, 5);
         let calls = (0..24).map(|_| call(&mut dice, field.edges)).collect();
-        cases.push(stored::rounds(field.records, counts, calls)?);
+        cases.push(stored::rounds(field.regions, counts, calls)?);
     }
     // A free edge that a round takes to 1,000,001: from there on every round is refused with 9.
     let calls = (0..5).map(|_| (vec![2e6, 0.5], 3)).collect();
@@ -438,10 +389,10 @@ fn extreme_ideals() -> Cases {
         let field = field(&mut dice, 2, 3);
         let ideals: Vec<f64> = (0..field.edges).map(|_| dice.pick(&scale)).collect();
         let counts = dice.counts(field.edges, 4);
-        cases.push(stored::round(field.records.clone(), ideals.clone(), counts.clone(), 1000)?);
+        cases.push(stored::round(field.regions.clone(), ideals.clone(), counts.clone(), 1000)?);
         cases.push(stored::energy(counts, ideals)?);
         let small: Vec<f64> = (0..field.edges).map(|_| dice.pick(&scale[..8])).collect();
-        cases.push(stored::solve(field.records, small, lent(field.edges))?);
+        cases.push(stored::solve(field.regions, small, lent(field.edges))?);
     }
     Ok(cases)
 }

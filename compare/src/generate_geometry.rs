@@ -3,7 +3,8 @@
 //! by 01's order of tests.
 
 use crate::dice::Dice;
-use crate::generate::{expected, record, Cases};
+use crate::farm::{lists, record};
+use crate::generate::{expected, Cases};
 use crate::geometry::{Flat, Seams};
 use crate::grids::{self, Boundary, Source};
 use crate::lay::Region;
@@ -493,13 +494,13 @@ fn curve_limits() -> Cases {
     };
     for side in 0..4 {
         cases.push(long(side, 1024).coons_curves()?);
-        cases.push(expected(long(side, 1025).coons_curves()?, Refusal { number: 1, first: 0, second: 0 })?);
+        cases.push(expected(long(side, 1025).coons_curves()?, Refusal::plain(1))?);
     }
     cases.push(long(1, 1023).coons_from_parameters()?);
     cases.push(long(3, 1024).lay()?);
-    cases.push(expected(long(2, 1025).lay()?, Refusal { number: 1, first: 0, second: 0 })?);
+    cases.push(expected(long(2, 1025).lay()?, Refusal::plain(1))?);
     cases.push(long(0, 1024).mesh_tile_curves()?);
-    cases.push(expected(long(0, 1025).mesh_tile_curves()?, Refusal { number: 1, first: 0, second: 0 })?);
+    cases.push(expected(long(0, 1025).mesh_tile_curves()?, Refusal::plain(1))?);
     // Odd lists, and no list at all, on each side.
     for side in 0..4 {
         for length in [0, 1, 2, 3, 5] {
@@ -532,7 +533,7 @@ fn seam_limits() -> Cases {
     cases.push(Input::square().seams(&short, &short, &long, &long).room(isize::MIN).coons_from_parameters()?);
     let mut both = Input::square().seams(&even_seam(1026), &short, &short, &short);
     both.curves[0].truncate(2);
-    cases.push(expected(both.coons_from_parameters()?, Refusal { number: 1, first: 0, second: 0 })?);
+    cases.push(expected(both.coons_from_parameters()?, Refusal::plain(1))?);
     Ok(cases)
 }
 
@@ -588,9 +589,8 @@ fn loop_limits() -> Cases {
     }
     // Four corners, the last one the first: not dropped.
     cases.extend(on_loop(&vec![0.0, 0.0, 1.0, 0.0, 1.0, 1.0, 0.0, 0.0], 1, 1)?);
-    let refused = |number| Refusal { number, first: 0, second: 0 };
-    cases.push(expected(checked(&closed(&square_loop(4095)), 2, 2)?, refused(12))?);
-    cases.push(expected(checked(&closed(&square_loop(4096)), 2, 2)?, refused(1))?);
+    cases.push(expected(checked(&closed(&square_loop(4095)), 2, 2)?, Refusal::plain(12))?);
+    cases.push(expected(checked(&closed(&square_loop(4096)), 2, 2)?, Refusal::plain(1))?);
     cases.push(meshed(&square_loop(4096), 3, 2)?);
     Ok(cases)
 }
@@ -598,16 +598,15 @@ fn loop_limits() -> Cases {
 /// Lay: none or two records, sides of 16 and 17 edges, 255 to 257 counts, seams of 1,025 and 1,026 values, counts near 2^32.
 fn lay_limits() -> Cases {
     let mut cases = Vec::new();
-    let refused = |number| Refusal { number, first: 0, second: 0 };
     for records in [0, 2] {
         let mut input = Input::good();
         input.record = input.record.repeat(records);
-        cases.push(expected(input.lay()?, refused(1))?);
+        cases.push(expected(input.lay()?, Refusal::plain(1))?);
     }
     for side in 0..4 {
         let mut input = Input::good();
         input.record[side * limits::SIDE] = 17;
-        cases.push(expected(input.lay()?, refused(1))?);
+        cases.push(expected(input.lay()?, Refusal::plain(1))?);
     }
     for counts in [0, 1, 7, 8, 255, 256, 257] {
         let mut input = Input::good();
@@ -638,7 +637,7 @@ fn lay_limits() -> Cases {
     let mut input = Input::good();
     input.counts[0] = u32::MAX;
     input.counts[1] = 2;
-    cases.push(expected(input.lay()?, refused(1))?);
+    cases.push(expected(input.lay()?, Refusal::plain(1))?);
     Ok(cases)
 }
 
@@ -922,7 +921,7 @@ fn random_regions() -> Cases {
             input.counts.extend(counts);
             input.seams[side] = random_seam(&mut dice, edges);
         }
-        input.record = record([&sides[0], &sides[1], &sides[2], &sides[3]]);
+        input.record = record(lists(&sides));
         cases.push(input.lay()?);
     }
     Ok(cases)

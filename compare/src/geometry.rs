@@ -44,8 +44,8 @@ fn points(values: &[f64], most: usize) -> Result<Vec<[f64; 2]>, Stop> {
     Ok(values.chunks_exact(2).map(|pair| [pair[0], pair[1]]).collect())
 }
 
-/// Four curves by side number: bottom, right, top, left.
-fn curves(flat: &[Flat; 4]) -> Result<BoundaryCurves, Stop> {
+/// Four curves by side number: bottom, right, top, left; or refusal 1.
+pub fn curves(flat: &[Flat; 4]) -> Result<BoundaryCurves, Stop> {
     let curve = |side: usize| points(&flat[side], limits::CURVE_POINTS);
     Ok(BoundaryCurves { bottom: curve(0)?, right: curve(1)?, top: curve(2)?, left: curve(3)? })
 }

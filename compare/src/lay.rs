@@ -4,6 +4,7 @@
 use crate::geometry::{check_curves, Flat, Seams};
 use crate::limits;
 use crate::refusal::{refused, Stop};
+use crate::solver;
 
 /// What lay is called with; breaks and curves by side number.
 #[derive(Clone, Debug)]
@@ -17,7 +18,10 @@ pub struct Region {
 /// The seams of the region, or the first of 01's tests that it fails: "Lay: 1 (record, counts, curves), 3, 27 (each over sides 0 to 3),
 /// 1 for a seam too long".
 pub fn seams(region: &Region) -> Result<Seams, Stop> {
-    let sides = sides(&region.record)?;
+    if region.record.len() != limits::RECORD {
+        return Err(Stop::Undecided(1));
+    }
+    let sides = solver::sides(&region.record)?;
     if region.counts.len() > limits::EDGES {
         return Err(Stop::Undecided(1));
     }
@@ -39,22 +43,6 @@ pub fn seams(region: &Region) -> Result<Seams, Stop> {
     }
     let seam = |side: usize| seam(&region.breaks[side], &along[side]);
     Ok(Seams { bottom: seam(0), right: seam(1), top: seam(2), left: seam(3) })
-}
-
-/// The edges of the four sides of just one record.
-fn sides(record: &[u16]) -> Result<[Vec<usize>; 4], Stop> {
-    if record.len() != limits::RECORD {
-        return Err(Stop::Undecided(1));
-    }
-    let mut sides: [Vec<usize>; 4] = Default::default();
-    for (side, numbers) in sides.iter_mut().zip(record.chunks_exact(limits::SIDE)) {
-        let edges = usize::from(numbers[0]);
-        if edges > limits::SIDE_EDGES {
-            return Err(Stop::Undecided(1));
-        }
-        side.extend(numbers[1..=edges].iter().map(|&edge| usize::from(edge)));
-    }
-    Ok(sides)
 }
 
 /// "Edge i with count n gives b(i) + (b(i+1) - b(i))·(j/n) for j from 0 to n-1; last stands b(k)."

@@ -6,9 +6,11 @@
 //! - `limits`: 01's limits, which the Rust does not have.
 //! - `solver`, `geometry`: an operation a function, on plain lists.
 //! - `words`, `case`: cases and answers as text.
+//! - `farm`: records, and farms made of rows.
 //! - `lay`: 01's lay, which the Rust does not have.
 //! - `stored`, `grids`: stored cases of the solver and of geometry; `json`, `vector`: from the vectors; `dice`, `generate`,
 //!   `generate_geometry`: made here; `pack`: as bytes (src/bin/stored.rs).
+//! - `tool`: how a tool ends.
 
 include!(concat!(env!("OUT_DIR"), "/published.rs"));
 
@@ -16,6 +18,7 @@ mod quality;
 
 pub mod case;
 pub mod dice;
+pub mod farm;
 pub mod generate;
 pub mod generate_geometry;
 pub mod geometry;
@@ -29,6 +32,7 @@ pub mod solver;
 pub mod stored;
 #[cfg(feature = "library")]
 pub mod together;
+pub mod tool;
 pub mod vector;
 pub mod words;
 

@@ -1,6 +1,7 @@
 //! oracle [FILE]: answers the cases of the file, or of standard input.
 
 use compare::case;
+use compare::tool::ended;
 use std::fs::File;
 use std::io::{self, BufRead, BufReader, BufWriter, Write};
 use std::process::ExitCode;
@@ -8,13 +9,7 @@ use std::process::ExitCode;
 const USAGE: &str = "usage: oracle [FILE]    (no file: cases from standard input; README.md has their format)";
 
 fn main() -> ExitCode {
-    match run() {
-        Ok(()) => ExitCode::SUCCESS,
-        Err(problem) => {
-            eprintln!("oracle: {problem}");
-            ExitCode::FAILURE
-        }
-    }
+    ended("oracle", run())
 }
 
 fn run() -> Result<(), String> {

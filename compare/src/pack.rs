@@ -116,7 +116,7 @@ impl Bytes {
     }
 
     fn verdict(&mut self, refusal: Option<Refusal>) {
-        let refusal = refusal.unwrap_or(Refusal { number: 0, first: 0, second: 0 });
+        let refusal = refusal.unwrap_or(Refusal::plain(0));
         self.number(refusal.number);
         self.number(refusal.first);
         self.number(refusal.second);

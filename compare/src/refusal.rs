@@ -10,6 +10,13 @@ pub struct Refusal {
     pub second: u32,
 }
 
+impl Refusal {
+    /// One that names no place.
+    pub fn plain(number: u32) -> Refusal {
+        Refusal { number, first: 0, second: 0 }
+    }
+}
+
 /// Why an operation has no good answer.
 #[derive(Clone, Debug, PartialEq)]
 pub enum Stop {

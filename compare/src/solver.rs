@@ -38,10 +38,11 @@ pub fn regions(records: &[u16]) -> Result<Vec<Region>, Stop> {
     if !whole || records.len() > limits::REGIONS * limits::RECORD {
         return Err(Stop::Undecided(1));
     }
-    records.chunks_exact(limits::RECORD).map(region).collect()
+    records.chunks_exact(limits::RECORD).map(|record| sides(record).map(Region::new)).collect()
 }
 
-fn region(record: &[u16]) -> Result<Region, Stop> {
+/// The edges of the four sides of one record, or refusal 1.
+pub fn sides(record: &[u16]) -> Result<[Vec<usize>; 4], Stop> {
     let mut sides: [Vec<usize>; 4] = Default::default();
     for (side, numbers) in sides.iter_mut().zip(record.chunks_exact(limits::SIDE)) {
         let edges = usize::from(numbers[0]);
@@ -50,7 +51,7 @@ fn region(record: &[u16]) -> Result<Region, Stop> {
         }
         *side = numbers[1..=edges].iter().map(|&edge| usize::from(edge)).collect();
     }
-    Ok(Region::new(sides))
+    Ok(sides)
 }
 
 /// Refusal 1 for a list that has a value for each edge.
@@ -75,7 +76,7 @@ fn check_counts(counts: &[u32]) -> Result<(), Stop> {
     Ok(())
 }
 
-fn to_usize(counts: &[u32]) -> Vec<usize> {
+pub fn to_usize(counts: &[u32]) -> Vec<usize> {
     counts.iter().map(|&count| count as usize).collect()
 }
 

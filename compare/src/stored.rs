@@ -122,9 +122,8 @@ fn solve_effort(case: &Solve, most: usize) -> usize {
 }
 
 fn round_effort(records: &[u16], counts: &[u32], step: &Step, most: usize) -> usize {
-    let counts: Vec<usize> = counts.iter().map(|&count| count as usize).collect();
     match solver::regions(records) {
-        Ok(regions) => reach::round_effort(&regions, &counts, &step.ideals, step.limit as usize, most),
+        Ok(regions) => reach::round_effort(&regions, &solver::to_usize(counts), &step.ideals, step.limit as usize, most),
         Err(_) => 0,
     }
 }
@@ -144,7 +143,7 @@ pub fn by_01(number: u32, counts: &[u32]) -> Refusal {
     let above = (0..).zip(counts).find(|(_, &count)| count > limits::COUNT);
     match above {
         Some((edge, _)) if number == 9 => Refusal { number, first: edge, second: 0 },
-        _ => Refusal { number, first: 0, second: 0 },
+        _ => Refusal::plain(number),
     }
 }
 

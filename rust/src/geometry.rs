@@ -1,5 +1,6 @@
 //! Curves around a tile, and the grids and meshes between them.
 
+use crate::archive::BySide;
 use crate::raw;
 use crate::refusal::{Refusal, BAD_LOOP, MALFORMED};
 use crate::solver::{wide, wide_counts, Region};
@@ -62,7 +63,7 @@ impl BoundaryCurves {
         Ok(BoundaryCurves { bottom: bottom.to_vec(), right: right.to_vec(), top: top.to_vec(), left: left.to_vec() })
     }
 
-    fn lists(&self) -> raw::Curves<'_> {
+    fn lists(&self) -> BySide<'_> {
         [self.bottom.as_flattened(), self.right.as_flattened(), self.top.as_flattened(), self.left.as_flattened()]
     }
 }
@@ -108,7 +109,7 @@ pub fn coons_from_parameters(
     right_v: &[f64],
 ) -> Result<Vec<Quad>, Refusal> {
     let room = cells(bottom_u.len().saturating_sub(1), left_v.len().saturating_sub(1));
-    quads(room, |out| raw::coons_from_parameters(curves.lists(), [bottom_u, top_u, left_v, right_v], out))
+    quads(room, |out| raw::coons_from_parameters(curves.lists(), [bottom_u, right_v, top_u, left_v], out))
 }
 
 /// The `n_u` by `n_v` quads between four curves, by even seams; each number at most 1,024.
@@ -125,7 +126,7 @@ pub fn coons_from_parameters(
 ///
 /// Refused by 1, 26, 13 to 17, 25.
 pub fn coons_curves(curves: &BoundaryCurves, n_u: usize, n_v: usize) -> Result<Vec<Quad>, Refusal> {
-    quads(cells(n_u, n_v), |out| raw::coons_curves(curves.lists(), wide(n_u), wide(n_v), out))
+    quads(cells(n_u, n_v), |out| raw::coons_curves(curves.lists(), [wide(n_u), wide(n_v)], out))
 }
 
 /// [`coons_curves`] of a tile given by a closed loop of points, at most 4,096; [`BoundaryCurves::from_loop`] says which.
@@ -141,7 +142,7 @@ pub fn coons_curves(curves: &BoundaryCurves, n_u: usize, n_v: usize) -> Result<V
 ///
 /// Refused by 1, 12, 26, 13 to 17, 25.
 pub fn coons_checked(points: &[Point], n_u: usize, n_v: usize) -> Result<Vec<Quad>, Refusal> {
-    quads(cells(n_u, n_v), |out| raw::coons_checked(points.as_flattened(), wide(n_u), wide(n_v), out))
+    quads(cells(n_u, n_v), |out| raw::coons_checked(points.as_flattened(), [wide(n_u), wide(n_v)], out))
 }
 
 /// The quads of one region by the counts of its edges, as a solve finds them. Edge `i` of a side has the part of the side's curve from
@@ -207,7 +208,7 @@ fn mesh(n_u: usize, n_v: usize, fill: impl FnOnce(&mut [f64], &mut [u32]) -> Res
 ///
 /// Refused as [`coons_curves`].
 pub fn mesh_tile_curves(curves: &BoundaryCurves, n_u: usize, n_v: usize) -> Result<Mesh, Refusal> {
-    mesh(n_u, n_v, |points, cells| raw::mesh_tile_curves(curves.lists(), wide(n_u), wide(n_v), points, cells))
+    mesh(n_u, n_v, |points, cells| raw::mesh_tile_curves(curves.lists(), [wide(n_u), wide(n_v)], points, cells))
 }
 
 /// [`mesh_tile_curves`] of a tile given by a closed loop of points, as [`coons_checked`] reads it.
@@ -221,7 +222,7 @@ pub fn mesh_tile_curves(curves: &BoundaryCurves, n_u: usize, n_v: usize) -> Resu
 /// Refused as [`coons_checked`].
 pub fn mesh_tile(points: &[Point], n_u: usize, n_v: usize) -> Result<Mesh, Refusal> {
     let boundary = points.as_flattened();
-    mesh(n_u, n_v, |points, cells| raw::mesh_tile(boundary, wide(n_u), wide(n_v), points, cells))
+    mesh(n_u, n_v, |points, cells| raw::mesh_tile(boundary, [wide(n_u), wide(n_v)], points, cells))
 }
 
 /// The signed area of a quad, above 0 if it runs counter-clockwise. It is plain Rust.

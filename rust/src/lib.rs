@@ -41,6 +41,7 @@
 
 #![warn(missing_docs)]
 
+mod archive;
 mod geometry;
 mod raw;
 mod refusal;

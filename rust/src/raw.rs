@@ -1,349 +1,67 @@
-//! The functions of the archive, as include/juplatsk.h declares them, each behind a function over slices. A `&mut` slice overlaps no
-//! other, no slice is null or misaligned, and each has its length: so the conditions that the header names are met here by the types.
+//! The functions of the archive with a `Result`: what they tell, or the refusal.
 
+use crate::archive::{self, Answer, BySide};
 use crate::refusal::Refusal;
 
-mod archive {
-    extern "C" {
-        pub fn juplatsk_solve_counts(
-            regions: *const u16,
-            regions_len: usize,
-            ideals: *const f64,
-            ideals_len: usize,
-            counts: *mut u32,
-            counts_len: usize,
-            answer: *mut [u32; 3],
-        ) -> u32;
-        pub fn juplatsk_round(
-            regions: *const u16,
-            regions_len: usize,
-            ideals: *const f64,
-            ideals_len: usize,
-            counts: *mut u32,
-            counts_len: usize,
-            limit: u32,
-            answer: *mut [u32; 4],
-            cost: *mut [f64; 1],
-        ) -> u32;
-        pub fn juplatsk_energy(
-            counts: *const u32,
-            counts_len: usize,
-            ideals: *const f64,
-            ideals_len: usize,
-            answer: *mut [u32; 2],
-            sum: *mut [f64; 1],
-        ) -> u32;
-        pub fn juplatsk_constraints_hold(
-            regions: *const u16,
-            regions_len: usize,
-            counts: *const u32,
-            counts_len: usize,
-            answer: *mut [u32; 3],
-        ) -> u32;
-        pub fn juplatsk_root(x: f64, root: *mut [f64; 1]) -> u32;
-        pub fn juplatsk_coons_from_parameters(
-            bottom: *const f64,
-            bottom_len: usize,
-            right: *const f64,
-            right_len: usize,
-            top: *const f64,
-            top_len: usize,
-            left: *const f64,
-            left_len: usize,
-            bottom_u: *const f64,
-            bottom_u_len: usize,
-            top_u: *const f64,
-            top_u_len: usize,
-            left_v: *const f64,
-            left_v_len: usize,
-            right_v: *const f64,
-            right_v_len: usize,
-            out: *mut f64,
-            out_len: usize,
-            answer: *mut [u32; 3],
-        ) -> u32;
-        pub fn juplatsk_coons_curves(
-            bottom: *const f64,
-            bottom_len: usize,
-            right: *const f64,
-            right_len: usize,
-            top: *const f64,
-            top_len: usize,
-            left: *const f64,
-            left_len: usize,
-            n_u: u32,
-            n_v: u32,
-            out: *mut f64,
-            out_len: usize,
-            answer: *mut [u32; 3],
-        ) -> u32;
-        pub fn juplatsk_lay_region(
-            region: *const u16,
-            region_len: usize,
-            counts: *const u32,
-            counts_len: usize,
-            breaks0: *const f64,
-            breaks0_len: usize,
-            breaks1: *const f64,
-            breaks1_len: usize,
-            breaks2: *const f64,
-            breaks2_len: usize,
-            breaks3: *const f64,
-            breaks3_len: usize,
-            bottom: *const f64,
-            bottom_len: usize,
-            right: *const f64,
-            right_len: usize,
-            top: *const f64,
-            top_len: usize,
-            left: *const f64,
-            left_len: usize,
-            out: *mut f64,
-            out_len: usize,
-            answer: *mut [u32; 3],
-        ) -> u32;
-        pub fn juplatsk_mesh_tile_curves(
-            bottom: *const f64,
-            bottom_len: usize,
-            right: *const f64,
-            right_len: usize,
-            top: *const f64,
-            top_len: usize,
-            left: *const f64,
-            left_len: usize,
-            n_u: u32,
-            n_v: u32,
-            points: *mut f64,
-            points_len: usize,
-            cells: *mut u32,
-            cells_len: usize,
-            answer: *mut [u32; 3],
-        ) -> u32;
-        pub fn juplatsk_coons_checked(
-            boundary: *const f64,
-            boundary_len: usize,
-            n_u: u32,
-            n_v: u32,
-            out: *mut f64,
-            out_len: usize,
-            answer: *mut [u32; 3],
-        ) -> u32;
-        pub fn juplatsk_mesh_tile(
-            boundary: *const f64,
-            boundary_len: usize,
-            n_u: u32,
-            n_v: u32,
-            points: *mut f64,
-            points_len: usize,
-            cells: *mut u32,
-            cells_len: usize,
-            answer: *mut [u32; 3],
-        ) -> u32;
-    }
-}
-
 /// The third of the numbers told, or the refusal.
-fn told(number: u32, answer: [u32; 3]) -> Result<u32, Refusal> {
+fn told(call: impl FnOnce(Answer) -> u32) -> Result<u32, Refusal> {
+    let mut answer = [0; 3];
+    let number = call(&mut answer);
     Refusal::unless_accepted(number, answer[0], answer[1])?;
     Ok(answer[2])
 }
 
 /// The number of moves.
 pub fn solve_counts(regions: &[u16], ideals: &[f64], counts: &mut [u32]) -> Result<u32, Refusal> {
-    let mut answer = [0; 3];
-    let number = unsafe {
-        archive::juplatsk_solve_counts(
-            regions.as_ptr(),
-            regions.len(),
-            ideals.as_ptr(),
-            ideals.len(),
-            counts.as_mut_ptr(),
-            counts.len(),
-            &mut answer,
-        )
-    };
-    told(number, answer)
+    told(|answer| archive::solve_counts(regions, ideals, counts, answer))
 }
 
 /// The cost of the move, if one was made, and whether a search was cut.
 pub fn round(regions: &[u16], ideals: &[f64], counts: &mut [u32], limit: u32) -> Result<(Option<f64>, bool), Refusal> {
-    let mut answer = [0; 4];
-    let mut cost = [0.0];
-    let number = unsafe {
-        archive::juplatsk_round(
-            regions.as_ptr(),
-            regions.len(),
-            ideals.as_ptr(),
-            ideals.len(),
-            counts.as_mut_ptr(),
-            counts.len(),
-            limit,
-            &mut answer,
-            &mut cost,
-        )
-    };
+    let (mut answer, mut cost) = ([0; 4], [0.0]);
+    let number = archive::round(regions, ideals, counts, limit, &mut answer, &mut cost);
     Refusal::unless_accepted(number, answer[0], answer[1])?;
     Ok(((answer[2] == 1).then_some(cost[0]), answer[3] == 1))
 }
 
 pub fn energy(counts: &[u32], ideals: &[f64]) -> Result<f64, Refusal> {
-    let mut answer = [0; 2];
-    let mut sum = [0.0];
-    let number = unsafe { archive::juplatsk_energy(counts.as_ptr(), counts.len(), ideals.as_ptr(), ideals.len(), &mut answer, &mut sum) };
+    let (mut answer, mut sum) = ([0; 2], [0.0]);
+    let number = archive::energy(counts, ideals, &mut answer, &mut sum);
     Refusal::unless_accepted(number, answer[0], answer[1])?;
     Ok(sum[0])
 }
 
 pub fn constraints_hold(regions: &[u16], counts: &[u32]) -> Result<bool, Refusal> {
-    let mut answer = [0; 3];
-    let number = unsafe { archive::juplatsk_constraints_hold(regions.as_ptr(), regions.len(), counts.as_ptr(), counts.len(), &mut answer) };
-    Ok(told(number, answer)? == 1)
+    Ok(told(|answer| archive::constraints_hold(regions, counts, answer))? == 1)
 }
 
 pub fn root(x: f64) -> Result<f64, Refusal> {
     let mut root = [0.0];
-    let number = unsafe { archive::juplatsk_root(x, &mut root) };
-    Refusal::unless_accepted(number, 0, 0)?;
+    Refusal::unless_accepted(archive::root(x, &mut root), 0, 0)?;
     Ok(root[0])
 }
 
-/// The curves of a tile by side: bottom, right, top, left.
-pub type Curves<'a> = [&'a [f64]; 4];
-
-/// The number of quads, as of all below. The seams stand in the order bottom, top, left, right.
-pub fn coons_from_parameters(curves: Curves, seams: [&[f64]; 4], out: &mut [f64]) -> Result<u32, Refusal> {
-    let [bottom, right, top, left] = curves;
-    let [bottom_u, top_u, left_v, right_v] = seams;
-    let mut answer = [0; 3];
-    let number = unsafe {
-        archive::juplatsk_coons_from_parameters(
-            bottom.as_ptr(),
-            bottom.len(),
-            right.as_ptr(),
-            right.len(),
-            top.as_ptr(),
-            top.len(),
-            left.as_ptr(),
-            left.len(),
-            bottom_u.as_ptr(),
-            bottom_u.len(),
-            top_u.as_ptr(),
-            top_u.len(),
-            left_v.as_ptr(),
-            left_v.len(),
-            right_v.as_ptr(),
-            right_v.len(),
-            out.as_mut_ptr(),
-            out.len(),
-            &mut answer,
-        )
-    };
-    told(number, answer)
+/// The number of quads, as of all below.
+pub fn coons_from_parameters(curves: BySide, seams: BySide, out: &mut [f64]) -> Result<u32, Refusal> {
+    told(|answer| archive::coons_from_parameters(curves, seams, out, answer))
 }
 
-pub fn coons_curves(curves: Curves, n_u: u32, n_v: u32, out: &mut [f64]) -> Result<u32, Refusal> {
-    let [bottom, right, top, left] = curves;
-    let mut answer = [0; 3];
-    let number = unsafe {
-        archive::juplatsk_coons_curves(
-            bottom.as_ptr(),
-            bottom.len(),
-            right.as_ptr(),
-            right.len(),
-            top.as_ptr(),
-            top.len(),
-            left.as_ptr(),
-            left.len(),
-            n_u,
-            n_v,
-            out.as_mut_ptr(),
-            out.len(),
-            &mut answer,
-        )
-    };
-    told(number, answer)
+pub fn coons_curves(curves: BySide, cells: [u32; 2], out: &mut [f64]) -> Result<u32, Refusal> {
+    told(|answer| archive::coons_curves(curves, cells, out, answer))
 }
 
-/// The breaks stand by side, 0 to 3.
-pub fn lay_region(region: &[u16], counts: &[u32], breaks: [&[f64]; 4], curves: Curves, out: &mut [f64]) -> Result<u32, Refusal> {
-    let [bottom, right, top, left] = curves;
-    let mut answer = [0; 3];
-    let number = unsafe {
-        archive::juplatsk_lay_region(
-            region.as_ptr(),
-            region.len(),
-            counts.as_ptr(),
-            counts.len(),
-            breaks[0].as_ptr(),
-            breaks[0].len(),
-            breaks[1].as_ptr(),
-            breaks[1].len(),
-            breaks[2].as_ptr(),
-            breaks[2].len(),
-            breaks[3].as_ptr(),
-            breaks[3].len(),
-            bottom.as_ptr(),
-            bottom.len(),
-            right.as_ptr(),
-            right.len(),
-            top.as_ptr(),
-            top.len(),
-            left.as_ptr(),
-            left.len(),
-            out.as_mut_ptr(),
-            out.len(),
-            &mut answer,
-        )
-    };
-    told(number, answer)
+pub fn lay_region(region: &[u16], counts: &[u32], breaks: BySide, curves: BySide, out: &mut [f64]) -> Result<u32, Refusal> {
+    told(|answer| archive::lay_region(region, counts, breaks, curves, out, answer))
 }
 
-pub fn mesh_tile_curves(curves: Curves, n_u: u32, n_v: u32, points: &mut [f64], cells: &mut [u32]) -> Result<u32, Refusal> {
-    let [bottom, right, top, left] = curves;
-    let mut answer = [0; 3];
-    let number = unsafe {
-        archive::juplatsk_mesh_tile_curves(
-            bottom.as_ptr(),
-            bottom.len(),
-            right.as_ptr(),
-            right.len(),
-            top.as_ptr(),
-            top.len(),
-            left.as_ptr(),
-            left.len(),
-            n_u,
-            n_v,
-            points.as_mut_ptr(),
-            points.len(),
-            cells.as_mut_ptr(),
-            cells.len(),
-            &mut answer,
-        )
-    };
-    told(number, answer)
+pub fn coons_checked(boundary: &[f64], cells: [u32; 2], out: &mut [f64]) -> Result<u32, Refusal> {
+    told(|answer| archive::coons_checked(boundary, cells, out, answer))
 }
 
-pub fn coons_checked(boundary: &[f64], n_u: u32, n_v: u32, out: &mut [f64]) -> Result<u32, Refusal> {
-    let mut answer = [0; 3];
-    let number =
-        unsafe { archive::juplatsk_coons_checked(boundary.as_ptr(), boundary.len(), n_u, n_v, out.as_mut_ptr(), out.len(), &mut answer) };
-    told(number, answer)
+pub fn mesh_tile_curves(curves: BySide, cells: [u32; 2], points: &mut [f64], indices: &mut [u32]) -> Result<u32, Refusal> {
+    told(|answer| archive::mesh_tile_curves(curves, cells, points, indices, answer))
 }
 
-pub fn mesh_tile(boundary: &[f64], n_u: u32, n_v: u32, points: &mut [f64], cells: &mut [u32]) -> Result<u32, Refusal> {
-    let mut answer = [0; 3];
-    let number = unsafe {
-        archive::juplatsk_mesh_tile(
-            boundary.as_ptr(),
-            boundary.len(),
-            n_u,
-            n_v,
-            points.as_mut_ptr(),
-            points.len(),
-            cells.as_mut_ptr(),
-            cells.len(),
-            &mut answer,
-        )
-    };
-    told(number, answer)
+pub fn mesh_tile(boundary: &[f64], cells: [u32; 2], points: &mut [f64], indices: &mut [u32]) -> Result<u32, Refusal> {
+    told(|answer| archive::mesh_tile(boundary, cells, points, indices, answer))
 }

@@ -3,18 +3,13 @@
 
 use compare::together::growth;
 use compare::together::plot::Plot;
+use compare::tool::ended;
 use std::path::Path;
 use std::process::ExitCode;
 use std::{env, fs};
 
 fn main() -> ExitCode {
-    match run() {
-        Ok(()) => ExitCode::SUCCESS,
-        Err(problem) => {
-            eprintln!("growth: {problem}");
-            ExitCode::FAILURE
-        }
-    }
+    ended("growth", run())
 }
 
 fn run() -> Result<(), String> {

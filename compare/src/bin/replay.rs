@@ -2,32 +2,26 @@
 //! if none does.
 
 use compare::together::{call, line};
+use compare::tool::ended;
 use std::process::ExitCode;
 use std::{env, fs};
 
 fn main() -> ExitCode {
-    match run() {
-        Ok(0) => ExitCode::SUCCESS,
-        Ok(different) => {
-            eprintln!("replay: {different} differ");
-            ExitCode::FAILURE
-        }
-        Err(problem) => {
-            eprintln!("replay: {problem}");
-            ExitCode::FAILURE
-        }
-    }
+    ended("replay", run())
 }
 
-/// The number of cases that differ.
-fn run() -> Result<usize, String> {
+fn run() -> Result<(), String> {
     let files: Vec<String> = env::args().skip(1).collect();
     if files.is_empty() {
         return Err("usage: replay FILES..    (files in the format of the vectors; README.md says more)".to_string());
     }
-    files.iter().map(|path| replay(path)).sum()
+    match files.iter().map(|path| replay(path)).sum::<Result<usize, String>>()? {
+        0 => Ok(()),
+        different => Err(format!("{different} differ")),
+    }
 }
 
+/// The number of cases that differ.
 fn replay(path: &str) -> Result<usize, String> {
     let bytes = fs::read(path).map_err(|e| format!("{path}: {e}"))?;
     let text = String::from_utf8(bytes).map_err(|_| format!("{path}: this is no text"))?;

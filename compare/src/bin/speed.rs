@@ -2,19 +2,14 @@
 //! take the Rust minutes.
 
 use compare::together::{farms, speed};
+use compare::tool::ended;
 use std::env;
 use std::process::ExitCode;
 
 const FARMS: &str = concat!(env!("CARGO_MANIFEST_DIR"), "/../../shared/oracle/farms.txt");
 
 fn main() -> ExitCode {
-    match run() {
-        Ok(()) => ExitCode::SUCCESS,
-        Err(problem) => {
-            eprintln!("speed: {problem}");
-            ExitCode::FAILURE
-        }
-    }
+    ended("speed", run())
 }
 
 fn run() -> Result<(), String> {

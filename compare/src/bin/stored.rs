@@ -4,6 +4,7 @@
 //! Each vector is put to the oracle again, and must be answered as it says. README.md has the command.
 
 use compare::stored::{self, Case};
+use compare::tool::ended;
 use compare::{generate, generate_geometry, pack, vector};
 use std::collections::HashSet;
 use std::process::ExitCode;
@@ -13,13 +14,7 @@ use std::{env, fs};
 const EFFORT: usize = 500_000;
 
 fn main() -> ExitCode {
-    match run() {
-        Ok(()) => ExitCode::SUCCESS,
-        Err(problem) => {
-            eprintln!("stored: {problem}");
-            ExitCode::FAILURE
-        }
-    }
+    ended("stored", run())
 }
 
 fn run() -> Result<(), String> {

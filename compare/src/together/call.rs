@@ -1,6 +1,7 @@
 //! A call of a public function with all that it is lent, and its effect: the answer and the whole of each buffer after it.
 
-use super::library::{self, Sides};
+use super::library;
+use crate::farm::lists;
 use std::fmt::Debug;
 
 /// What f64 output holds before a call.
@@ -8,7 +9,10 @@ pub const LENT_FLOAT: f64 = std::f64::consts::PI;
 /// What output of 32 bits holds before a call.
 pub const LENT_NUMBER: u32 = 0xA5A5_A5A5;
 
-/// Curves, seams and breaks stand by side number: bottom, right, top, left. Output is lent by its length.
+/// Four lists by side number: bottom, right, top, left.
+pub type Sides = [Vec<f64>; 4];
+
+/// A call. Output is lent by its length.
 #[derive(Clone, Debug, PartialEq)]
 pub enum Call {
     Solve {
@@ -83,7 +87,7 @@ pub struct Step {
 }
 
 /// Answer and buffers after a call. What a function does not have is empty or 0.
-#[derive(Clone, Debug)]
+#[derive(Clone, Debug, Default)]
 pub struct Effect {
     pub refusal: u32,
     pub places: [u32; 2],
@@ -166,15 +170,15 @@ impl Call {
                 Effect { value: root[0], ..told(refusal, [0; 3]) }
             }
             Call::FromParameters { curves, seams, out } => {
-                grid(*out, |out, answer| library::coons_from_parameters(curves, seams, out, answer))
+                grid(*out, |out, answer| library::coons_from_parameters(lists(curves), lists(seams), out, answer))
             }
-            Call::Curves { curves, cells, out } => grid(*out, |out, answer| library::coons_curves(curves, *cells, out, answer)),
+            Call::Curves { curves, cells, out } => grid(*out, |out, answer| library::coons_curves(lists(curves), *cells, out, answer)),
             Call::Lay { record, counts, breaks, curves, out } => {
-                grid(*out, |out, answer| library::lay_region(record, counts, breaks, curves, out, answer))
+                grid(*out, |out, answer| library::lay_region(record, counts, lists(breaks), lists(curves), out, answer))
             }
             Call::Checked { boundary, cells, out } => grid(*out, |out, answer| library::coons_checked(boundary, *cells, out, answer)),
             Call::MeshCurves { curves, cells, points, indices } => {
-                mesh(*points, *indices, |points, indices, answer| library::mesh_tile_curves(curves, *cells, points, indices, answer))
+                mesh(*points, *indices, |points, indices, answer| library::mesh_tile_curves(lists(curves), *cells, points, indices, answer))
             }
             Call::Mesh { boundary, cells, points, indices } => {
                 mesh(*points, *indices, |points, indices, answer| library::mesh_tile(boundary, *cells, points, indices, answer))
@@ -186,7 +190,7 @@ impl Call {
 
 fn told(refusal: u32, answer: [u32; 3]) -> Effect {
     let [first, second, number] = answer;
-    Effect { refusal, places: [first, second], number, cut: 0, value: 0.0, numbers: Vec::new(), floats: Vec::new() }
+    Effect { refusal, places: [first, second], number, ..Effect::default() }
 }
 
 fn rounds(regions: &[u16], counts: &[u32], steps: &[Step]) -> Vec<Effect> {

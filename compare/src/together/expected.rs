@@ -1,157 +1,77 @@
-//! The effect that a call must have: the oracle's answer, and 01's table where the Rust does not decide (the limits, 1, 8, 9, 10, 11, 27,
-//! 28, lay, lent buffers).
+//! The effect that a call must have, by the stored case of the same input: its answer is the oracle's, and that of 01's table where the Rust
+//! does not decide (the limits, 1, 8, 9, 10, 11, 27, 28, lay, lent buffers).
 
-use super::call::{Call, Effect, Step, LENT_FLOAT, LENT_NUMBER};
-use super::library::Sides;
-use crate::geometry::{self, Grid, Seams, Tile};
-use crate::lay::{self, Region};
-use crate::limits;
-use crate::refusal::{Refusal, Stop};
-use crate::solver;
-use crate::stored::settled;
+use super::call::{Call, Effect, LENT_FLOAT, LENT_NUMBER};
+use crate::geometry::Seams;
+use crate::grids::{self, Boundary, Source};
+use crate::lay::Region;
+use crate::refusal::Refusal;
+use crate::stored::{self, Case, Step};
 
 /// One effect for each round of a list, else just one. An error: the oracle is at fault.
 pub fn effects(call: &Call) -> Result<Vec<Effect>, String> {
-    match call {
-        Call::Round { regions, counts, step } => rounds(regions, counts, std::slice::from_ref(step)),
-        Call::Rounds { regions, counts, steps } => rounds(regions, counts, steps),
-        other => effect(other).map(|effect| vec![effect]),
-    }
+    Ok(match case(call.clone())? {
+        Case::Solve(case) => vec![Effect { numbers: case.after, ..counted(case.answer) }],
+        Case::Round(case) => vec![round(case.step)],
+        Case::Rounds(case) => case.steps.into_iter().map(round).collect(),
+        Case::Energy(case) => vec![valued(case.answer)],
+        Case::Hold(case) => vec![counted(case.answer.map(u32::from))],
+        Case::Root(case) => vec![valued(case.answer)],
+        Case::Grid(case) => vec![Effect { floats: lent(case.written, LENT_FLOAT, case.lent), ..counted(case.answer) }],
+        Case::Tile(case) => {
+            let floats = lent(case.written.points, LENT_FLOAT, case.lent_points);
+            vec![Effect { floats, numbers: lent(case.written.cells, LENT_NUMBER, case.lent_cells), ..counted(case.answer) }]
+        }
+    })
 }
 
-fn effect(call: &Call) -> Result<Effect, String> {
+fn case(call: Call) -> Result<Case, String> {
+    let even = |boundary: Boundary, [n_u, n_v]: [u32; 2], out: usize| grids::grid(Source::Even(boundary, n_u, n_v), out);
     match call {
-        Call::Solve { regions, ideals, counts } => solve(regions, ideals, counts),
-        Call::Energy { counts, ideals } => {
-            let answer = settled(solver::energy(counts, ideals), counts)?;
-            Ok(answer.map_or_else(refused, |value| Effect { value, ..accepted(0) }))
+        Call::Solve { regions, ideals, counts } => stored::solve(regions, ideals, counts),
+        Call::Round { regions, counts, step } => stored::round(regions, step.ideals, counts, step.limit),
+        Call::Rounds { regions, counts, steps } => {
+            stored::rounds(regions, counts, steps.into_iter().map(|step| (step.ideals, step.limit)).collect())
         }
-        Call::Hold { regions, counts } => {
-            Ok(settled(solver::hold(regions, counts), &[])?.map_or_else(refused, |holds| accepted(u32::from(holds))))
+        Call::Energy { counts, ideals } => stored::energy(counts, ideals),
+        Call::Hold { regions, counts } => stored::hold(regions, counts),
+        Call::Root { x } => grids::root(x),
+        Call::FromParameters { curves, seams: [bottom, right, top, left], out } => {
+            grids::grid(Source::Parameters(curves, Seams { bottom, top, left, right }), out)
         }
-        Call::Root { x } => Ok(settled(geometry::root(*x), &[])?.map_or_else(refused, |value| Effect { value, ..accepted(0) })),
-        Call::FromParameters { curves, seams, out } => {
-            let [bottom, right, top, left] = seams.clone();
-            from_parameters(curves, Seams { bottom, top, left, right }, *out)
-        }
-        Call::Curves { curves, cells, out } => grid(geometry::coons_curves(curves, cells[0], cells[1]), *cells, *out),
-        Call::Checked { boundary, cells, out } => grid(geometry::coons_checked(boundary, cells[0], cells[1]), *cells, *out),
-        Call::Lay { record, counts, breaks, curves, out } => {
-            let (record, counts, breaks, curves) = (record.clone(), counts.clone(), breaks.clone(), curves.clone());
-            let region = Region { record, counts, breaks, curves };
-            match settled(lay::seams(&region), &[])? {
-                Err(refusal) => Ok(Effect { floats: vec![LENT_FLOAT; *out], ..refused(refusal) }),
-                Ok(seams) => from_parameters(&region.curves, seams, *out),
-            }
-        }
-        Call::MeshCurves { curves, cells, points, indices } => {
-            mesh(geometry::mesh_tile_curves(curves, cells[0], cells[1]), *cells, *points, *indices)
-        }
-        Call::Mesh { boundary, cells, points, indices } => {
-            mesh(geometry::mesh_tile(boundary, cells[0], cells[1]), *cells, *points, *indices)
-        }
-        Call::Round { .. } | Call::Rounds { .. } => unreachable!("rounds have a list of effects"),
+        Call::Curves { curves, cells, out } => even(Boundary::Curves(curves), cells, out),
+        Call::Checked { boundary, cells, out } => even(Boundary::Loop(boundary), cells, out),
+        Call::Lay { record, counts, breaks, curves, out } => grids::grid(Source::Lay(Region { record, counts, breaks, curves }), out),
+        Call::MeshCurves { curves, cells: [n_u, n_v], points, indices } => grids::tile(Boundary::Curves(curves), n_u, n_v, points, indices),
+        Call::Mesh { boundary, cells: [n_u, n_v], points, indices } => grids::tile(Boundary::Loop(boundary), n_u, n_v, points, indices),
     }
-}
-
-fn accepted(number: u32) -> Effect {
-    Effect { refusal: 0, places: [0; 2], number, cut: 0, value: 0.0, numbers: Vec::new(), floats: Vec::new() }
 }
 
 fn refused(refusal: Refusal) -> Effect {
-    Effect { refusal: refusal.number, places: [refusal.first, refusal.second], ..accepted(0) }
+    Effect { refusal: refusal.number, places: [refusal.first, refusal.second], ..Effect::default() }
 }
 
-fn plain(number: u32) -> Refusal {
-    Refusal { number, first: 0, second: 0 }
+fn counted(answer: Result<u32, Refusal>) -> Effect {
+    answer.map_or_else(refused, |number| Effect { number, ..Effect::default() })
 }
 
-/// 11 comes behind 1 alone, and 7 leaves zeros.
-fn solve(regions: &[u16], ideals: &[f64], counts: &[u32]) -> Result<Effect, String> {
-    let mut numbers = counts.to_vec();
-    let malformed = solver::regions(regions).is_err() || ideals.len() > limits::EDGES;
-    if !malformed && counts.len() < ideals.len() {
-        return Ok(Effect { numbers, ..refused(plain(11)) });
-    }
-    let effect = match settled(solver::solve(regions, ideals), &[])? {
-        Ok(solved) => {
-            numbers[..ideals.len()].copy_from_slice(&solved.counts);
-            accepted(solved.moves)
-        }
-        Err(refusal) => {
-            if refusal.number == 7 {
-                numbers[..ideals.len()].fill(0);
-            }
-            refused(refusal)
-        }
-    };
-    Ok(Effect { numbers, ..effect })
+fn valued(answer: Result<f64, Refusal>) -> Effect {
+    answer.map_or_else(refused, |value| Effect { value, ..Effect::default() })
 }
 
-fn rounds(regions: &[u16], counts: &[u32], steps: &[Step]) -> Result<Vec<Effect>, String> {
-    let mut counts = counts.to_vec();
-    let mut done = Vec::new();
-    for step in steps {
-        let effect = match settled(solver::round(regions, &step.ideals, &counts, step.limit), &counts)? {
-            Err(refusal) => refused(refusal),
-            Ok(round) => {
-                counts = round.counts;
-                let value = round.made.as_ref().map_or(0.0, |(cost, _)| *cost);
-                Effect { value, cut: u32::from(round.cut), ..accepted(u32::from(round.made.is_some())) }
-            }
-        };
-        done.push(Effect { numbers: counts.clone(), ..effect });
-    }
-    Ok(done)
+fn round(step: Step) -> Effect {
+    let effect = step.answer.map_or_else(refused, |made| Effect {
+        number: u32::from(made.cost.is_some()),
+        cut: u32::from(made.cut),
+        value: made.cost.unwrap_or(0.0),
+        ..Effect::default()
+    });
+    Effect { numbers: step.after, ..effect }
 }
 
-fn from_parameters(curves: &Sides, seams: Seams, out: usize) -> Result<Effect, String> {
-    let cells = [seams.bottom.len(), seams.left.len()].map(|length| length.saturating_sub(1) as u32);
-    grid(geometry::coons_from_parameters(curves, &seams), cells, out)
-}
-
-/// Whether 11 comes before a refusal: of a grid it stands between 22 and 23.
-fn behind_output(refusal: &Refusal) -> bool {
-    (23..=25).contains(&refusal.number)
-}
-
-fn grid(answer: Result<Grid, Stop>, cells: [u32; 2], lent: usize) -> Result<Effect, String> {
-    let needed = 8 * cells[0] as usize * cells[1] as usize;
-    let mut floats = vec![LENT_FLOAT; lent];
-    let effect = match settled(answer, &[])? {
-        Err(refusal) if !behind_output(&refusal) => refused(refusal),
-        _ if lent < needed => refused(plain(11)),
-        Err(refusal) => {
-            floats[..needed].fill(0.0);
-            refused(refusal)
-        }
-        Ok(grid) => {
-            floats[..needed].copy_from_slice(&grid.values);
-            accepted(grid.quads as u32)
-        }
-    };
-    Ok(Effect { floats, ..effect })
-}
-
-fn mesh(answer: Result<Tile, Stop>, cells: [u32; 2], points: usize, indices: usize) -> Result<Effect, String> {
-    let [n_u, n_v] = cells.map(|n| n as usize);
-    let (all_points, all_indices) = (3 * (n_u + 1) * (n_v + 1), 4 * n_u * n_v);
-    let (mut floats, mut numbers) = (vec![LENT_FLOAT; points], vec![LENT_NUMBER; indices]);
-    let effect = match settled(answer, &[])? {
-        Err(refusal) if !behind_output(&refusal) => refused(refusal),
-        _ if points < all_points || indices < all_indices => refused(plain(11)),
-        Err(refusal) => {
-            floats[..all_points].fill(0.0);
-            numbers[..all_indices].fill(0);
-            refused(refusal)
-        }
-        Ok(tile) => {
-            floats[..all_points].copy_from_slice(&tile.points);
-            for (lent, &index) in numbers[..all_indices].iter_mut().zip(&tile.cells) {
-                *lent = index as u32;
-            }
-            accepted(tile.quads as u32)
-        }
-    };
-    Ok(Effect { floats, numbers, ..effect })
+/// A lent buffer of this length with what is written to its start.
+fn lent<T: Copy>(written: Vec<T>, before: T, length: usize) -> Vec<T> {
+    let mut after = written;
+    after.resize(length, before);
+    after
 }

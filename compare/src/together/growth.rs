@@ -1,11 +1,11 @@
 //! How the cost of a solve and of a grid grows: with edges, with moves, with cells. Both timed in turn, with equal results.
 
 use super::clock::{Effort, Pair};
-use super::farm::{brick_wall, grid, Farm};
 use super::farms;
 use super::plot::{Plot, Series};
 use super::random::Random;
 use super::speed;
+use crate::farm::{brick_wall, grid, Farm};
 use crate::{reach, solver};
 
 const GRID: Effort = Effort { turn: 0.002, seconds: 0.1, turns: 5 };

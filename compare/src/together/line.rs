@@ -1,7 +1,6 @@
 //! A call and its effect as a line of the vectors' format (the README of the vectors has it), read and written.
 
-use super::call::{Call, Effect, Step, LENT_FLOAT, LENT_NUMBER};
-use super::library::Sides;
+use super::call::{Call, Effect, Sides, Step, LENT_FLOAT, LENT_NUMBER};
 use crate::json::{parse, Json};
 use crate::vector::{flag, float, whole};
 
@@ -123,8 +122,7 @@ fn step(given: &Json) -> Result<Step, String> {
 
 /// Refusal and places, and the number that the field has where the call is accepted.
 fn answer(out: &Json, number: &str) -> Result<Effect, String> {
-    let mut effect =
-        Effect { refusal: whole(out.field("refusal")?)?, places: [0; 2], number: 0, cut: 0, value: 0.0, numbers: vec![], floats: vec![] };
+    let mut effect = Effect { refusal: whole(out.field("refusal")?)?, ..Effect::default() };
     if effect.refusal != 0 {
         let places = numbers(out, "places")?;
         effect.places = places.try_into().map_err(|places: Vec<_>| format!("a refusal with {} places", places.len()))?;

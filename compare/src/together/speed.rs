@@ -1,11 +1,15 @@
 //! The speed list: farms, grids and roots through the Rust and through this library, in turn, with equal results.
 
+use super::call::Sides;
 use super::clock::{race, timed, Effort, Pair};
 use super::farms::Farm;
-use super::library::{self, Sides};
+use super::library;
 use super::random::Random;
+use crate::farm::lists;
+use crate::limits::RECORD;
+use crate::mesh::Mesh;
 use crate::reach::{self, BoundaryCurves};
-use crate::{simons_qgp, solver};
+use crate::{geometry, simons_qgp, solver};
 use std::hint::black_box;
 
 const SHORT: Effort = Effort { turn: 0.02, seconds: 0.6, turns: 5 };
@@ -34,6 +38,14 @@ fn times(pair: Pair) -> String {
     format!("{} | {} | **{:.1}**", seconds(pair.rust), seconds(pair.here), pair.ratio())
 }
 
+fn yes_or_no(cut: bool) -> &'static str {
+    if cut {
+        "yes"
+    } else {
+        "no"
+    }
+}
+
 fn millions(entries: f64, time: f64) -> String {
     format!("{:.1}", entries / time / 1e6)
 }
@@ -47,9 +59,9 @@ pub fn searches(farms: &[Farm]) -> Result<(), String> {
         println!(
             "| {} | {}, {} | {entries} | {} | {} | {} | {} |",
             farm.name,
-            farm.records.len() / 68,
+            farm.records.len() / RECORD,
             farm.ideals.len(),
-            if cut { "yes" } else { "no" },
+            yes_or_no(cut),
             times(pair),
             millions(entries as f64, pair.rust),
             millions(entries as f64, pair.here),
@@ -67,7 +79,7 @@ struct Made {
 
 fn search(farm: &Farm) -> Result<(Pair, usize, bool), String> {
     let regions = solver::regions(&farm.records).map_err(|stop| stop.to_string())?;
-    let counts: Vec<usize> = farm.underway.iter().map(|&count| count as usize).collect();
+    let counts = solver::to_usize(&farm.underway);
     let limit = reach::published_limit();
     let entries = reach::round_effort(&regions, &counts, &farm.ideals, limit, usize::MAX - 1);
     let rust = || {
@@ -105,11 +117,11 @@ pub fn solves(farms: &[Farm], all: bool) -> Result<(), String> {
     println!("|---|---|---|---|---|---|---|");
     for farm in farms.iter().chain([&free_edges()]) {
         if farm.entries > LARGEST && !all {
-            println!("| {} | {} | {} | {} | minutes | - | - |", farm.name, farm.moves, farm.entries, if farm.cut { "yes" } else { "no" });
+            println!("| {} | {} | {} | {} | minutes | - | - |", farm.name, farm.moves, farm.entries, yes_or_no(farm.cut));
             continue;
         }
         let pair = solve(farm).map_err(|problem| format!("{}: {problem}", farm.name))?;
-        println!("| {} | {} | {} | {} | {} |", farm.name, farm.moves, farm.entries, if farm.cut { "yes" } else { "no" }, times(pair));
+        println!("| {} | {} | {} | {} | {} |", farm.name, farm.moves, farm.entries, yes_or_no(farm.cut), times(pair));
     }
     Ok(())
 }
@@ -156,6 +168,14 @@ pub fn bent(points: usize) -> Sides {
     [along(&|t| [1.0 + t, 0.0]), along(&|t| arc(2.0, quarter * t)), along(&|t| [0.0, 2.0 - t]), along(&|t| arc(1.0, quarter * (1.0 - t)))]
 }
 
+/// Straight sides between four corners, each with this many points.
+pub fn straight(corners: [[f64; 2]; 4], points: usize) -> Sides {
+    std::array::from_fn(|k| {
+        let (from, to) = (corners[k], corners[(k + 1) % 4]);
+        even(points - 1).into_iter().flat_map(|t| [0, 1].map(|axis| from[axis] + (to[axis] - from[axis]) * t)).collect()
+    })
+}
+
 pub fn even(cells: usize) -> Vec<f64> {
     (0..=cells).map(|i| i as f64 / cells as f64).collect()
 }
@@ -167,9 +187,8 @@ pub fn seams(cells: usize, slanted: bool) -> Sides {
     [even.clone(), other.clone(), other, even]
 }
 
-pub fn published(curves: &Sides) -> BoundaryCurves {
-    let [bottom, right, top, left] = curves.clone().map(|curve| curve.chunks_exact(2).map(|pair| [pair[0], pair[1]]).collect());
-    BoundaryCurves { bottom, right, top, left }
+fn published(curves: &Sides) -> Result<BoundaryCurves, String> {
+    geometry::curves(curves).map_err(|stop| stop.to_string())
 }
 
 fn same_floats<'a>(rust: impl Iterator<Item = &'a f64>, here: &[f64]) -> Result<(), String> {
@@ -181,10 +200,10 @@ fn same_floats<'a>(rust: impl Iterator<Item = &'a f64>, here: &[f64]) -> Result<
 }
 
 pub fn from_parameters(effort: Effort, curves: &Sides, seams: &Sides, out: &mut [f64]) -> Result<Pair, String> {
-    let boundary = published(curves);
+    let boundary = published(curves)?;
     out.fill(f64::NAN);
     let out = std::cell::RefCell::new(out);
-    let here = || library::coons_from_parameters(curves, seams, &mut out.borrow_mut(), &mut [0; 3]);
+    let here = || library::coons_from_parameters(lists(curves), lists(seams), &mut out.borrow_mut(), &mut [0; 3]);
     let rust = || simons_qgp::coons_from_parameters(&boundary, &seams[0], &seams[2], &seams[3], &seams[1]);
     race(effort, rust, here, |quads, refusal| same_quads(quads, *refusal, &out.borrow()))
 }
@@ -198,37 +217,54 @@ fn same_quads(rust: &Quads, refusal: u32, out: &[f64]) -> Result<(), String> {
     }
 }
 
-fn coons_curves(curves: &Sides, out: &mut [f64]) -> Result<Pair, String> {
-    let boundary = published(curves);
+fn coons_curves(effort: Effort, curves: &Sides, cells: usize, out: &mut [f64]) -> Result<Pair, String> {
+    let boundary = published(curves)?;
     out.fill(f64::NAN);
     let out = std::cell::RefCell::new(out);
-    let here = || library::coons_curves(curves, [CELLS as u32; 2], &mut out.borrow_mut(), &mut [0; 3]);
-    race(GRID, || simons_qgp::coons_curves(&boundary, CELLS, CELLS), here, |quads, refusal| same_quads(quads, *refusal, &out.borrow()))
+    let here = || library::coons_curves(lists(curves), [cells as u32; 2], &mut out.borrow_mut(), &mut [0; 3]);
+    race(effort, || simons_qgp::coons_curves(&boundary, cells, cells), here, |quads, refusal| same_quads(quads, *refusal, &out.borrow()))
 }
 
-fn mesh_tile_curves(curves: &Sides, points: &mut [f64], indices: &mut [u32]) -> Result<Pair, String> {
-    let boundary = published(curves);
-    points.fill(f64::NAN);
-    indices.fill(u32::MAX);
+/// A mesh by the Rust and one by this library, which is lent points and indices.
+fn meshes(
+    effort: Effort,
+    cells: usize,
+    rust: impl FnMut() -> Meshed,
+    here: impl Fn(&mut [f64], &mut [u32]) -> u32,
+) -> Result<Pair, String> {
+    let (points, indices) = (vec![f64::NAN; 3 * (cells + 1) * (cells + 1)], vec![u32::MAX; 4 * cells * cells]);
     let lent = std::cell::RefCell::new((points, indices));
     let here = || {
         let (points, indices) = &mut *lent.borrow_mut();
-        library::mesh_tile_curves(curves, [CELLS as u32; 2], points, indices, &mut [0; 3])
+        here(points, indices)
     };
-    race(
-        GRID,
-        || simons_qgp::mesh_tile_curves(&boundary, CELLS, CELLS),
-        here,
-        |mesh, refusal| {
-            let (points, indices) = &*lent.borrow();
-            let mesh = mesh.as_ref().map_err(String::clone)?;
-            let cells = mesh.cells.iter().flat_map(|cell| cell.nodes.iter().map(|&node| node as u32));
-            if *refusal != 0 || !cells.eq(indices.iter().copied()) {
-                return Err(format!("the cells differ, or it is refused with {refusal}"));
-            }
-            same_floats(mesh.points.iter().flatten(), points)
-        },
-    )
+    race(effort, rust, here, |mesh, refusal| {
+        let (points, indices) = &*lent.borrow();
+        let mesh = mesh.as_ref().map_err(String::clone)?;
+        let cells = mesh.cells.iter().flat_map(|cell| cell.nodes.iter().map(|&node| node as u32));
+        if *refusal != 0 || !cells.eq(indices.iter().copied()) {
+            return Err(format!("the cells differ, or it is refused with {refusal}"));
+        }
+        same_floats(mesh.points.iter().flatten(), points)
+    })
+}
+
+type Meshed = Result<Mesh, String>;
+
+fn mesh_tile_curves(effort: Effort, curves: &Sides, cells: usize) -> Result<Pair, String> {
+    let boundary = published(curves)?;
+    let here =
+        |points: &mut [f64], indices: &mut [u32]| library::mesh_tile_curves(lists(curves), [cells as u32; 2], points, indices, &mut [0; 3]);
+    meshes(effort, cells, || simons_qgp::mesh_tile_curves(&boundary, cells, cells), here)
+}
+
+/// The four curves end to end, as a loop: its first point stands again at the end.
+fn mesh_tile(effort: Effort, curves: &Sides, cells: usize) -> Result<Pair, String> {
+    let mut boundary = curves.concat();
+    boundary.extend_from_within(..2);
+    let pairs: Vec<[f64; 2]> = boundary.chunks_exact(2).map(|pair| [pair[0], pair[1]]).collect();
+    let here = |points: &mut [f64], indices: &mut [u32]| library::mesh_tile(&boundary, [cells as u32; 2], points, indices, &mut [0; 3]);
+    meshes(effort, cells, || simons_qgp::mesh_tile(&pairs, cells, cells), here)
 }
 
 pub fn grids() -> Result<(), String> {
@@ -246,11 +282,10 @@ pub fn grids() -> Result<(), String> {
         for (name, slanted) in [("even", false), ("slanted", true)] {
             row("coons_from_parameters", name, length, from_parameters(GRID, &curves, &seams(CELLS, slanted), &mut out)?);
         }
-        row("coons_curves", "even", length, coons_curves(&curves, &mut out)?);
+        row("coons_curves", "even", length, coons_curves(GRID, &curves, CELLS, &mut out)?);
     }
-    let (mut points, mut indices) = (vec![0.0; 3 * (CELLS + 1) * (CELLS + 1)], vec![0; 4 * CELLS * CELLS]);
     for length in [2, 64, 1024] {
-        row("mesh_tile_curves", "even", length, mesh_tile_curves(&bent(length), &mut points, &mut indices)?);
+        row("mesh_tile_curves", "even", length, mesh_tile_curves(GRID, &bent(length), CELLS)?);
     }
     memory(&mut out);
     small_grids()
@@ -258,15 +293,18 @@ pub fn grids() -> Result<(), String> {
 
 /// Tiles of the size that the farms have.
 fn small_grids() -> Result<(), String> {
-    println!("\nSmall grids by coons_from_parameters, on curves of 16 points.\n");
-    println!("| cells | seams | Rust | here | ratio |");
-    println!("|---|---|---|---|---|");
+    println!("\nSmall grids, on curves of 16 points.\n");
+    println!("| cells | function | seams | Rust | here | ratio |");
+    println!("|---|---|---|---|---|---|");
+    let curves = bent(16);
     for cells in [1, 4, 8, 16, 64] {
-        for (name, slanted) in [("even", false), ("slanted", true)] {
-            let mut out = vec![0.0; 8 * cells * cells];
-            let pair = from_parameters(SHORT, &bent(16), &seams(cells, slanted), &mut out)?;
-            println!("| {cells} by {cells} | {name} | {} |", times(pair));
-        }
+        let mut out = vec![0.0; 8 * cells * cells];
+        let row = |function: &str, seams: &str, pair: Pair| println!("| {cells} by {cells} | {function} | {seams} | {} |", times(pair));
+        row("coons_from_parameters", "even", from_parameters(SHORT, &curves, &seams(cells, false), &mut out)?);
+        row("coons_from_parameters", "slanted", from_parameters(SHORT, &curves, &seams(cells, true), &mut out)?);
+        row("coons_curves", "even", coons_curves(SHORT, &curves, cells, &mut out)?);
+        row("mesh_tile_curves", "even", mesh_tile_curves(SHORT, &curves, cells)?);
+        row("mesh_tile", "even", mesh_tile(SHORT, &curves, cells)?);
     }
     Ok(())
 }

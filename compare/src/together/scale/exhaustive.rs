@@ -1,10 +1,9 @@
 //! All short inputs of some kinds.
 
-use crate::together::call::{Call, Step, LENT_NUMBER};
-use crate::together::farm::record;
-use crate::together::library::Sides;
-
-type Sink<'a> = &'a mut dyn FnMut(Call) -> Result<(), String>;
+use super::Sink;
+use crate::farm::record;
+use crate::grids::needed;
+use crate::together::call::{Call, Sides, Step, LENT_NUMBER};
 
 pub fn all(sink: Sink) -> Result<(), String> {
     one_region(sink)?;
@@ -43,14 +42,13 @@ fn one_region(sink: Sink) -> Result<(), String> {
         for right in &sides {
             for top in &sides {
                 for left in &sides {
-                    let regions = record(&[bottom.clone(), right.clone(), top.clone(), left.clone()]);
-                    farm(sink, &regions, index % 2)?;
+                    farm(sink, &record([bottom, right, top, left]), index % 2)?;
                 }
             }
         }
     }
     for one in tuples(&[0u16, 2, 3, 4], 4) {
-        farm(sink, &record(&[vec![one[0]], vec![one[1]], vec![one[2]], vec![one[3]]]), 0)?;
+        farm(sink, &record([&[one[0]], &[one[1]], &[one[2]], &[one[3]]]), 0)?;
     }
     Ok(())
 }
@@ -60,7 +58,7 @@ fn two_regions(sink: Sink) -> Result<(), String> {
     let sides = lists(&[0u16, 1, 2], 1);
     let mut regions = Vec::new();
     for four in tuples(&[0usize, 1, 2, 3], 4) {
-        regions.push(record(&std::array::from_fn(|side| sides[four[side]].clone())));
+        regions.push(record(std::array::from_fn(|side| &sides[four[side]][..])));
     }
     for (index, first) in regions.iter().enumerate() {
         for second in &regions {
@@ -102,10 +100,9 @@ fn lattice_loops(sink: Sink) -> Result<(), String> {
     for points in tuples(&lattice(), 4) {
         let boundary = points.concat();
         for cells in [[1, 1], [2, 3]] {
-            let [n_u, n_v] = cells.map(|n| n as usize);
-            sink(Call::Checked { boundary: boundary.clone(), cells, out: 8 * n_u * n_v })?;
-            let points = 3 * (n_u + 1) * (n_v + 1);
-            sink(Call::Mesh { boundary: boundary.clone(), cells, points, indices: 4 * n_u * n_v })?;
+            let [out, points, indices] = needed(cells[0] as usize, cells[1] as usize);
+            sink(Call::Checked { boundary: boundary.clone(), cells, out })?;
+            sink(Call::Mesh { boundary: boundary.clone(), cells, points, indices })?;
         }
     }
     Ok(())
@@ -167,7 +164,7 @@ fn lays(sink: Sink) -> Result<(), String> {
             for top in &sides {
                 for of_bottom in &breaks {
                     for of_top in &breaks {
-                        let record = record(&[bottom.clone(), vec![1], top.clone(), vec![1]]);
+                        let record = record([bottom, &[1], top, &[1]]);
                         let breaks = [of_bottom.clone(), vec![0.0, 1.0], of_top.clone(), vec![0.0, 1.0]];
                         sink(Call::Lay { record, counts: counts.clone(), breaks, curves: square(), out: 64 })?;
                     }

@@ -1,10 +1,12 @@
 //! Random calls of root, grid, lay and mesh: tiles with straight and crooked sides, points on a small lattice, seams of all kinds, damaged
 //! ones.
 
-use crate::together::call::Call;
-use crate::together::farm::record;
-use crate::together::library::Sides;
+use crate::farm::{lists, record};
+use crate::grids;
+use crate::limits::SIDE;
+use crate::together::call::{Call, Sides};
 use crate::together::random::Random;
+use crate::together::speed::{even, straight};
 
 pub fn call(random: &mut Random) -> Call {
     match random.below(16) {
@@ -16,12 +18,12 @@ pub fn call(random: &mut Random) -> Call {
         }
         6..=7 => {
             let (curves, cells) = (curves(random), cells(random));
-            Call::Curves { curves, cells, out: lent(random, 8 * product(cells)) }
+            Call::Curves { curves, cells, out: lent(random, needed(cells)[0]) }
         }
         8..=10 => lay(random),
         11..=12 => {
             let (boundary, cells) = (boundary(random), cells(random));
-            Call::Checked { boundary, cells, out: lent(random, 8 * product(cells)) }
+            Call::Checked { boundary, cells, out: lent(random, needed(cells)[0]) }
         }
         13..=14 => {
             let (curves, cells) = (curves(random), cells(random));
@@ -55,12 +57,12 @@ fn cells(random: &mut Random) -> [u32; 2] {
     cells
 }
 
-/// What a product of cells is where 1 does not refuse them.
-fn product(cells: [u32; 2]) -> usize {
+/// What a grid's output, a mesh's points and its point indices need; nothing where 1 refuses far too many cells.
+fn needed(cells: [u32; 2]) -> [usize; 3] {
     if cells.iter().any(|&n| n > 1025) {
-        return 0;
+        return [0; 3];
     }
-    cells[0] as usize * cells[1] as usize
+    grids::needed(cells[0] as usize, cells[1] as usize)
 }
 
 fn lent(random: &mut Random, needed: usize) -> usize {
@@ -73,8 +75,8 @@ fn lent(random: &mut Random, needed: usize) -> usize {
 }
 
 fn lent_mesh(random: &mut Random, cells: [u32; 2]) -> (usize, usize) {
-    let points = if cells.iter().any(|&n| n > 1025) { 0 } else { 3 * (cells[0] as usize + 1) * (cells[1] as usize + 1) };
-    (lent(random, points), lent(random, 4 * product(cells)))
+    let [_, points, indices] = needed(cells);
+    (lent(random, points), lent(random, indices))
 }
 
 // ------------------------------------------------------------------------------------------------------------------------------------
@@ -177,25 +179,12 @@ fn boundary(random: &mut Random) -> Vec<f64> {
 /// Four pieces with as many points each. They do not share their ends, so the ends must stand twice, but for the first and last point.
 fn pieces(random: &mut Random) -> Vec<f64> {
     let corners = corners(random);
-    let points = random.within(2, 5);
-    let mut list = Vec::new();
-    for k in 0..4 {
-        let (from, to) = (corners[k], corners[(k + 1) % 4]);
-        for step in 0..points {
-            let t = f64::from(step) / f64::from(points - 1);
-            list.extend([from[0] + (to[0] - from[0]) * t, from[1] + (to[1] - from[1]) * t]);
-        }
-    }
-    list
+    straight(corners, random.within(2, 5) as usize).concat()
 }
 
 // ------------------------------------------------------------------------------------------------------------------------------------
 // Seams and lay
 // ------------------------------------------------------------------------------------------------------------------------------------
-
-fn even(cells: usize) -> Vec<f64> {
-    (0..=cells).map(|i| i as f64 / cells as f64).collect()
-}
 
 /// A seam that rises from 0 to 1.
 fn seam(random: &mut Random, cells: usize) -> Vec<f64> {
@@ -268,7 +257,7 @@ fn lay(random: &mut Random) -> Call {
         sides[k] = (counts.len()..counts.len() + parts.len()).map(|edge| edge as u16).collect();
         counts.extend(parts);
     }
-    let mut record = record(&sides);
+    let mut record = record(lists(&sides));
     if random.chance(4) {
         damage_lay(random, &mut record, &mut counts, &mut breaks);
     }
@@ -308,8 +297,8 @@ fn damage_lay(random: &mut Random, record: &mut Vec<u16>, counts: &mut Vec<u32>,
         2 => drop(list.pop()),
         3 => list.push(1.0),
         4 => list[value] = random.pick(&[f64::NAN, f64::INFINITY, -1.0, 0.0, 0.5, 1.0, 1e-9, -1e-12]),
-        5 => record[17 * side] = random.pick(&[0, 1, 2, 16, 17]),
-        6 => record[17 * side + 1] = random.pick(&[0, 1, 255, u16::MAX]),
+        5 => record[SIDE * side] = random.pick(&[0, 1, 2, 16, 17]),
+        6 => record[SIDE * side + 1] = random.pick(&[0, 1, 255, u16::MAX]),
         7 => drop(record.pop()),
         8 => record.extend_from_within(..),
         _ => counts.resize(random.pick(&[0, 255, 256, 257]), 1),

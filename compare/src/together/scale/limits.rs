@@ -1,11 +1,11 @@
 //! 01's limits: each with one below and one above.
 
-use crate::together::call::{Call, Step, LENT_NUMBER};
-use crate::together::farm::{grid, record, rows};
-use crate::together::library::Sides;
-use crate::together::speed::{bent, even, seams};
-
-type Sink<'a> = &'a mut dyn FnMut(Call) -> Result<(), String>;
+use super::Sink;
+use crate::farm::{grid, record, rows};
+use crate::grids::needed;
+use crate::limits::SIDE;
+use crate::together::call::{Call, Sides, Step, LENT_NUMBER};
+use crate::together::speed::{bent, even, seams, straight};
 
 pub fn all(sink: Sink) -> Result<(), String> {
     regions_and_edges(sink)?;
@@ -37,7 +37,7 @@ fn solver_calls(sink: Sink, regions: &[u16], edges: usize) -> Result<(), String>
 fn regions_and_edges(sink: Sink) -> Result<(), String> {
     for number in [126, 127, 128, 129, 130] {
         // A column of regions with one edge between two of them: few edges, many regions.
-        let regions: Vec<u16> = (0..number).flat_map(|k| record(&[vec![k], vec![], vec![k + 1], vec![]])).collect();
+        let regions: Vec<u16> = (0..number).flat_map(|k| record([&[k], &[], &[k + 1], &[]])).collect();
         solver_calls(sink, &regions, usize::from(number) + 1)?;
     }
     for edges in [254, 255, 256, 257, 258, 1000] {
@@ -58,9 +58,9 @@ fn sides(sink: Sink) -> Result<(), String> {
         let long = rows(&[bottom, vec![0, edges]]);
         solver_calls(sink, &long.regions, long.edges)?;
         for side in 0..4 {
-            farm.regions[17 * side] = edges as u16;
+            farm.regions[SIDE * side] = edges as u16;
             solver_calls(sink, &farm.regions, farm.edges)?;
-            farm.regions[17 * side] = 1;
+            farm.regions[SIDE * side] = 1;
         }
     }
     Ok(())
@@ -72,7 +72,7 @@ fn counts_and_moves(sink: Sink) -> Result<(), String> {
             let steps = vec![Step { ideals: vec![ideal; 2], limit: 3 }; 4];
             sink(Call::Rounds { regions: vec![], counts: vec![1, count], steps })?;
             sink(Call::Energy { counts: vec![count, 1], ideals: vec![ideal; 2] })?;
-            sink(Call::Hold { regions: record(&[vec![0], vec![], vec![1], vec![]]), counts: vec![count; 2] })?;
+            sink(Call::Hold { regions: record([&[0], &[], &[1], &[]]), counts: vec![count; 2] })?;
         }
     }
     for ideal in [199_999.0, 200_000.0, 200_001.0] {
@@ -100,7 +100,8 @@ fn search(sink: Sink) -> Result<(), String> {
     Ok(())
 }
 
-const OF_SIDE: [usize; 4] = [1022, 1023, 1024, 1025];
+/// Points of a curve around 01's limit, and around 64, from where on the grid takes larger tables.
+const OF_SIDE: [usize; 7] = [63, 64, 65, 1022, 1023, 1024, 1025];
 
 /// A tile whose curve `side` has this many points.
 fn long_curve(side: usize, points: usize) -> Sides {
@@ -111,8 +112,9 @@ fn long_curve(side: usize, points: usize) -> Sides {
 
 fn on_curves(sink: Sink, curves: Sides, cells: [u32; 2]) -> Result<(), String> {
     let [n_u, n_v] = cells.map(|n| n.min(1025) as usize);
-    sink(Call::Curves { curves: curves.clone(), cells, out: 8 * n_u * n_v + 1 })?;
-    sink(Call::MeshCurves { curves, cells, points: 3 * (n_u + 1) * (n_v + 1) + 1, indices: 4 * n_u * n_v + 1 })
+    let [out, points, indices] = needed(n_u, n_v).map(|length| length + 1);
+    sink(Call::Curves { curves: curves.clone(), cells, out })?;
+    sink(Call::MeshCurves { curves, cells, points, indices })
 }
 
 fn curve_points(sink: Sink) -> Result<(), String> {
@@ -129,10 +131,11 @@ fn curve_points(sink: Sink) -> Result<(), String> {
     Ok(())
 }
 
-/// Seams of 1,024 to 1,026 values, n_u and n_v at 1,024, output one too short, just right and one longer.
+/// Seams of 1,024 to 1,026 values, n_u and n_v at 1,024, output one too short, just right and one longer; and 62 to 65 cells, where the grid
+/// takes larger tables.
 fn grid_sizes(sink: Sink) -> Result<(), String> {
     let curves = bent(9);
-    for long in [1023, 1024, 1025] {
+    for long in [62, 63, 64, 65, 1023, 1024, 1025] {
         for slanted in [false, true] {
             let [across, up] = [seams(long, slanted), seams(2, slanted)];
             let wide = [across[0].clone(), up[1].clone(), across[2].clone(), up[3].clone()];
@@ -147,13 +150,13 @@ fn grid_sizes(sink: Sink) -> Result<(), String> {
     }
     for cells in [[1, 1], [2, 3], [5, 1]] {
         let [n_u, n_v] = cells.map(|n| n as usize);
-        let (quads, points) = (n_u * n_v, 3 * (n_u + 1) * (n_v + 1));
+        let [out, points, indices] = needed(n_u, n_v).map(|length| length + 1);
         for less in 0..3 {
             let seams = [even(n_u), even(n_v), even(n_u), even(n_v)];
-            sink(Call::FromParameters { curves: curves.clone(), seams, out: 8 * quads + 1 - less })?;
-            sink(Call::Curves { curves: curves.clone(), cells, out: 8 * quads + 1 - less })?;
+            sink(Call::FromParameters { curves: curves.clone(), seams, out: out - less })?;
+            sink(Call::Curves { curves: curves.clone(), cells, out: out - less })?;
             for other in 0..3 {
-                let (points, indices) = (points + 1 - less, 4 * quads + 1 - other);
+                let (points, indices) = (points - less, indices - other);
                 sink(Call::MeshCurves { curves: curves.clone(), cells, points, indices })?;
             }
         }
@@ -162,21 +165,13 @@ fn grid_sizes(sink: Sink) -> Result<(), String> {
 }
 
 /// A square as four pieces of this many points, which do not share their ends.
-fn pieces(points: usize) -> Vec<f64> {
-    let corners = [[0.0, 0.0], [2.0, 0.0], [2.0, 2.0], [0.0, 2.0]];
-    let mut list = Vec::new();
-    for k in 0..4 {
-        let (from, to): ([f64; 2], [f64; 2]) = (corners[k], corners[(k + 1) % 4]);
-        for t in even(points - 1) {
-            list.extend([from[0] + (to[0] - from[0]) * t, from[1] + (to[1] - from[1]) * t]);
-        }
-    }
-    list
+fn square(points: usize) -> Vec<f64> {
+    straight([[0.0, 0.0], [2.0, 0.0], [2.0, 2.0], [0.0, 2.0]], points).concat()
 }
 
 fn loops(sink: Sink) -> Result<(), String> {
     for points in [1022, 1023, 1024, 1025] {
-        let open = pieces(points);
+        let open = square(points);
         let mut closed = open.clone();
         closed.extend([0.0, 0.0]);
         let mut odd = open.clone();
@@ -190,7 +185,7 @@ fn loops(sink: Sink) -> Result<(), String> {
         }
     }
     for points in 0..20 {
-        let list: Vec<f64> = pieces(5)[..2 * points].to_vec();
+        let list: Vec<f64> = square(5)[..2 * points].to_vec();
         let closed = [list.clone(), vec![0.0, 0.0]].concat();
         for boundary in [list, closed] {
             for cells in [[1, 1], [0, 1], [1025, 0]] {
@@ -208,30 +203,29 @@ fn lay(sink: Sink) -> Result<(), String> {
         for long in 0..4 {
             let counts: Vec<u32> = (0..4).map(|side| if side == long || side == (long + 2) % 4 { sum } else { 1 }).collect();
             let breaks: Sides = std::array::from_fn(|_| vec![0.0, 1.0]);
-            let record = record(&[vec![0], vec![1], vec![2], vec![3]]);
+            let record = record([&[0], &[1], &[2], &[3]]);
             sink(Call::Lay { record, counts, breaks, curves: bent(4), out: 8 * sum as usize })?;
         }
     }
     for length in [255, 256, 257] {
-        let record = record(&[vec![0], vec![1], vec![2], vec![3]]);
+        let record = record([&[0], &[1], &[2], &[3]]);
         let breaks: Sides = std::array::from_fn(|_| vec![0.0, 1.0]);
         sink(Call::Lay { record, counts: vec![2; length], breaks, curves: bent(4), out: 32 })?;
     }
     for edges in [15, 16, 17] {
         let side: Vec<u16> = (0..edges).collect();
-        let mut numbers = record(&[vec![0], vec![1], vec![2], vec![3]]);
+        let mut numbers = record([&[0], &[1], &[2], &[3]]);
         if edges <= 16 {
-            numbers = record(&[side.clone(), side.clone(), side.clone(), side]);
+            numbers = record([&side; 4]);
         } else {
-            numbers[34] = edges;
+            numbers[2 * SIDE] = edges;
         }
         let breaks: Sides = std::array::from_fn(|_| even(usize::from(edges)));
         let needed = 8 * usize::from(edges) * usize::from(edges);
         sink(Call::Lay { record: numbers, counts: vec![1; 16], breaks, curves: bent(4), out: needed })?;
     }
     // 16 times the largest count: the sum is over 32 bits.
-    let side: Vec<u16> = vec![0; 16];
-    let record = record(&[side.clone(), side.clone(), side.clone(), side]);
+    let record = record([&[0; 16]; 4]);
     for count in [0, 63, 64, 65, 1 << 28, u32::MAX] {
         let breaks: Sides = std::array::from_fn(|_| even(16));
         sink(Call::Lay { record: record.clone(), counts: vec![count], breaks, curves: bent(4), out: 0 })?;
@@ -244,11 +238,8 @@ fn far_corners(sink: Sink) -> Result<(), String> {
     for scale in [1e-170, 1e-162, 1e-160, 1e-154, 1e150, 1e153, 1.2e154, 1.35e154, 1.5e154, 1.9e154, 1e155] {
         for shift in [0.0, -0.5, -1.0] {
             for points in [2, 3, 9] {
-                let curves: Sides = std::array::from_fn(|side| {
-                    let corner = |k: usize| [[0.0, 0.0], [1.0, 0.0], [1.0, 1.0], [0.0, 1.0]][k % 4].map(|x: f64| (x + shift) * scale);
-                    let (from, to) = (corner(side), corner(side + 1));
-                    even(points - 1).into_iter().flat_map(|t| [0, 1].map(|axis| from[axis] + (to[axis] - from[axis]) * t)).collect()
-                });
+                let corners = [[0.0, 0.0], [1.0, 0.0], [1.0, 1.0], [0.0, 1.0]].map(|p| p.map(|x: f64| (x + shift) * scale));
+                let curves = straight(corners, points);
                 for cells in [[1, 1], [8, 8]] {
                     on_curves(sink, curves.clone(), cells)?;
                 }

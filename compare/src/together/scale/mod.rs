@@ -15,6 +15,9 @@ use super::random::Random;
 use super::{clock, expected, line};
 use std::collections::BTreeMap;
 
+/// Where calls go to be compared.
+type Sink<'a> = &'a mut dyn FnMut(Call) -> Result<(), String>;
+
 /// Differences of a function that are shown, in their smallest form.
 const SHOWN: usize = 3;
 

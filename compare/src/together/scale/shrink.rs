@@ -344,7 +344,7 @@ fn values(call: &Call, found: &mut Vec<Call>) {
 #[cfg(test)]
 mod tests {
     use super::*;
-    use crate::together::farm::{grid, record};
+    use crate::farm::{grid, record};
     use crate::together::speed::{bent, seams};
 
     #[test]
@@ -357,7 +357,7 @@ mod tests {
             _ => false,
         };
         let smallest = smallest(call, has);
-        let expected = Call::Solve { regions: record(&[vec![], vec![], vec![0], vec![]]), ideals: vec![0.0, 10.0], counts: vec![] };
+        let expected = Call::Solve { regions: record([&[], &[], &[0], &[]]), ideals: vec![0.0, 10.0], counts: vec![] };
         assert_eq!(
             with_records(&smallest, |list| list.retain(|&place| place == 1)),
             with_records(&expected, |list| list.retain(|&place| place == 1))

@@ -1,8 +1,8 @@
 //! Random calls of the solver: farms of rows with T-junctions, regions put together at random, damaged ones.
 
+use crate::farm::{cut_rows, lists, record, rows, Farm};
 use crate::limits::{RECORD, SIDE};
 use crate::together::call::{Call, Step, LENT_NUMBER};
-use crate::together::farm::{record, rows, Farm};
 use crate::together::random::Random;
 
 pub fn call(random: &mut Random) -> Call {
@@ -51,14 +51,8 @@ fn farm(random: &mut Random) -> Farm {
 fn row_farm(random: &mut Random) -> Farm {
     let (most_rows, most_columns) = if random.chance(32) { (4, 4) } else { (2, 3) };
     let columns = random.within(1, most_columns);
-    let number = random.within(1, most_rows);
-    let cuts: Vec<Vec<u32>> = (0..number)
-        .map(|_| {
-            let inner: Vec<u32> = (1..columns).filter(|_| random.chance(2)).collect();
-            [vec![0], inner, vec![columns]].concat()
-        })
-        .collect();
-    rows(&cuts)
+    let number = random.within(1, most_rows) as usize;
+    cut_rows(number, columns, || random.chance(2))
 }
 
 /// Two or three regions above each other with many edges between them.
@@ -71,7 +65,7 @@ fn column(random: &mut Random) -> Farm {
     }
     let bottom: Vec<u16> = (0..edges as u16).collect();
     let top: Vec<u16> = (edges as u16..2 * edges as u16).collect();
-    Farm { regions: record(&[bottom, vec![], top, vec![]]), edges: 2 * edges as usize }
+    Farm { regions: record([&bottom, &[], &top, &[]]), edges: 2 * edges as usize }
 }
 
 /// A small farm of rows with edges that no region has.
@@ -98,7 +92,7 @@ fn scattered(random: &mut Random) -> Farm {
             }
         }
     }
-    Farm { regions: sides.iter().flat_map(record).collect(), edges }
+    Farm { regions: sides.iter().flat_map(|four| record(lists(four))).collect(), edges }
 }
 
 /// One or two faults in the records.

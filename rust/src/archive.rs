@@ -1,118 +1,115 @@
-//! This library's exported functions: the archive of the crate `exports`, called as C calls it. A lent list is a pointer and a length. Each
-//! function returns the number of the refusal, 0 if there is none; `answer` gets both places and what the function answers in numbers.
-
-type Floats = *const f64;
-type Answer<'a> = &'a mut [u32; 3];
+//! The functions of the archive, as include/juplatsk.h declares them, each behind a function over slices. A `&mut` slice overlaps no
+//! other, no slice is null or misaligned, and each has its length: so the conditions that the header names are met here by the types.
+//!
+//! Each function returns the number of the refusal, 0 if there is none; `answer` gets both places and what the function tells in numbers.
+//! The tools of `compare` call the archive by this file too.
 
 extern "C" {
     fn juplatsk_solve_counts(
         regions: *const u16,
         regions_len: usize,
-        ideals: Floats,
+        ideals: *const f64,
         ideals_len: usize,
         counts: *mut u32,
         counts_len: usize,
-        answer: Answer,
+        answer: *mut [u32; 3],
     ) -> u32;
     fn juplatsk_round(
         regions: *const u16,
         regions_len: usize,
-        ideals: Floats,
+        ideals: *const f64,
         ideals_len: usize,
         counts: *mut u32,
         counts_len: usize,
         limit: u32,
-        answer: &mut [u32; 4],
-        cost: &mut [f64; 1],
+        answer: *mut [u32; 4],
+        cost: *mut [f64; 1],
     ) -> u32;
     fn juplatsk_energy(
         counts: *const u32,
         counts_len: usize,
-        ideals: Floats,
+        ideals: *const f64,
         ideals_len: usize,
-        answer: &mut [u32; 2],
-        sum: &mut [f64; 1],
+        answer: *mut [u32; 2],
+        sum: *mut [f64; 1],
     ) -> u32;
-    fn juplatsk_constraints_hold(regions: *const u16, regions_len: usize, counts: *const u32, counts_len: usize, answer: Answer) -> u32;
-    fn juplatsk_root(x: f64, root: &mut [f64; 1]) -> u32;
+    fn juplatsk_constraints_hold(
+        regions: *const u16,
+        regions_len: usize,
+        counts: *const u32,
+        counts_len: usize,
+        answer: *mut [u32; 3],
+    ) -> u32;
+    fn juplatsk_root(x: f64, root: *mut [f64; 1]) -> u32;
     fn juplatsk_coons_from_parameters(
-        bottom: Floats,
+        bottom: *const f64,
         bottom_len: usize,
-        right: Floats,
+        right: *const f64,
         right_len: usize,
-        top: Floats,
+        top: *const f64,
         top_len: usize,
-        left: Floats,
+        left: *const f64,
         left_len: usize,
-        bottom_u: Floats,
+        bottom_u: *const f64,
         bottom_u_len: usize,
-        top_u: Floats,
+        top_u: *const f64,
         top_u_len: usize,
-        left_v: Floats,
+        left_v: *const f64,
         left_v_len: usize,
-        right_v: Floats,
+        right_v: *const f64,
         right_v_len: usize,
         out: *mut f64,
         out_len: usize,
-        answer: Answer,
+        answer: *mut [u32; 3],
     ) -> u32;
     fn juplatsk_coons_curves(
-        bottom: Floats,
+        bottom: *const f64,
         bottom_len: usize,
-        right: Floats,
+        right: *const f64,
         right_len: usize,
-        top: Floats,
+        top: *const f64,
         top_len: usize,
-        left: Floats,
+        left: *const f64,
         left_len: usize,
         n_u: u32,
         n_v: u32,
         out: *mut f64,
         out_len: usize,
-        answer: Answer,
+        answer: *mut [u32; 3],
     ) -> u32;
     fn juplatsk_lay_region(
         region: *const u16,
         region_len: usize,
         counts: *const u32,
         counts_len: usize,
-        breaks0: Floats,
+        breaks0: *const f64,
         breaks0_len: usize,
-        breaks1: Floats,
+        breaks1: *const f64,
         breaks1_len: usize,
-        breaks2: Floats,
+        breaks2: *const f64,
         breaks2_len: usize,
-        breaks3: Floats,
+        breaks3: *const f64,
         breaks3_len: usize,
-        bottom: Floats,
+        bottom: *const f64,
         bottom_len: usize,
-        right: Floats,
+        right: *const f64,
         right_len: usize,
-        top: Floats,
+        top: *const f64,
         top_len: usize,
-        left: Floats,
+        left: *const f64,
         left_len: usize,
         out: *mut f64,
         out_len: usize,
-        answer: Answer,
-    ) -> u32;
-    fn juplatsk_coons_checked(
-        boundary: Floats,
-        boundary_len: usize,
-        n_u: u32,
-        n_v: u32,
-        out: *mut f64,
-        out_len: usize,
-        answer: Answer,
+        answer: *mut [u32; 3],
     ) -> u32;
     fn juplatsk_mesh_tile_curves(
-        bottom: Floats,
+        bottom: *const f64,
         bottom_len: usize,
-        right: Floats,
+        right: *const f64,
         right_len: usize,
-        top: Floats,
+        top: *const f64,
         top_len: usize,
-        left: Floats,
+        left: *const f64,
         left_len: usize,
         n_u: u32,
         n_v: u32,
@@ -120,10 +117,19 @@ extern "C" {
         points_len: usize,
         cells: *mut u32,
         cells_len: usize,
-        answer: Answer,
+        answer: *mut [u32; 3],
+    ) -> u32;
+    fn juplatsk_coons_checked(
+        boundary: *const f64,
+        boundary_len: usize,
+        n_u: u32,
+        n_v: u32,
+        out: *mut f64,
+        out_len: usize,
+        answer: *mut [u32; 3],
     ) -> u32;
     fn juplatsk_mesh_tile(
-        boundary: Floats,
+        boundary: *const f64,
         boundary_len: usize,
         n_u: u32,
         n_v: u32,
@@ -131,11 +137,14 @@ extern "C" {
         points_len: usize,
         cells: *mut u32,
         cells_len: usize,
-        answer: Answer,
+        answer: *mut [u32; 3],
     ) -> u32;
 }
 
-// SAFETY, here and below: each pointer goes with its own length; the lists that are written are lent by `&mut`, so nothing else holds them.
+pub type Answer<'a> = &'a mut [u32; 3];
+
+/// Four lists by side: bottom, right, top, left.
+pub type BySide<'a> = [&'a [f64]; 4];
 
 pub fn solve_counts(regions: &[u16], ideals: &[f64], counts: &mut [u32], answer: Answer) -> u32 {
     unsafe {
@@ -160,10 +169,7 @@ pub fn root(x: f64, root: &mut [f64; 1]) -> u32 {
     unsafe { juplatsk_root(x, root) }
 }
 
-/// Four lists by side number: bottom, right, top, left.
-pub type Sides = [Vec<f64>; 4];
-
-pub fn coons_from_parameters(curves: &Sides, seams: &Sides, out: &mut [f64], answer: Answer) -> u32 {
+pub fn coons_from_parameters(curves: BySide, seams: BySide, out: &mut [f64], answer: Answer) -> u32 {
     let [bottom, right, top, left] = curves;
     let [bottom_u, right_v, top_u, left_v] = seams;
     unsafe {
@@ -191,9 +197,8 @@ pub fn coons_from_parameters(curves: &Sides, seams: &Sides, out: &mut [f64], ans
     }
 }
 
-pub fn coons_curves(curves: &Sides, cells: [u32; 2], out: &mut [f64], answer: Answer) -> u32 {
+pub fn coons_curves(curves: BySide, [n_u, n_v]: [u32; 2], out: &mut [f64], answer: Answer) -> u32 {
     let [bottom, right, top, left] = curves;
-    let [n_u, n_v] = cells;
     unsafe {
         juplatsk_coons_curves(
             bottom.as_ptr(),
@@ -213,7 +218,7 @@ pub fn coons_curves(curves: &Sides, cells: [u32; 2], out: &mut [f64], answer: An
     }
 }
 
-pub fn lay_region(region: &[u16], counts: &[u32], breaks: &Sides, curves: &Sides, out: &mut [f64], answer: Answer) -> u32 {
+pub fn lay_region(region: &[u16], counts: &[u32], breaks: BySide, curves: BySide, out: &mut [f64], answer: Answer) -> u32 {
     let [bottom, right, top, left] = curves;
     unsafe {
         juplatsk_lay_region(
@@ -244,14 +249,12 @@ pub fn lay_region(region: &[u16], counts: &[u32], breaks: &Sides, curves: &Sides
     }
 }
 
-pub fn coons_checked(boundary: &[f64], cells: [u32; 2], out: &mut [f64], answer: Answer) -> u32 {
-    let [n_u, n_v] = cells;
+pub fn coons_checked(boundary: &[f64], [n_u, n_v]: [u32; 2], out: &mut [f64], answer: Answer) -> u32 {
     unsafe { juplatsk_coons_checked(boundary.as_ptr(), boundary.len(), n_u, n_v, out.as_mut_ptr(), out.len(), answer) }
 }
 
-pub fn mesh_tile_curves(curves: &Sides, cells: [u32; 2], points: &mut [f64], indices: &mut [u32], answer: Answer) -> u32 {
+pub fn mesh_tile_curves(curves: BySide, [n_u, n_v]: [u32; 2], points: &mut [f64], cells: &mut [u32], answer: Answer) -> u32 {
     let [bottom, right, top, left] = curves;
-    let [n_u, n_v] = cells;
     unsafe {
         juplatsk_mesh_tile_curves(
             bottom.as_ptr(),
@@ -266,15 +269,14 @@ pub fn mesh_tile_curves(curves: &Sides, cells: [u32; 2], points: &mut [f64], ind
             n_v,
             points.as_mut_ptr(),
             points.len(),
-            indices.as_mut_ptr(),
-            indices.len(),
+            cells.as_mut_ptr(),
+            cells.len(),
             answer,
         )
     }
 }
 
-pub fn mesh_tile(boundary: &[f64], cells: [u32; 2], points: &mut [f64], indices: &mut [u32], answer: Answer) -> u32 {
-    let [n_u, n_v] = cells;
+pub fn mesh_tile(boundary: &[f64], [n_u, n_v]: [u32; 2], points: &mut [f64], cells: &mut [u32], answer: Answer) -> u32 {
     let (lent, length) = (points.as_mut_ptr(), points.len());
-    unsafe { juplatsk_mesh_tile(boundary.as_ptr(), boundary.len(), n_u, n_v, lent, length, indices.as_mut_ptr(), indices.len(), answer) }
+    unsafe { juplatsk_mesh_tile(boundary.as_ptr(), boundary.len(), n_u, n_v, lent, length, cells.as_mut_ptr(), cells.len(), answer) }
 }

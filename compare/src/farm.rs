@@ -1,7 +1,6 @@
 //! Farms made of rows of regions. Each row has its own cuts; where a cut of one row meets a region of the next is a T-junction.
 
-/// Numbers of 16 bits of one side in a record.
-const SIDE: usize = 17;
+use crate::limits::SIDE;
 
 pub struct Farm {
     pub regions: Vec<u16>,
@@ -9,7 +8,7 @@ pub struct Farm {
 }
 
 /// A record; the places past a side's number of edges hold what would be out of range.
-pub fn record(sides: &[Vec<u16>; 4]) -> Vec<u16> {
+pub fn record(sides: [&[u16]; 4]) -> Vec<u16> {
     let mut numbers = Vec::new();
     for side in sides {
         numbers.push(side.len() as u16);
@@ -17,6 +16,11 @@ pub fn record(sides: &[Vec<u16>; 4]) -> Vec<u16> {
         numbers.resize(numbers.len().next_multiple_of(SIDE), u16::MAX);
     }
     numbers
+}
+
+/// Four lists, lent.
+pub fn lists<T>(four: &[Vec<T>; 4]) -> [&[T]; 4] {
+    four.each_ref().map(Vec::as_slice)
 }
 
 /// Rows from the bottom, each with its cuts from left to right, both ends among them.
@@ -29,18 +33,24 @@ pub fn rows(cuts: &[Vec<u32>]) -> Farm {
     let lines: Vec<Vec<u32>> = (0..=cuts.len()).map(|line| line_cuts(cuts, line)).collect();
     let level: Vec<Vec<u16>> = lines.iter().map(|line| fresh(line.len() - 1)).collect();
     let upright: Vec<Vec<u16>> = cuts.iter().map(|row| fresh(row.len())).collect();
-    let between = |line: usize, from: u32, to: u32| -> Vec<u16> {
+    let between = |line: usize, from: u32, to: u32| -> &[u16] {
         let place = |cut: u32| lines[line].partition_point(|&other| other < cut);
-        level[line][place(from)..place(to)].to_vec()
+        &level[line][place(from)..place(to)]
     };
     let mut regions = Vec::new();
     for (row, row_cuts) in cuts.iter().enumerate() {
         for (index, ends) in row_cuts.windows(2).enumerate() {
             let (bottom, top) = (between(row, ends[0], ends[1]), between(row + 1, ends[0], ends[1]));
-            regions.extend(record(&[bottom, vec![upright[row][index + 1]], top, vec![upright[row][index]]]));
+            regions.extend(record([bottom, &[upright[row][index + 1]], top, &[upright[row][index]]]));
         }
     }
     Farm { regions, edges }
+}
+
+/// Rows of so many columns, each cut between those columns that `cut` says.
+pub fn cut_rows(number: usize, columns: u32, mut cut: impl FnMut() -> bool) -> Farm {
+    let row = |_| std::iter::once(0).chain((1..columns).filter(|_| cut())).chain([columns]).collect();
+    rows(&(0..number).map(row).collect::<Vec<_>>())
 }
 
 /// A line between two rows is cut where either row is.
