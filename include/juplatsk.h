@@ -10,7 +10,7 @@
  *                aligned for its type; each list lies within one object, and has less than 2^63 bytes; a list or array that is
  *                written overlaps no other one of the call. They call nothing back, keep no pointer, use no heap and no global
  *                variable, and end. Any values are fine: what is wrong with them is refused. Several threads may call at once, each
- *                with at least 256 KB of stack: the most that was measured, on the largest inputs, is 222 KB.
+ *                with at least 256 KB of stack: the largest inputs were seen to run in a thread of 176 KB, and not in one of 172.
  *
  * Lists
  * -----
