@@ -27,6 +27,11 @@ pub(crate) const MAX_SEAM: usize = 1025;
 
 const MAX_CELLS: u32 = 1024;
 
+// A small tile has curves of at most 64 points, and at most 63 cells along its bottom.
+const SMALL_CURVE: usize = 128;
+
+const SMALL_SEAM: usize = 64;
+
 // How many quads the grid has, or why there is none.
 pub enum GridAnswer {
     Made(u32),
@@ -232,8 +237,7 @@ fn patch_in(
     }
 }
 
-// Curves of at most 64 points, and 63 cells along the bottom. Most tiles are so small, and to clear tables for the largest ones would take
-// longer than their grid.
+// A small tile: most are, and to clear tables for the largest ones would take longer than their grid.
 fn small_patch(
     bottom: &[f64],
     right: &[f64],
@@ -278,6 +282,7 @@ fn small_patch(
     )
 }
 
+// Any tile.
 fn large_patch(
     bottom: &[f64],
     right: &[f64],
@@ -325,19 +330,19 @@ fn large_patch(
 fn is_small(bottom: &[f64], right: &[f64], top: &[f64], left: &[f64], bottom_u: &[f64]) -> bool
     ensures { λ r. ⌜ (r ≡ true → (length (now (bottom .entry)) ≤ 128) × (length (now (right .entry)) ≤ 128) × (length (now (top .entry)) ≤ 128) × (length (now (left .entry)) ≤ 128) × (length (now («bottom_u» .entry)) ≤ 64)) ⌝ }
 {
-    if bottom.len() > 128 {
+    if bottom.len() > SMALL_CURVE {
         return false;
     }
-    if right.len() > 128 {
+    if right.len() > SMALL_CURVE {
         return false;
     }
-    if top.len() > 128 {
+    if top.len() > SMALL_CURVE {
         return false;
     }
-    if left.len() > 128 {
+    if left.len() > SMALL_CURVE {
         return false;
     }
-    bottom_u.len() <= 64
+    bottom_u.len() <= SMALL_SEAM
 }
 
 fn make_patch(
