@@ -50,6 +50,7 @@ Row = ℕ → Answer Point
 abbrev pub crossings : List Float → List Float → Float → Float → ℕ → Row
 crossings bottom top a b j i = logical-intersection a b (getD bottom i nan) (getD top i nan) i j
 
+-- row j of the points
 unfoldable pub row-of : BoundaryCurves → List Float → List Float → Float → Float → ℕ → Row
 unfolding logical-intersection mapped
 row-of c bottom top a b j i = mapped c (crossings bottom top a b j i)

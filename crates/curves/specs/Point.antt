@@ -11,7 +11,7 @@ use Rattle.curves.specs.declared.point.PointAnswer.the-variants.{At, Ref
 abbrev pub point : Float → Float → Point
 point x y = record { x = x; y = y }
 
--- as they stand in a list
+-- a point as it stands in a list
 abbrev pub values : Point → List Float
 values p = p .x ∷ p .y ∷ []
 

@@ -1,5 +1,5 @@
-// A tile's boundary given as one closed loop of points, counter-clockwise, lent as x, y in turn: its test (1 and 12), and the
-// quarters that it falls into. The natural loop of 8 points or more repeats its first point at the end; that one is dropped.
+// 000's `from_loop`, in parts: a tile's boundary given as one closed loop of points, counter-clockwise, lent as x, y in turn; its test (1 and
+// 12), and the quarters that it falls into. The natural loop of 8 points or more repeats its first point at the end; that one is dropped.
 ghost use mathlib.Core.Path.{_≡_};
 ghost use Prim.Native.Nat.{_<_, _≤_};
 ghost use Rattle.counts.specs.Refusal.{outcome};
