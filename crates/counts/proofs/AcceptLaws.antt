@@ -17,7 +17,7 @@ use lib.Ieee.Fits.{and-i, and-l, and-r, up-pos}
 use Rattle.counts.specs.Lists.{member}
 use Rattle.counts.specs.Region.{places}
 use Rattle.counts.specs.Refusal.{Verdict, passed, refused, verdict-of, outcome, is-passed, then-test, refuse-if}
-use Rattle.counts.specs.Accept.{sides-fit, records-whole, limits-test, first-bad, ideal-ok, shared-edge, side-test, pair-test, region-test, pairs-test}
+use Rattle.counts.specs.Accept.{sides-fit, records-whole, limits-test, first-bad, ideal-ok, ranges, shared-edge, side-test, pair-test, region-test, pairs-test}
 use Rattle.counts.proofs.RefusalLaws.{then-test-assoc}
 use Rattle.counts.proofs.Turns.{drop-at}
 
@@ -234,3 +234,33 @@ unfolding lt ofBits
 ideal-not-below nan h = refl
 ideal-not-below (inf s) h = refl
 ideal-not-below (fin s m e) h = absurd (true≢false h)
+
+-- ---- the ranges of edges
+
+pub length-ranges : (least most : List Float) → length most ≡ length least → length (ranges least most) ≡ length least
+length-ranges [] most h = refl
+length-ranges (l ∷ least) [] h = absurd (omega arith)
+length-ranges (l ∷ least) (m ∷ most) h = let e = length-ranges least most (omega arith) in omega arith
+
+pub range-at : (least most : List Float) (d : Float) (i : ℕ) → length most ≡ length least → getD (ranges least most) i (d, d) ≡ (getD least i d, getD most i d)
+range-at [] [] d i h = refl
+range-at [] (m ∷ most) d i h = absurd (omega arith)
+range-at (l ∷ least) [] d i h = absurd (omega arith)
+range-at (l ∷ least) (m ∷ most) d zero h = refl
+range-at (l ∷ least) (m ∷ most) d (suc i) h = range-at least most d i (omega arith)
+
+-- one test of both ends, edge after edge
+module _ (ok : Float × Float → Bool) (number : ℕ) (least most : List Float) (same : length most ≡ length least) (i : ℕ) where
+  abbrev left-from : ℕ → Verdict
+  left-from k = first-bad ok number k (drop k (ranges least most))
+
+  pub range-next : i < length least → ok (getD least i nan, getD most i nan) ≡ true → left-from i ≡ left-from (i + 1)
+  range-next h t =
+      bad-next ok number (ranges least most) (nan, nan) i (let e = length-ranges least most same in omega arith) (ap ok (range-at least most nan i same) ∙ t)
+
+  pub range-here : i < length least → ok (getD least i nan, getD most i nan) ≡ false → left-from i ≡ refused number i 0
+  range-here h t =
+      bad-here ok number (ranges least most) (nan, nan) i (let e = length-ranges least most same in omega arith) (ap ok (range-at least most nan i same) ∙ t)
+
+  pub range-none : length least ≤ i → left-from i ≡ passed
+  range-none h = bad-none ok number (ranges least most) (nan, nan) i (let e = length-ranges least most same in omega arith)

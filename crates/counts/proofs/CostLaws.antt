@@ -11,7 +11,7 @@ use lib.Seq.{getD-set-same, getD-set-other}
 use lib.Dec.{ltb}
 use lib.Ieee.{Float, nan, add, binary64}
 use Rattle.counts.specs.Move.{allowed}
-use Rattle.counts.specs.Cost.{one, real, deviation, square, edge-delta, by-ideals, set-both, Entries, energy-from}
+use Rattle.counts.specs.Cost.{one, real, deviation, square, range-delta, CostModel, by-ranges, Local, set-both, Entries, energy-from}
 use Rattle.counts.proofs.Turns.{drop-at}
 
 -- below the length the default does not matter
@@ -40,14 +40,14 @@ length-both l e a b = length-set (set l (e * 2 + 1) a) (e * 2) b ∙ length-set 
 
 -- ---- the entries of one edge
 
-module _ (counts : List ℕ) (ideals costs : List Float) (may : List Bool) (e : ℕ) (a b : Float) (t : Bool) where
+module _ (counts : List ℕ) (model : CostModel) (costs : List Float) (may : List Bool) (e : ℕ) (a b : Float) (t : Bool) where
   abbrev costs-then : List Float
   costs-then = set-both costs e a b
 
   abbrev may-then : List Bool
   may-then = set-both may e true t
 
-  pub entries-kept : (y : ℕ) → y ≢ e → Entries counts ideals costs may y → Entries counts ideals costs-then may-then y
+  pub entries-kept : (y : ℕ) → y ≢ e → Entries counts model costs may y → Entries counts model costs-then may-then y
   entries-kept y n old =
       record {
         plus-cost = both-other costs e (y * 2 + 1) a b nan (λ q. n (omega (arith, q))) ∙ old .plus-cost;
@@ -56,7 +56,7 @@ module _ (counts : List ℕ) (ideals costs : List Float) (may : List Bool) (e : 
         minus-may = both-other may e (y * 2) true t false (λ q. n (omega (arith, q))) ∙ old .minus-may;
       }
 
-  pub entries-new : e * 2 + 1 < length costs → e * 2 + 1 < length may → a ≡ by-ideals ideals counts e true → b ≡ by-ideals ideals counts e false → t ≡ allowed counts e false → Entries counts ideals costs-then may-then e
+  pub entries-new : e * 2 + 1 < length costs → e * 2 + 1 < length may → a ≡ model counts e true → b ≡ model counts e false → t ≡ allowed counts e false → Entries counts model costs-then may-then e
   entries-new h k p q r =
       record {
         plus-cost = both-plus costs e a b nan h ∙ p;
@@ -65,19 +65,30 @@ module _ (counts : List ℕ) (ideals costs : List Float) (may : List Bool) (e : 
         minus-may = both-minus may e true t false k ∙ r;
       }
 
--- a turn of the loop that fills the tables
-pub entries-more : (counts : List ℕ) (ideals costs : List Float) (may : List Bool) (e : ℕ) (ideal : Float) (costs' : List Float) (may' : List Bool) → e * 2 + 1 < length costs → e * 2 + 1 < length may → ideal ≡ getD ideals e one
-    → (costs' ≡ set-both costs e (edge-delta (getD counts e 0) ideal true) (edge-delta (getD counts e 0) ideal false)) × (may' ≡ set-both may e true (ltb 0 (getD counts e 0)))
-    → ((y : ℕ) → y < e → Entries counts ideals costs may y) → (y : ℕ) → y < e + 1 → Entries counts ideals costs' may' y
-entries-more counts ideals costs may e ideal costs' may' h k i q old y l =
-    let a = edge-delta (getD counts e 0) ideal true in
-    let b = edge-delta (getD counts e 0) ideal false in
+-- a turn of the loop that fills the tables: edge e has the entries of its price
+pub entries-more : (counts : List ℕ) (model : CostModel) (costs : List Float) (may : List Bool) (e : ℕ) (price : Bool → Float) (costs' : List Float) (may' : List Bool)
+    → e * 2 + 1 < length costs → e * 2 + 1 < length may → ((d : Bool) → price d ≡ model counts e d)
+    → (costs' ≡ set-both costs e (price true) (price false)) × (may' ≡ set-both may e true (ltb 0 (getD counts e 0)))
+    → ((y : ℕ) → y < e → Entries counts model costs may y) → (y : ℕ) → y < e + 1 → Entries counts model costs' may' y
+entries-more counts model costs may e price costs' may' h k i q old y l =
+    let a = price true in
+    let b = price false in
     let t = ltb 0 (getD counts e 0) in
-    let here : Entries counts ideals (set-both costs e a b) (set-both may e true t) y =
-    below-more (Entries counts ideals (set-both costs e a b) (set-both may e true t)) e
-    (λ z m. entries-kept counts ideals costs may e a b t z (λ u. omega (arith, u, m)) (old z m))
-    (entries-new counts ideals costs may e a b t h k (ap (λ (x : Float). edge-delta (getD counts e 0) x true) i) (ap (λ (x : Float). edge-delta (getD counts e 0) x false) i) refl) y l in
-    subst (λ (m : List Bool). Entries counts ideals costs' m y) (sym (q .1)) (subst (λ (c : List Float). Entries counts ideals c (set-both may e true t) y) (sym (q .0)) here)
+    let here : Entries counts model (set-both costs e a b) (set-both may e true t) y =
+    below-more (Entries counts model (set-both costs e a b) (set-both may e true t)) e
+    (λ z m. entries-kept counts model costs may e a b t z (λ u. omega (arith, u, m)) (old z m))
+    (entries-new counts model costs may e a b t h k (i true) (i false) refl) y l in
+    subst (λ (m : List Bool). Entries counts model costs' m y) (sym (q .1)) (subst (λ (c : List Float). Entries counts model c (set-both may e true t) y) (sym (q .0)) here)
+
+-- the price of an edge by its range, whatever stands past the ends of the lists
+pub range-price : (counts : List ℕ) (least most : List Float) (e : ℕ) (d d' : Float) → e < length least → e < length most
+    → (s : Bool) → range-delta (getD counts e 0) (getD least e d) (getD most e d') s ≡ by-ranges least most counts e s
+range-price counts least most e d d' h k s =
+    ap (λ (x : Float). range-delta (getD counts e 0) x (getD most e d') s) (getD-default least e d one h)
+    ∙ ap (λ (x : Float). range-delta (getD counts e 0) (getD least e one) x s) (getD-default most e d' one k)
+
+pub ranges-local : (least most : List Float) → Local (by-ranges least most)
+ranges-local least most before after x d e = ap (λ (s : ℕ). range-delta s (getD least x one) (getD most x one) d) e
 
 -- ---- the energy
 pub energy-turn : (counts : List ℕ) (ideals : List Float) (d t : Float) (e : ℕ) → e < length counts → e < length ideals

@@ -14,7 +14,7 @@ use Rattle.counts.specs.Lists.{In, Distinct, each}
 use Rattle.counts.specs.Refusal.{is-passed}
 use Rattle.counts.specs.Region.{Constraint, constraint, holds, graph, places}
 use Rattle.counts.specs.Move.{Change, EdgeCost, edges, allowed}
-use Rattle.counts.specs.Cost.{CostModel, by-ideals, Entries}
+use Rattle.counts.specs.Cost.{CostModel, Entries}
 use Rattle.counts.specs.Search.{State, run}
 use Rattle.counts.specs.Round.{Found, weigh, starts, nothing-found, try-start, find-augmentation, find-move}
 use Rattle.counts.specs.Tables.{the-graph, cost-in, allowed-in}
@@ -27,22 +27,22 @@ use Rattle.counts.proofs.Same.{run-same}
 
 -- ---- tables filled edge by edge
 
-pub entry-cost : (counts : List ℕ) (ideals costs : List Float) (may : List Bool) (y : ℕ) (s : Bool) → Entries counts ideals costs may y → cost-in costs y s ≡ by-ideals ideals counts y s
-entry-cost counts ideals costs may y true r = r .plus-cost
-entry-cost counts ideals costs may y false r = ap (λ (k : ℕ). getD costs k nan) (add-zero (y * 2)) ∙ r .minus-cost
+pub entry-cost : (counts : List ℕ) (model : CostModel) (costs : List Float) (may : List Bool) (y : ℕ) (s : Bool) → Entries counts model costs may y → cost-in costs y s ≡ model counts y s
+entry-cost counts model costs may y true r = r .plus-cost
+entry-cost counts model costs may y false r = ap (λ (k : ℕ). getD costs k nan) (add-zero (y * 2)) ∙ r .minus-cost
 
-pub entry-may : (counts : List ℕ) (ideals costs : List Float) (may : List Bool) (y : ℕ) (s : Bool) → Entries counts ideals costs may y → allowed-in may y s ≡ allowed counts y s
-entry-may counts ideals costs may y true r = r .plus-may
-entry-may counts ideals costs may y false r = ap (λ (k : ℕ). getD may k false) (add-zero (y * 2)) ∙ r .minus-may
+pub entry-may : (counts : List ℕ) (model : CostModel) (costs : List Float) (may : List Bool) (y : ℕ) (s : Bool) → Entries counts model costs may y → allowed-in may y s ≡ allowed counts y s
+entry-may counts model costs may y true r = r .plus-may
+entry-may counts model costs may y false r = ap (λ (k : ℕ). getD may k false) (add-zero (y * 2)) ∙ r .minus-may
 
-pub priced : (counts : List ℕ) (ideals costs : List Float) (may : List Bool) → ((y : ℕ) → y < length counts → Entries counts ideals costs may y)
-    → (length costs ≡ 512) × (length may ≡ 512) → Priced (by-ideals ideals) counts costs may
-priced counts ideals costs may e l =
+pub priced : (counts : List ℕ) (model : CostModel) (costs : List Float) (may : List Bool) → ((y : ℕ) → y < length counts → Entries counts model costs may y)
+    → (length costs ≡ 512) × (length may ≡ 512) → Priced model counts costs may
+priced counts model costs may e l =
     record {
       costs-long = l .0;
       may-long = l .1;
-      cost-is = λ y s h. entry-cost counts ideals costs may y s (e y h);
-      may-is = λ y s h. entry-may counts ideals costs may y s (e y h);
+      cost-is = λ y s h. entry-cost counts model costs may y s (e y h);
+      may-is = λ y s h. entry-may counts model costs may y s (e y h);
     }
 
 -- ---- costs that agree below n find the same
@@ -111,5 +111,5 @@ nothing-known regions costs may limit kept cut known k t e =
       right = λ c h q. absurd (not-known 512 c (sym (ap (λ (l : List Bool). getD l c false) e) ∙ q));
     }
 
-pub tested-ok : (regions counts : List ℕ) (ideals : List Float) → RoundInput regions counts ideals → Accepted (length counts) (the-graph regions)
-tested-ok regions counts ideals t = regions-ok places (length counts) regions (t .regions-pass)
+pub tested-ok : (regions counts : List ℕ) → RoundInput regions counts → Accepted (length counts) (the-graph regions)
+tested-ok regions counts t = regions-ok places (length counts) regions (t .regions-pass)

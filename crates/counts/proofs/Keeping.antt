@@ -12,7 +12,7 @@ use lib.Ieee.{Float, nan}
 use Rattle.counts.specs.Lists.{In, member}
 use Rattle.counts.specs.Region.{constraint, holds, incidence}
 use Rattle.counts.specs.Move.{Change, Joined, same, next, edges, allowed, apply-changes}
-use Rattle.counts.specs.Cost.{one, edge-delta, by-ideals}
+use Rattle.counts.specs.Cost.{CostModel, Local}
 use Rattle.counts.specs.Search.{State, run}
 use Rattle.counts.specs.Round.{Found, find-move}
 use Rattle.counts.specs.Tables.{the-graph, decoded, encoded, path-of, cost-in, allowed-in, none, Tables}
@@ -101,15 +101,15 @@ module _ (regions incident own labels : List ℕ) (n : ℕ) (tables : Tables reg
 
 -- ---- the move found touches one part
 
-pub one-part : (regions incident own labels counts : List ℕ) (ideals : List Float) (limit : ℕ) → Tables regions incident own → (ok : Accepted (length counts) (the-graph regions)) → Labels (length counts) incident labels
-    → (z w : Change) → In z (find-move (the-graph regions) (by-ideals ideals) counts limit .best) → In w (find-move (the-graph regions) (by-ideals ideals) counts limit .best)
+pub one-part : (regions incident own labels counts : List ℕ) (model : CostModel) (limit : ℕ) → Tables regions incident own → (ok : Accepted (length counts) (the-graph regions)) → Labels (length counts) incident labels
+    → (z w : Change) → In z (find-move (the-graph regions) model counts limit .best) → In w (find-move (the-graph regions) model counts limit .best)
     → getD labels (z .0) 0 ≡ getD labels (w .0) 0
-one-part regions incident own labels counts ideals limit tables ok lab z w iz iw = go (found (the-graph regions) counts ok (by-ideals ideals) limit)
+one-part regions incident own labels counts model limit tables ok lab z w iz iw = go (found (the-graph regions) counts ok model limit)
   where
     b : Found
-    b = find-move (the-graph regions) (by-ideals ideals) counts limit
+    b = find-move (the-graph regions) model counts limit
 
-    go : Finds (the-graph regions) counts ok (by-ideals ideals) limit b → getD labels (z .0) 0 ≡ getD labels (w .0) 0
+    go : Finds (the-graph regions) counts ok model limit b → getD labels (z .0) 0 ≡ getD labels (w .0) 0
     go (found-none k e) = absurd (nothing-in z (b .best) iz e)
     go (some r c l) =
         joined-label regions incident own labels (length counts) tables ok lab (edges (b .best)) (z .0) (w .0)
@@ -117,10 +117,10 @@ one-part regions incident own labels counts ideals limit tables ok lab z w iz iw
 
 -- ---- the tables after a move
 
-module _ (regions incident own labels counts after : List ℕ) (ideals : List Float) (limit part : ℕ) (costs costs' : List Float) (may may' : List Bool) (kept : List Float) (cut known known' : List Bool) (r : List Change)
-    (tables : Tables regions incident own) (ok : Accepted (length counts) (the-graph regions)) (lab : Labels (length counts) incident labels)
-    (ready : Ready regions ideals limit counts costs may kept cut known) (made : after ≡ apply-changes r counts)
-    (touched : (z : Change) → In z r → getD labels (z .0) 0 ≡ part) (fresh : Refreshed (length counts) labels part after ideals costs may known costs' may' known') where
+module _ (regions incident own labels counts after : List ℕ) (model : CostModel) (limit part : ℕ) (costs costs' : List Float) (may may' : List Bool) (kept : List Float) (cut known known' : List Bool) (r : List Change)
+    (local : Local model) (tables : Tables regions incident own) (ok : Accepted (length counts) (the-graph regions)) (lab : Labels (length counts) incident labels)
+    (ready : Ready regions model limit counts costs may kept cut known) (made : after ≡ apply-changes r counts)
+    (touched : (z : Change) → In z r → getD labels (z .0) 0 ≡ part) (fresh : Refreshed (length counts) labels part after model costs may known costs' may' known') where
   in-change : (x : ℕ) (l : List Change) → In x (edges l) → (z : Change) × In z l × (x ≡ z .0)
   in-change x [] i = absurd i
   in-change x (z ∷ l) (inl e) = (z, inl refl, e)
@@ -134,17 +134,17 @@ module _ (regions incident own labels counts after : List ℕ) (ideals : List Fl
   inside : (y : ℕ) → y < length after → y < length counts
   inside y h = let e = ap length made ∙ apply-length r counts in omega (arith, h, e)
 
-  cost-now : (y : ℕ) (s : Bool) → y < length after → cost-in costs' y s ≡ by-ideals ideals after y s
+  cost-now : (y : ℕ) (s : Bool) → y < length after → cost-in costs' y s ≡ model after y s
   cost-now y s h =
-      by-cases (eqb (getD labels y 0) part) (λ t. entry-cost after ideals costs' may' y s (fresh .fresh y (inside y h) (eqb→eq (getD labels y 0) part t)))
+      by-cases (eqb (getD labels y 0) part) (λ t. entry-cost after model costs' may' y s (fresh .fresh y (inside y h) (eqb→eq (getD labels y 0) part t)))
       (λ t. let n : getD labels y 0 ≢ part = λ q. clash (eqb (getD labels y 0) part) (eq→eqb (getD labels y 0) part q) t in
       cost-same regions incident own labels (length counts) tables ok lab part costs costs' may may' (fresh .same-cost) (fresh .same-may) y s (λ l. n)
       ∙ ready .priced .cost-is y s (inside y h)
-      ∙ ap (λ (k : ℕ). edge-delta k (getD ideals y one) s) (sym (count-same y n)))
+      ∙ sym (local counts after y s (count-same y n)))
 
   may-now : (y : ℕ) (s : Bool) → y < length after → allowed-in may' y s ≡ allowed after y s
   may-now y s h =
-      by-cases (eqb (getD labels y 0) part) (λ t. entry-may after ideals costs' may' y s (fresh .fresh y (inside y h) (eqb→eq (getD labels y 0) part t)))
+      by-cases (eqb (getD labels y 0) part) (λ t. entry-may after model costs' may' y s (fresh .fresh y (inside y h) (eqb→eq (getD labels y 0) part t)))
       (λ t. let n : getD labels y 0 ≢ part = λ q. clash (eqb (getD labels y 0) part) (eq→eqb (getD labels y 0) part q) t in
       may-same regions incident own labels (length counts) tables ok lab part costs costs' may may' (fresh .same-cost) (fresh .same-may) y s (λ l. n)
       ∙ ready .priced .may-is y s (inside y h)
@@ -157,7 +157,7 @@ module _ (regions incident own labels counts after : List ℕ) (ideals : List Fl
       let e = search-same regions incident own labels (length counts) tables ok lab part costs costs' may may' (fresh .same-cost) (fresh .same-may) limit c (k .0) in
       record { kept-is = old .kept-is ∙ ap (λ (st : State). st .kept) e; cut-is = old .cut-is ∙ ap (λ (st : State). st .cut) e }
 
-  pub ready-again : Ready regions ideals limit after costs' may' kept cut known'
+  pub ready-again : Ready regions model limit after costs' may' kept cut known'
   ready-again =
       record {
         priced = record { costs-long = fresh .costs-long; may-long = fresh .may-long; cost-is = cost-now; may-is = may-now };
@@ -171,11 +171,11 @@ module _ (regions incident own labels counts after : List ℕ) (ideals : List Fl
       }
 
 -- what the code refreshes is the part of the move's first change
-pub refreshed-by : (labels counts after : List ℕ) (ideals costs costs' : List Float) (may may' known known' : List Bool) (r : List Change) (c d : ℕ) → after ≡ apply-changes r counts → c ≡ d
-    → Refreshed (length after) labels (getD labels (c / 2) 0) after ideals costs may known costs' may' known' → Refreshed (length counts) labels (getD labels (d / 2) 0) after ideals costs may known costs' may' known'
-refreshed-by labels counts after ideals costs costs' may may' known known' r c d made q f =
-    subst (λ (n : ℕ). Refreshed n labels (getD labels (d / 2) 0) after ideals costs may known costs' may' known') (ap length made ∙ apply-length r counts)
-    (subst (λ (k : ℕ). Refreshed (length after) labels (getD labels (k / 2) 0) after ideals costs may known costs' may' known') q f)
+pub refreshed-by : (labels counts after : List ℕ) (model : CostModel) (costs costs' : List Float) (may may' known known' : List Bool) (r : List Change) (c d : ℕ) → after ≡ apply-changes r counts → c ≡ d
+    → Refreshed (length after) labels (getD labels (c / 2) 0) after model costs may known costs' may' known' → Refreshed (length counts) labels (getD labels (d / 2) 0) after model costs may known costs' may' known'
+refreshed-by labels counts after model costs costs' may may' known known' r c d made q f =
+    subst (λ (n : ℕ). Refreshed n labels (getD labels (d / 2) 0) after model costs may known costs' may' known') (ap length made ∙ apply-length r counts)
+    (subst (λ (k : ℕ). Refreshed (length after) labels (getD labels (k / 2) 0) after model costs may known costs' may' known') q f)
 
 -- the edge of the first change
 pub first-below : (counts best : List ℕ) (len : ℕ) → CanApply counts (path-of len best) → 0 < len → length best ≡ 257 → getD best 0 0 / 2 < length counts

@@ -10,6 +10,7 @@ pub mod Complete
 pub mod CostLaws
 pub mod Endings
 pub mod Entry
+pub mod EqualEnds
 pub mod Find
 pub mod Finding
 pub mod FloatLaws
@@ -20,6 +21,7 @@ pub mod Marks
 pub mod PartLaws
 pub mod Places
 pub mod Placing
+pub mod RangeLaws
 pub mod RefusalLaws
 pub mod RoundLaws
 pub mod Rounds

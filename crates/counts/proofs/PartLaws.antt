@@ -11,7 +11,7 @@ use lib.ListN.{length, getD, set}
 use lib.Seq.{getD-set-same, getD-set-other}
 use lib.Dec.{T, eqb, ltb, eqb→eq, ltb→lt, nltb→le}
 use lib.Ieee.{Float, nan}
-use Rattle.counts.specs.Cost.{one, edge-delta, set-both, Entries}
+use Rattle.counts.specs.Cost.{CostModel, set-both, Entries}
 use Rattle.counts.specs.Tables.{none}
 use Rattle.counts.specs.Parts.{At, Labels, renamed, StillEqual, OneMark, Taken, Outside, EdgeRefreshed, Refreshed}
 use Rattle.counts.proofs.BoolLaws.{by-cases, eq→eqb, cond-yes, clash}
@@ -84,9 +84,9 @@ forgotten l e k h q =
     odd : (k ≡ e * 2 → ⊥) → k ≡ e * 2 + 1
     odd n = omega (arith, q, n)
 
-module _ (labels : List ℕ) (part : ℕ) (counts : List ℕ) (ideals costs : List Float) (may known : List Bool) where
+module _ (labels : List ℕ) (part : ℕ) (counts : List ℕ) (model : CostModel) (costs : List Float) (may known : List Bool) where
   abbrev So-far : ℕ → List Float → List Bool → List Bool → Type 0
-  So-far m = Refreshed m labels part counts ideals costs may known
+  So-far m = Refreshed m labels part counts model costs may known
 
   pub refresh-none : length costs ≡ 512 → length may ≡ 512 → length known ≡ 512 → So-far 0 costs may known
   refresh-none c m k =
@@ -113,7 +113,7 @@ module _ (labels : List ℕ) (part : ℕ) (counts : List ℕ) (ideals costs : Li
           costs-long = r .costs-long;
           may-long = r .may-long;
           known-long = r .known-long;
-          fresh = below-more (λ (y : ℕ). getD labels y 0 ≡ part → Entries counts ideals costs₁ may₁ y) e (r .fresh) (λ q. absurd (n q));
+          fresh = below-more (λ (y : ℕ). getD labels y 0 ≡ part → Entries counts model costs₁ may₁ y) e (r .fresh) (λ q. absurd (n q));
           same-cost = λ k o. r .same-cost k (wider k o);
           same-may = λ k o. r .same-may k (wider k o);
           still-known = λ k q. (
@@ -122,12 +122,12 @@ module _ (labels : List ℕ) (part : ℕ) (counts : List ℕ) (ideals costs : Li
           );
         }
 
-    module _ (ideal : Float) (is : ideal ≡ getD ideals e one) (label : getD labels e 0 ≡ part) where
+    module _ (price : Bool → Float) (is : (d : Bool) → price d ≡ model counts e d) (label : getD labels e 0 ≡ part) where
       abbrev a : Float
-      a = edge-delta (getD counts e 0) ideal true
+      a = price true
 
       abbrev b : Float
-      b = edge-delta (getD counts e 0) ideal false
+      b = price false
 
       abbrev t : Bool
       t = ltb 0 (getD counts e 0)
@@ -147,24 +147,24 @@ module _ (labels : List ℕ) (part : ℕ) (counts : List ℕ) (ideals costs : Li
             costs-long = length-both costs₁ e a b ∙ r .costs-long;
             may-long = length-both may₁ e true t ∙ r .may-long;
             known-long = length-both known₁ e false false ∙ r .known-long;
-            fresh = below-more (λ (y : ℕ). getD labels y 0 ≡ part → Entries counts ideals (set-both costs₁ e a b) (set-both may₁ e true t) y) e
-                (λ y l q. entries-kept counts ideals costs₁ may₁ e a b t y (λ u. omega (arith, u, l)) (r .fresh y l q))
-                (λ q. entries-new counts ideals costs₁ may₁ e a b t (let l = r .costs-long in omega (arith, l, h)) (let l = r .may-long in omega (arith, l, h))
-                (ap (λ (x : Float). edge-delta (getD counts e 0) x true) is) (ap (λ (x : Float). edge-delta (getD counts e 0) x false) is) refl);
+            fresh = below-more (λ (y : ℕ). getD labels y 0 ≡ part → Entries counts model (set-both costs₁ e a b) (set-both may₁ e true t) y) e
+                (λ y l q. entries-kept counts model costs₁ may₁ e a b t y (λ u. omega (arith, u, l)) (r .fresh y l q))
+                (λ q. entries-new counts model costs₁ may₁ e a b t (let l = r .costs-long in omega (arith, l, h)) (let l = r .may-long in omega (arith, l, h))
+                (is true) (is false) refl);
             same-cost = λ k o. both-other costs₁ e k a b nan (elsewhere k o) ∙ r .same-cost k (wider k o);
             same-may = λ k o. both-other may₁ e k true t false (elsewhere k o) ∙ r .same-may k (wider k o);
             still-known = still;
           }
 
-    pub refresh-more : (ideal : Float) (costs₂ : List Float) (may₂ known₂ : List Bool) → ideal ≡ getD ideals e one
-        → EdgeRefreshed (getD labels e 0) part (getD counts e 0) ideal e costs₁ may₁ known₁ costs₂ may₂ known₂ → So-far (e + 1) costs₂ may₂ known₂
-    refresh-more ideal costs₂ may₂ known₂ is (inl q) = carried (q .1) (q .2) (q .3) (not-here (q .0))
+    pub refresh-more : (price : Bool → Float) (costs₂ : List Float) (may₂ known₂ : List Bool) → ((d : Bool) → price d ≡ model counts e d)
+        → EdgeRefreshed (getD labels e 0) part (getD counts e 0) price e costs₁ may₁ known₁ costs₂ may₂ known₂ → So-far (e + 1) costs₂ may₂ known₂
+    refresh-more price costs₂ may₂ known₂ is (inl q) = carried (q .1) (q .2) (q .3) (not-here (q .0))
       where
         carried : costs₂ ≡ costs₁ → may₂ ≡ may₁ → known₂ ≡ known₁ → So-far (e + 1) costs₁ may₁ known₁ → So-far (e + 1) costs₂ may₂ known₂
         carried c m k w =
             subst (λ (l : List Float). So-far (e + 1) l may₂ known₂) (sym c)
             (subst (λ (l : List Bool). So-far (e + 1) costs₁ l known₂) (sym m) (subst (λ (l : List Bool). So-far (e + 1) costs₁ may₁ l) (sym k) w))
-    refresh-more ideal costs₂ may₂ known₂ is (inr q) =
+    refresh-more price costs₂ may₂ known₂ is (inr q) =
         subst (λ (l : List Float). So-far (e + 1) l may₂ known₂) (sym (q .1))
-        (subst (λ (l : List Bool). So-far (e + 1) (set-both costs₁ e (a ideal is (q .0)) (b ideal is (q .0))) l known₂) (sym (q .2))
-        (subst (λ (l : List Bool). So-far (e + 1) (set-both costs₁ e (a ideal is (q .0)) (b ideal is (q .0))) (set-both may₁ e true (t ideal is (q .0))) l) (sym (q .3)) (here ideal is (q .0))))
+        (subst (λ (l : List Bool). So-far (e + 1) (set-both costs₁ e (a price is (q .0)) (b price is (q .0))) l known₂) (sym (q .2))
+        (subst (λ (l : List Bool). So-far (e + 1) (set-both costs₁ e (a price is (q .0)) (b price is (q .0))) (set-both may₁ e true (t price is (q .0))) l) (sym (q .3)) (here price is (q .0))))

@@ -69,6 +69,7 @@ refusal-number (because.BadQuadArea i j) = refl
 refusal-number because.NoCells = refl
 refusal-number (because.BreaksMismatch s) = refl
 refusal-number because.RootUndefined = refl
+refusal-number (because.RangeReversed e) = refl
 
 -- what a test that refuses says
 pub was-refused : {c : Check} {r : Refusal} {v : Verdict} → c ≡ Refused r → outcome c ≡ v → (verdict-of r ≡ v) × (is-passed v ≡ false)
@@ -89,6 +90,10 @@ chain-stops w e o = sym (ap outcome e) ∙ chain-ends w e o
 pub chain-goes-on : {c : Check} {v w : Verdict} → c ≡ Passed → outcome c ≡ v → w ≡ then-test v w
 unfolding outcome
 chain-goes-on {c} {v} {w} e o = let q : passed ≡ v = sym (ap outcome e) ∙ o in ap (λ (u : Verdict). then-test u w) q
+
+-- two tests in a row, each known
+pub in-a-row : {u v w x : Verdict} → u ≡ w → v ≡ x → then-test u v ≡ then-test w x
+in-a-row {u} {v} {w} {x} e f = ap (λ (t : Verdict). then-test t v) e ∙ ap (then-test w) f
 
 -- what a test that is passed says
 pub was-passed : {c : Check} {v : Verdict} → c ≡ Passed → outcome c ≡ v → is-passed v ≡ true

@@ -15,12 +15,12 @@ use lib.Ieee.{Float, lt, neg}
 use Rattle.counts.specs.Refusal.{Verdict, is-passed}
 use Rattle.counts.specs.Region.{Constraint, constraint, constraints, places, graph, record-size, region-count, side, side-sum}
 use Rattle.counts.specs.Move.{Change, apply-changes, cost, Reading, Makes}
-use Rattle.counts.specs.Cost.{CostModel, by-ideals}
+use Rattle.counts.specs.Cost.{CostModel}
 use Rattle.counts.specs.Search.{eps, two-eps}
 use Rattle.counts.specs.Round.{Found, find-move}
 use Rattle.counts.specs.Accept.{accepted}
 use Rattle.counts.specs.Solver.{Round, round-made, round-by, round-refused, round-with, round, round-test}
-use Rattle.counts.specs.Demand.{left, left-by-all, Told, Told-all, Demand, Ask, asked, costs-of, sum-of}
+use Rattle.counts.specs.Demand.{left, left-by-all, Told, Told-all, Demand, Ask, asked, asked-costs, sum-of}
 use Rattle.counts.proofs.Accepted.{Accepted, accepted-ok}
 use Rattle.counts.proofs.Balance.{move-balance}
 use Rattle.counts.proofs.BoolLaws.{by-cases}
@@ -212,10 +212,19 @@ module _ {Ask : Type 0} (regions : List ℕ) (answer : Ask → List ℕ → Roun
       steady : Steady (graph places regions) counts (left-by-all regions answer costs counts asks)
       steady = steady-all regions answer costs test limit is asks counts ok
 
--- Demand 3's claim on the public round: for accepted regions, any starting counts and any list of rounds.
-pub demand-3-rounds : (regions counts : List ℕ) (asks : List Ask) → T (accepted places (length counts) regions)
-    → Demand regions (asked regions) costs-of counts asks
+-- ---- the public rounds, of either kind
+
+abbrev pub test-of : List ℕ → Ask → List ℕ → Verdict
+test-of regions ask counts = round-test places regions (ask .spacing) counts (ask .limit)
+
+abbrev pub limit-of : Ask → ℕ
+limit-of ask = ask .limit
+
+pub asked-is : (regions : List ℕ) (ask : Ask) (counts : List ℕ) → asked regions ask counts ≡ round-with places (test-of regions ask counts) (asked-costs ask) regions counts (limit-of ask)
 unfolding round
-demand-3-rounds regions counts asks t =
-    rounds-as-demanded regions (asked regions) costs-of (λ ask counts. round-test places regions (ask .ideals) counts (ask .limit)) (λ ask. ask .limit)
-    (λ ask counts. refl) counts asks t
+asked-is regions ask counts = refl
+
+-- Demand 3's claim on the public rounds: for accepted regions, any starting counts and any list of rounds, each of either kind.
+pub demand-3-rounds : (regions counts : List ℕ) (asks : List Ask) → T (accepted places (length counts) regions)
+    → Demand regions (asked regions) asked-costs counts asks
+demand-3-rounds regions counts asks t = rounds-as-demanded regions (asked regions) asked-costs (test-of regions) limit-of (asked-is regions) counts asks t

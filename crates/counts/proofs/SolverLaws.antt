@@ -11,9 +11,10 @@ use lib.Ieee.{Float, binary64, ofBits}
 use Rattle.counts.specs.Lists.{all}
 use Rattle.counts.specs.Region.{Constraint, places, region-count, side, constraints, graph, side-sum}
 use Rattle.counts.specs.Refusal.{Verdict, passed, refused, outcome, is-passed, then-test, refuse-if}
-use Rattle.counts.specs.Cost.{energy-from}
-use Rattle.counts.specs.Accept.{limits-test, ideals-test, counts-test, values-test, pairs-test, overused-test, regions-test}
-use Rattle.counts.specs.Solver.{max-limit, round-test, round-test-head, solve-test, solve-test-head, Energy, energy-of, energy-test, energy, Hold, hold-of, side-in-range, sum-of-side, constraint-holds, constraints-hold}
+use Rattle.counts.specs.Cost.{Spacing, by, within, edges-of, energy-from}
+use Rattle.counts.specs.Accept.{limits-test, counts-test, spacing-limits, lengths-test, spacing-lengths, spacing-test, values-test, pairs-test, overused-test, regions-test}
+use Rattle.counts.specs.Solver.{max-limit, round-order, round-test, round-head, solve-order, solve-test, solve-head}
+use Rattle.counts.specs.Solver.{Energy, energy-of, energy-test, energy, Hold, hold-of, side-in-range, sum-of-side, constraint-holds, constraints-hold}
 use Rattle.counts.specs.declared.answer.EnergyAnswer.the-variants as energy-answer
 use Rattle.counts.specs.declared.answer.HoldAnswer.the-variants as hold-answer
 use Rattle.counts.specs.declared.measure.SideSum.{SideSum}
@@ -25,79 +26,110 @@ use Rattle.counts.proofs.AcceptLaws.{limits-passed, count-down, next-re
 use Rattle.counts.proofs.RefusalLaws.{was-refused, was-passed, then-passed, then-test-assoc}
 
 -- ---- round and solve: the code makes 6 on its tables, after the rest
-pub round-test-chain : (p : ℕ) (regions : List ℕ) (ideals : List Float) (counts : List ℕ) (limit : ℕ) → round-test p regions ideals counts limit ≡ then-test (round-test-head p regions ideals counts limit) (overused-test (graph p regions) 0 (length ideals))
-unfolding round-test round-test-head regions-test
-round-test-chain p regions ideals counts limit =
-    let a = limits-test p (length ideals) regions in
-    let b = limits-test p (length counts) regions in
-    let c = refuse-if (ltb max-limit limit) (refused 10 0 0) in
-    let d = refuse-if (not (eqb (length counts) (length ideals))) (refused 8 0 0) in
-    let e = ideals-test ideals in
-    let f = counts-test counts in
-    let g = pairs-test p (length ideals) 0 (region-count p regions) regions in
-    let h = overused-test (graph p regions) 0 (length ideals) in
-    let q : then-test d (then-test e (then-test f (then-test g h))) ≡ then-test (then-test (values-test counts ideals) g) h =
-    ap (then-test d) (sym (then-test-assoc e f (then-test g h))) ∙ sym (then-test-assoc d (then-test e f) (then-test g h)) ∙ sym (then-test-assoc (values-test counts ideals) g h) in
-    ap (then-test a) (ap (then-test b) (ap (then-test c) q ∙ sym (then-test-assoc c (then-test (values-test counts ideals) g) h)) ∙ sym (then-test-assoc b (then-test c (then-test (values-test counts ideals) g)) h))
-    ∙ sym (then-test-assoc a (then-test b (then-test c (then-test (values-test counts ideals) g))) h)
+onto : (a : Verdict) {x : Verdict} (y h : Verdict) → x ≡ then-test y h → then-test a x ≡ then-test (then-test a y) h
+onto a y h e = ap (then-test a) e ∙ sym (then-test-assoc a y h)
 
-pub solve-test-chain : (p : ℕ) (regions : List ℕ) (ideals : List Float) (room : ℕ) → solve-test p regions ideals room ≡ then-test (solve-test-head p regions ideals room) (overused-test (graph p regions) 0 (length ideals))
-unfolding solve-test solve-test-head regions-test
-solve-test-chain p regions ideals room =
-    let a = limits-test p (length ideals) regions in
-    let b = refuse-if (ltb room (length ideals)) (refused 11 0 0) in
-    let e = ideals-test ideals in
-    let g = pairs-test p (length ideals) 0 (region-count p regions) regions in
-    let h = overused-test (graph p regions) 0 (length ideals) in
-    ap (then-test a) (ap (then-test b) (sym (then-test-assoc e g h)) ∙ sym (then-test-assoc b (then-test e g) h)) ∙ sym (then-test-assoc a (then-test b (then-test e g)) h)
+module _ (p : ℕ) (regions : List ℕ) (spacing : Spacing) where
+  abbrev six : Verdict
+  six = overused-test (graph p regions) 0 (edges-of spacing)
 
--- 8 lets by only as many counts as ideals
-pub values-lengths : (counts : List ℕ) (ideals : List Float) → is-passed (values-test counts ideals) ≡ true → length counts ≡ length ideals
-values-lengths counts ideals h =
-    let n = refuse-if (not (eqb (length counts) (length ideals))) (refused 8 0 0) in
-    eqb-true (length counts) (length ideals) (go (eqb (length counts) (length ideals)) (then-passed n (then-test (ideals-test ideals) (counts-test counts)) h .0))
+  abbrev pairs-of-regions : Verdict
+  pairs-of-regions = pairs-test p (edges-of spacing) 0 (region-count p regions) regions
+
+  abbrev ten : ℕ → Verdict
+  ten limit = refuse-if (ltb max-limit limit) (refused 10 0 0)
+
+  abbrev eleven : ℕ → Verdict
+  eleven room = refuse-if (ltb room (edges-of spacing)) (refused 11 0 0)
+
+  pub round-test-chain : (counts : List ℕ) (limit : ℕ) → round-test p regions spacing counts limit ≡ then-test (round-head p regions spacing counts limit) six
+  unfolding round-test round-head round-order regions-test
+  round-test-chain counts limit =
+      let v = values-test counts spacing in
+      onto (spacing-limits p spacing regions) _ six
+      (onto (limits-test p (length counts) regions) _ six
+      (onto (ten limit) (then-test v pairs-of-regions) six (sym (then-test-assoc v pairs-of-regions six))))
+
+  pub solve-test-chain : (room : ℕ) → solve-test p regions spacing room ≡ then-test (solve-head p regions spacing room) six
+  unfolding solve-test solve-head solve-order regions-test
+  solve-test-chain room =
+      let v = spacing-test spacing in
+      onto (spacing-limits p spacing regions) _ six
+      (onto (spacing-lengths spacing) _ six (onto (eleven room) (then-test v pairs-of-regions) six (sym (then-test-assoc v pairs-of-regions six))))
+
+-- ---- what the tests let by
+
+-- 8 lets by only lists of one length
+pub same-lengths : (m n : ℕ) → is-passed (lengths-test m n) ≡ true → m ≡ n
+same-lengths m n h = eqb-true m n (go (eqb m n) h)
   where
-    go : (b : Bool) → is-passed (refuse-if (not b) (refused 8 0 0)) ≡ true → b ≡ true
-    go true t = refl
-    go false t = t
+    go : (t : Bool) → is-passed (refuse-if (not t) (refused 8 0 0)) ≡ true → t ≡ true
+    go true h = refl
+    go false h = h
 
--- 9 comes last of them
-pub values-counts : (counts : List ℕ) (ideals : List Float) → is-passed (values-test counts ideals) ≡ true → is-passed (counts-test counts) ≡ true
-values-counts counts ideals h =
-    let n = refuse-if (not (eqb (length counts) (length ideals))) (refused 8 0 0) in
-    then-passed (ideals-test ideals) (counts-test counts) (then-passed n (then-test (ideals-test ideals) (counts-test counts)) h .1) .1
+-- as many counts as edges, and each value as it should be
+pub record ValuesPassed (counts : List ℕ) (spacing : Spacing) : Type 0 where
+  pub lists : is-passed (spacing-lengths spacing) ≡ true
+  pub as-many : length counts ≡ edges-of spacing
+  pub spacing-ok : is-passed (spacing-test spacing) ≡ true
+  pub counts-ok : is-passed (counts-test counts) ≡ true
 
--- what the tests of a round and of solve let by, up to 6
-pub record HeadPassed (regions : List ℕ) (n : ℕ) : Type 0 where
-  pub few : n ≤ 256
-  pub limits : is-passed (limits-test places n regions) ≡ true
-  pub pairs : is-passed (pairs-test places n 0 (region-count places regions) regions) ≡ true
+pub values-passed : (counts : List ℕ) (spacing : Spacing) → is-passed (values-test counts spacing) ≡ true → ValuesPassed counts spacing
+values-passed counts spacing h =
+    let b = then-test (spacing-test spacing) (counts-test counts) in
+    let a = then-test (lengths-test (length counts) (edges-of spacing)) b in
+    let h1 = then-passed (spacing-lengths spacing) a h in
+    let h2 = then-passed (lengths-test (length counts) (edges-of spacing)) b (h1 .1) in
+    let h3 = then-passed (spacing-test spacing) (counts-test counts) (h2 .1) in
+    record { lists = h1 .0; as-many = same-lengths (length counts) (edges-of spacing) (h2 .0); spacing-ok = h3 .0; counts-ok = h3 .1 }
 
-pub round-head-passed : (regions : List ℕ) (ideals : List Float) (counts : List ℕ) (limit : ℕ) → is-passed (round-test-head places regions ideals counts limit) ≡ true
-    → HeadPassed regions (length ideals) × (length counts ≡ length ideals) × (is-passed (counts-test counts) ≡ true)
-unfolding round-test-head
-round-head-passed regions ideals counts limit h =
-    let e = pairs-test places (length ideals) 0 (region-count places regions) regions in
-    let d = then-test (values-test counts ideals) e in
-    let c = then-test (refuse-if (ltb max-limit limit) (refused 10 0 0)) d in
-    let h1 = then-passed (limits-test places (length ideals) regions) (then-test (limits-test places (length counts) regions) c) h in
-    let h2 = then-passed (limits-test places (length counts) regions) c (h1 .1) in
-    let h3 = then-passed (refuse-if (ltb max-limit limit) (refused 10 0 0)) d (h2 .1) in
-    let h4 = then-passed (values-test counts ideals) e (h3 .1) in
-    let l = limits-passed (length ideals) regions (h1 .0) in
-    (record { few = l .0; limits = h1 .0; pairs = h4 .1 }, values-lengths counts ideals (h4 .0), values-counts counts ideals (h4 .0))
+-- 1 of a spacing is 1 of its edges too
+pub limits-of-edges : (p : ℕ) (regions : List ℕ) (spacing : Spacing) → is-passed (spacing-limits p spacing regions) ≡ true → is-passed (limits-test p (edges-of spacing) regions) ≡ true
+limits-of-edges p regions (by ideals) h = h
+limits-of-edges p regions (within least most) h = then-passed (limits-test p (length least) regions) (limits-test p (length most) regions) h .0
 
-pub solve-head-passed : (regions : List ℕ) (ideals : List Float) (room : ℕ) → is-passed (solve-test-head places regions ideals room) ≡ true
-    → HeadPassed regions (length ideals) × (length ideals ≤ room)
-unfolding solve-test-head
-solve-head-passed regions ideals room h =
-    let e = pairs-test places (length ideals) 0 (region-count places regions) regions in
-    let d = then-test (ideals-test ideals) e in
-    let h1 = then-passed (limits-test places (length ideals) regions) (then-test (refuse-if (ltb room (length ideals)) (refused 11 0 0)) d) h in
-    let h2 = then-passed (refuse-if (ltb room (length ideals)) (refused 11 0 0)) d (h1 .1) in
-    let h3 = then-passed (ideals-test ideals) e (h2 .1) in
-    let l = limits-passed (length ideals) regions (h1 .0) in
-    (record { few = l .0; limits = h1 .0; pairs = h3 .1 }, ltb-false room (length ideals) (go (ltb room (length ideals)) (h2 .0)))
+-- whatever is tested last
+pub record RoundPassed (p : ℕ) (regions : List ℕ) (spacing : Spacing) (counts : List ℕ) (last : Verdict) : Type 0 where
+  pub limits : is-passed (limits-test p (edges-of spacing) regions) ≡ true
+  pub values : ValuesPassed counts spacing
+  pub last-ok : is-passed last ≡ true
+
+pub round-passed : (p : ℕ) (regions : List ℕ) (spacing : Spacing) (counts : List ℕ) (limit : ℕ) (last : Verdict) → is-passed (round-order p regions spacing counts limit last) ≡ true → RoundPassed p regions spacing counts last
+unfolding round-order
+round-passed p regions spacing counts limit last h =
+    let c = then-test (values-test counts spacing) last in
+    let b = then-test (ten p regions spacing limit) c in
+    let a = then-test (limits-test p (length counts) regions) b in
+    let h1 = then-passed (spacing-limits p spacing regions) a h in
+    let h2 = then-passed (limits-test p (length counts) regions) b (h1 .1) in
+    let h3 = then-passed (ten p regions spacing limit) c (h2 .1) in
+    let h4 = then-passed (values-test counts spacing) last (h3 .1) in
+    record { limits = limits-of-edges p regions spacing (h1 .0); values = values-passed counts spacing (h4 .0); last-ok = h4 .1 }
+
+pub record SolvePassed (p : ℕ) (regions : List ℕ) (spacing : Spacing) (room : ℕ) (last : Verdict) : Type 0 where
+  pub limits : is-passed (limits-test p (edges-of spacing) regions) ≡ true
+  pub lists : is-passed (spacing-lengths spacing) ≡ true
+  pub enough : edges-of spacing ≤ room
+  pub spacing-ok : is-passed (spacing-test spacing) ≡ true
+  pub last-ok : is-passed last ≡ true
+
+pub solve-passed : (p : ℕ) (regions : List ℕ) (spacing : Spacing) (room : ℕ) (last : Verdict) → is-passed (solve-order p regions spacing room last) ≡ true → SolvePassed p regions spacing room last
+unfolding solve-order
+solve-passed p regions spacing room last h =
+    let c = then-test (spacing-test spacing) last in
+    let b = then-test (eleven p regions spacing room) c in
+    let a = then-test (spacing-lengths spacing) b in
+    let h1 = then-passed (spacing-limits p spacing regions) a h in
+    let h2 = then-passed (spacing-lengths spacing) b (h1 .1) in
+    let h3 = then-passed (eleven p regions spacing room) c (h2 .1) in
+    let h4 = then-passed (spacing-test spacing) last (h3 .1) in
+    record {
+      limits = limits-of-edges p regions spacing (h1 .0);
+      lists = h2 .0;
+      enough = ltb-false room (edges-of spacing) (go (ltb room (edges-of spacing)) (h3 .0));
+      spacing-ok = h4 .0;
+      last-ok = h4 .1;
+    }
   where
     go : (b : Bool) → is-passed (refuse-if b (refused 11 0 0)) ≡ true → b ≡ false
     go true t = sym t
@@ -126,8 +158,9 @@ module _ (counts : List ℕ) (ideals : List Float) where
   pub energy-lengths : {c : Check} → c ≡ Passed → outcome c ≡ energy-test counts ideals → length counts ≡ length ideals
   unfolding energy-test
   energy-lengths e o =
-      let h = then-passed (limits-test places (length ideals) []) (then-test (limits-test places (length counts) []) (values-test counts ideals)) (was-passed e o) .1 in
-      values-lengths counts ideals (then-passed (limits-test places (length counts) []) (values-test counts ideals) h .1)
+      let v = values-test counts (by ideals) in
+      let h = then-passed (limits-test places (length ideals) []) (then-test (limits-test places (length counts) []) v) (was-passed e o) .1 in
+      values-passed counts (by ideals) (then-passed (limits-test places (length counts) []) v h .1) .as-many
 
 -- ---- constraints_hold
 module _ (regions counts : List ℕ) where

@@ -13,15 +13,16 @@ use Rattle.counts.specs.Lists.{In, member}
 use Rattle.counts.specs.Refusal.{Verdict, passed, is-passed, refused, refuse-if, then-test}
 use Rattle.counts.specs.Region.{Constraint, constraint, graph, holds, places, region-count, side, side-sum}
 use Rattle.counts.specs.Move.{Change, apply-changes}
-use Rattle.counts.specs.Cost.{CostModel, by-ideals}
+use Rattle.counts.specs.Cost.{CostModel, Spacing, costs-of, edges-of}
 use Rattle.counts.specs.Round.{find-move, Solved, solve-by, solve-from, solve-zeros, max-moves}
-use Rattle.counts.specs.Accept.{accepted, limits-test, ideals-test, regions-test}
+use Rattle.counts.specs.Accept.{accepted, limits-test, regions-test}
 use Rattle.counts.specs.Solver.{Solve, solve, solve-test, solve-with, solve-part, with-rest, solve-refused, max-limit}
 use Rattle.counts.specs.Demand.{Balanced, sum-of}
 use Rattle.counts.proofs.Accepted.{Accepted, accepted-ok}
-use Rattle.counts.proofs.BoolLaws.{by-cases, clash, eq→eqb, or-left, or-right}
+use Rattle.counts.proofs.BoolLaws.{by-cases, clash, eq→eqb, or-left, or-right, true-T, T-true}
 use Rattle.counts.proofs.ListLaws.{in→member}
-use Rattle.counts.proofs.RefusalLaws.{then-left, then-right, then-both}
+use Rattle.counts.proofs.RefusalLaws.{then-both}
+use Rattle.counts.proofs.SolverLaws.{solve-passed}
 use Rattle.counts.proofs.Rounds.{Steady, steady-found, found, constraint-at}
 
 -- ---- counts whose constraints all balance
@@ -118,62 +119,62 @@ done v n s lent t = go (is-passed v) refl t
     go false e t = (subst T e t, absurd (subst T e t))
 
 -- an accepted solve: its regions are accepted, and its counts are those of the definition
-pub record SolveIs (regions : List ℕ) (ideals : List Float) (lent : List ℕ) : Type 0 where
-  pub regions-accepted : T (accepted places (length ideals) regions)
-  pub counts-are : solve regions ideals lent .counts
-      ≡ solve-zeros (graph places regions) (by-ideals ideals) max-limit (length ideals) .counts ++ drop (length ideals) lent
+pub record SolveIs (regions : List ℕ) (spacing : Spacing) (lent : List ℕ) : Type 0 where
+  pub regions-accepted : T (accepted places (edges-of spacing) regions)
+  pub counts-are : solve regions spacing lent .counts
+      ≡ solve-zeros (graph places regions) (costs-of spacing) max-limit (edges-of spacing) .counts ++ drop (edges-of spacing) lent
 
-solve-opens : (regions : List ℕ) (ideals : List Float) (lent : List ℕ)
-    → solve regions ideals lent
-    ≡ by-verdict (solve-test places regions ideals (length lent)) (length ideals) (solve-zeros (graph places regions) (by-ideals ideals) max-limit (length ideals)) lent
+solve-opens : (regions : List ℕ) (spacing : Spacing) (lent : List ℕ)
+    → solve regions spacing lent
+    ≡ by-verdict (solve-test places regions spacing (length lent)) (edges-of spacing) (solve-zeros (graph places regions) (costs-of spacing) max-limit (edges-of spacing)) lent
 unfolding solve solve-with
-solve-opens regions ideals lent = refl
+solve-opens regions spacing lent = refl
 
-test-accepts : (regions : List ℕ) (ideals : List Float) (room : ℕ) → T (is-passed (solve-test places regions ideals room)) → T (accepted places (length ideals) regions)
+test-accepts : (regions : List ℕ) (spacing : Spacing) (room : ℕ) → T (is-passed (solve-test places regions spacing room)) → T (accepted places (edges-of spacing) regions)
 unfolding solve-test accepted
-test-accepts regions ideals room u =
-    let l = limits-test places (length ideals) regions in
-    let r = regions-test places (length ideals) regions in
-    let eleven = refuse-if (ltb room (length ideals)) (refused 11 0 0) in
-    let rest = then-right l (then-test eleven (then-test (ideals-test ideals) r)) u in
-    then-both l r (then-left l (then-test eleven (then-test (ideals-test ideals) r)) u)
-    (then-right (ideals-test ideals) r (then-right eleven (then-test (ideals-test ideals) r) rest))
+test-accepts regions spacing room u =
+    let l = limits-test places (edges-of spacing) regions in
+    let r = regions-test places (edges-of spacing) regions in
+    let h = solve-passed places regions spacing room r (T-true _ u) in
+    then-both l r (true-T _ (h .limits)) (true-T _ (h .last-ok))
 
-pub solve-is : (regions : List ℕ) (ideals : List Float) (lent : List ℕ) → T (is-passed (solve regions ideals lent .verdict)) → SolveIs regions ideals lent
-solve-is regions ideals lent t =
-    let e = solve-opens regions ideals lent in
-    let d = done (solve-test places regions ideals (length lent)) (length ideals) (solve-zeros (graph places regions) (by-ideals ideals) max-limit (length ideals)) lent
+pub solve-is : (regions : List ℕ) (spacing : Spacing) (lent : List ℕ) → T (is-passed (solve regions spacing lent .verdict)) → SolveIs regions spacing lent
+solve-is regions spacing lent t =
+    let e = solve-opens regions spacing lent in
+    let d = done (solve-test places regions spacing (length lent)) (edges-of spacing) (solve-zeros (graph places regions) (costs-of spacing) max-limit (edges-of spacing)) lent
     (subst (λ (o : Solve). T (is-passed (o .verdict))) e t) in
-    record { regions-accepted = test-accepts regions ideals (length lent) (d .0); counts-are = ap (λ (o : Solve). o .counts) e ∙ d .1 }
+    record { regions-accepted = test-accepts regions spacing (length lent) (d .0); counts-are = ap (λ (o : Solve). o .counts) e ∙ d .1 }
 
--- Counts that an accepted solve wrote are balanced in every region.
-pub solve-balanced : (regions : List ℕ) (ideals : List Float) (lent : List ℕ) → T (is-passed (solve regions ideals lent .verdict))
-    → Balanced regions (solve regions ideals lent .counts)
-solve-balanced regions ideals lent t =
+-- Counts that an accepted solve wrote, by spacings of either kind, are balanced in every region.
+pub solve-balanced : (regions : List ℕ) (spacing : Spacing) (lent : List ℕ) → T (is-passed (solve regions spacing lent .verdict)) → Balanced regions (solve regions spacing lent .counts)
+solve-balanced regions spacing lent t =
     record {
       bottom-top = λ r h. at (r * 2) _ (constraint-at places (region-count places regions) regions r h .0);
       right-left = λ r h. at (suc (r * 2)) _ (constraint-at places (region-count places regions) regions r h .1);
     }
   where
+    s : SolveIs regions spacing lent
+    s = solve-is regions spacing lent t
+
     n : ℕ
-    n = length ideals
+    n = edges-of spacing
 
     g : List Constraint
     g = graph places regions
 
-    s : SolveIs regions ideals lent
-    s = solve-is regions ideals lent t
+    o : List ℕ
+    o = solve regions spacing lent .counts
 
     ok : Accepted n g
     ok = accepted-ok places n regions (s .regions-accepted)
 
-    even : (i : ℕ) → side-sum (solve regions ideals lent .counts) (constraint g i .a) ≡ side-sum (solve regions ideals lent .counts) (constraint g i .b)
+    even : (i : ℕ) → side-sum o (constraint g i .a) ≡ side-sum o (constraint g i .b)
     even i =
         subst (λ (l : List ℕ). side-sum l (constraint g i .a) ≡ side-sum l (constraint g i .b)) (sym (s .counts-are))
-        (level-append g n (solve-zeros g (by-ideals ideals) max-limit n .counts) (drop n lent) ok (level-solved g n ok (by-ideals ideals) max-limit) i)
+        (level-append g n (solve-zeros g (costs-of spacing) max-limit n .counts) (drop n lent) ok (level-solved g n ok (costs-of spacing) max-limit) i)
 
-    at : (i : ℕ) (c : Constraint) → constraint g i ≡ c → side-sum (solve regions ideals lent .counts) (c .a) ≡ side-sum (solve regions ideals lent .counts) (c .b)
-    at i c e = subst (λ (c : Constraint). side-sum (solve regions ideals lent .counts) (c .a) ≡ side-sum (solve regions ideals lent .counts) (c .b)) e (even i)
+    at : (i : ℕ) (c : Constraint) → constraint g i ≡ c → side-sum o (c .a) ≡ side-sum o (c .b)
+    at i c e = subst (λ (c : Constraint). side-sum o (c .a) ≡ side-sum o (c .b)) e (even i)
 
 -- ---- counts cleared one after the other
 

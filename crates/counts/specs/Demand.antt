@@ -6,12 +6,13 @@ use mathlib.Core.Path.{_≡_}
 use mathlib.Core.Bool.{Bool, not}
 use mathlib.Core.List.{List, [], _∷_}
 use Prim.Native.Nat.{ℕ, _<_}
+use lib.ListN.{length}
 use lib.Dec.{T}
-use lib.Ieee.{Float, lt, neg}
+use lib.Ieee.{lt, neg}
 use Rattle.counts.specs.Refusal.{is-passed}
 use Rattle.counts.specs.Region.{places, graph, region-count, from-region, side, side-sum}
 use Rattle.counts.specs.Move.{Change, Reading, Makes, cost}
-use Rattle.counts.specs.Cost.{CostModel, by-ideals}
+use Rattle.counts.specs.Cost.{CostModel, Spacing, costs-of}
 use Rattle.counts.specs.Search.{eps, two-eps}
 use Rattle.counts.specs.Solver.{Round, round}
 
@@ -51,17 +52,17 @@ module _ {Ask : Type 0} (regions : List ℕ) (answer : Ask → List ℕ → Roun
         ↔ (sum-of regions (left-by-all counts asks) r 1 ≡ sum-of regions (left-by-all counts asks) r 3)
     pub rounds : Told-all counts asks
 
--- "ideals (also too few or too many) and limit are each round's own"
+-- "ideals (also too few or too many) and limit are each round's own", the ideals of either kind
 pub record Ask : Type 0 where
-  pub ideals : List Float
+  pub spacing : Spacing
   pub limit : ℕ
 
--- the public round of the crate
+-- the public round
 abbrev pub asked : List ℕ → Ask → List ℕ → Round
-asked regions ask counts = round regions (ask .ideals) counts (ask .limit)
+asked regions ask counts = round regions (ask .spacing) counts (ask .limit)
 
-abbrev pub costs-of : Ask → CostModel
-costs-of ask = by-ideals (ask .ideals)
+abbrev pub asked-costs : Ask → CostModel
+asked-costs ask = costs-of (ask .spacing)
 
 -- opposite sides of every region add up to the same
 pub record Balanced (regions counts : List ℕ) : Type 0 where

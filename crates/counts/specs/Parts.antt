@@ -8,7 +8,7 @@ use Prim.Native.Nat.{ℕ, _+_, _*_, _/_, _<_}
 use lib.ListN.{length, getD}
 use lib.Dec.{eqb, ltb}
 use lib.Ieee.{Float, nan}
-use Rattle.counts.specs.Cost.{edge-delta, set-both, Entries}
+use Rattle.counts.specs.Cost.{CostModel, set-both, Entries}
 use Rattle.counts.specs.Tables.{none}
 
 -- ---- labels
@@ -46,19 +46,19 @@ Taken incident marks labels x = getD incident (x * 2) 0 < none → getD labels x
 abbrev pub Outside : ℕ → List ℕ → ℕ → ℕ → Type 0
 Outside m labels part y = y < m → getD labels y 0 ≢ part
 
--- edge e has new entries and its starts are forgotten, if its label is this one
-abbrev pub EdgeRefreshed : ℕ → ℕ → ℕ → Float → ℕ → List Float → List Bool → List Bool → List Float → List Bool → List Bool → Type 0
-EdgeRefreshed label part s ideal e costs may known costs' may' known' =
+-- edge e has new entries, by what its changes cost now, and its starts are forgotten, if its label is this one
+abbrev pub EdgeRefreshed : ℕ → ℕ → ℕ → (Bool → Float) → ℕ → List Float → List Bool → List Bool → List Float → List Bool → List Bool → Type 0
+EdgeRefreshed label part s price e costs may known costs' may' known' =
     ((label ≢ part) × (costs' ≡ costs) × (may' ≡ may) × (known' ≡ known))
-    ⊎ ((label ≡ part) × (costs' ≡ set-both costs e (edge-delta s ideal true) (edge-delta s ideal false)) × (may' ≡ set-both may e true (ltb 0 s))
+    ⊎ ((label ≡ part) × (costs' ≡ set-both costs e (price true) (price false)) × (may' ≡ set-both may e true (ltb 0 s))
     × (known' ≡ set-both known e false false))
 
 -- the first m edges that have this label have the entries of these counts, and their starts are forgotten; all else is as it was
-pub record Refreshed (m : ℕ) (labels : List ℕ) (part : ℕ) (counts : List ℕ) (ideals : List Float) (costs : List Float) (may known : List Bool) (costs' : List Float) (may' known' : List Bool) : Type 0 where
+pub record Refreshed (m : ℕ) (labels : List ℕ) (part : ℕ) (counts : List ℕ) (model : CostModel) (costs : List Float) (may known : List Bool) (costs' : List Float) (may' known' : List Bool) : Type 0 where
   pub costs-long : length costs' ≡ 512
   pub may-long : length may' ≡ 512
   pub known-long : length known' ≡ 512
-  pub fresh : (y : ℕ) → y < m → getD labels y 0 ≡ part → Entries counts ideals costs' may' y
+  pub fresh : (y : ℕ) → y < m → getD labels y 0 ≡ part → Entries counts model costs' may' y
   pub same-cost : (k : ℕ) → Outside m labels part (k / 2) → getD costs' k nan ≡ getD costs k nan
   pub same-may : (k : ℕ) → Outside m labels part (k / 2) → getD may' k false ≡ getD may k false
   pub still-known : (k : ℕ) → getD known' k false ≡ true → Outside m labels part (k / 2) × (getD known k false ≡ true)

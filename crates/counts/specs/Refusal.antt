@@ -33,6 +33,7 @@ use Rattle.counts.specs.declared.refusal.Refusal.the-variants.{
   NoCells,
   BreaksMismatch,
   RootUndefined,
+  RangeReversed,
 }
 use Rattle.counts.specs.declared.refusal.Check.{Check}
 use Rattle.counts.specs.declared.refusal.Check.the-variants.{Passed, Refused}
@@ -79,6 +80,7 @@ verdict-of (BadQuadArea i j) = refused 25 i j
 verdict-of NoCells = refused 26 0 0
 verdict-of (BreaksMismatch side) = refused 27 side 0
 verdict-of RootUndefined = refused 28 0 0
+verdict-of (RangeReversed edge) = refused 35 edge 0
 
 -- the outcome of one test
 unfoldable pub outcome : Check → Verdict

@@ -8,7 +8,7 @@ use lib.Dec.{T, eqb}
 use lib.Ieee.{Float, nan, inf}
 use Rattle.counts.specs.Lists.{In, Distinct}
 use Rattle.counts.specs.Move.{Change, edges, allowed}
-use Rattle.counts.specs.Cost.{CostModel, by-ideals}
+use Rattle.counts.specs.Cost.{CostModel}
 use Rattle.counts.specs.Search.{State, run}
 use Rattle.counts.specs.Round.{Found, improves, find-augmentation, Solved}
 use Rattle.counts.specs.Refusal.{is-passed}
@@ -108,10 +108,10 @@ pub record FoundIn (regions : List ℕ) (costs : List Float) (allowed : List Boo
 
 -- ---- tables of the edge costs
 
-pub record Priced (costs : CostModel) (counts : List ℕ) (table : List Float) (may : List Bool) : Type 0 where
+pub record Priced (model : CostModel) (counts : List ℕ) (table : List Float) (may : List Bool) : Type 0 where
   pub costs-long : length table ≡ 512
   pub may-long : length may ≡ 512
-  pub cost-is : (y : ℕ) (s : Bool) → y < length counts → cost-in table y s ≡ costs counts y s
+  pub cost-is : (y : ℕ) (s : Bool) → y < length counts → cost-in table y s ≡ model counts y s
   pub may-is : (y : ℕ) (s : Bool) → y < length counts → allowed-in may y s ≡ allowed counts y s
 
 -- ---- a move that can be made
@@ -122,9 +122,8 @@ pub record CanApply (counts : List ℕ) (r : List Change) : Type 0 where
   pub down : (z : Change) → In z r → T (allowed counts (z .0) (z .1))
   pub small : (x : ℕ) → getD counts x 0 ≤ 1000000
 
--- the input of a round that passed its tests: as many ideals as counts, no count too large, regions accepted
-pub record RoundInput (regions counts : List ℕ) (ideals : List Float) : Type 0 where
-  pub as-many : length ideals ≡ length counts
+-- the input of a round that passed its tests: no count too large, regions accepted
+pub record RoundInput (regions counts : List ℕ) : Type 0 where
   pub few : length counts ≤ 256
   pub small : (x : ℕ) → getD counts x 0 ≤ 1000000
   pub regions-pass : T (is-passed (regions-test places (length counts) regions))
@@ -138,8 +137,8 @@ pub record TableSizes (costs : List Float) (may : List Bool) (kept : List Float)
   pub known-long : length known ≡ 512
 
 -- tables that stand for these counts: what changes cost, and what searches gave
-pub record Ready (regions : List ℕ) (ideals : List Float) (limit : ℕ) (counts : List ℕ) (costs : List Float) (may : List Bool) (kept : List Float) (cut known : List Bool) : Type 0 where
-  pub priced : Priced (by-ideals ideals) counts costs may
+pub record Ready (regions : List ℕ) (model : CostModel) (limit : ℕ) (counts : List ℕ) (costs : List Float) (may : List Bool) (kept : List Float) (cut known : List Bool) : Type 0 where
+  pub priced : Priced model counts costs may
   pub remembered : Remembered regions costs may limit kept cut known
 
 -- a solve's moves, with the counts that it leaves

@@ -9,9 +9,9 @@ use Rattle.counts.specs.Lists.{all}
 use Rattle.counts.specs.Refusal.{Verdict, passed, refused, then-test, refuse-if, is-passed, verdict-of}
 use Rattle.counts.specs.Region.{Constraint, places, region-count, graph, side-sum}
 use Rattle.counts.specs.Move.{Change, apply-changes}
-use Rattle.counts.specs.Cost.{CostModel, by-ideals, energy-from}
+use Rattle.counts.specs.Cost.{CostModel, Spacing, by, costs-of, edges-of, energy-from}
 use Rattle.counts.specs.Round.{Found, find-move, Solved, solve-zeros}
-use Rattle.counts.specs.Accept.{limits-test, ideals-test, counts-test, values-test, pairs-test, regions-test}
+use Rattle.counts.specs.Accept.{limits-test, spacing-limits, spacing-lengths, spacing-test, values-test, pairs-test, regions-test}
 use Rattle.counts.specs.declared.answer.RoundAnswer.{RoundAnswer}
 use Rattle.counts.specs.declared.answer.RoundAnswer.the-variants as round-answer
 use Rattle.counts.specs.declared.answer.SolveAnswer.{SolveAnswer}
@@ -47,25 +47,24 @@ round-of (round-answer.Refused r) counts = record { verdict = verdict-of r; move
 abbrev pub max-limit : ℕ
 max-limit = 100000
 
--- "Order, solver: 1, 10, 8 (rounds), 11 (solve), 2, 9 (rounds); then by region and pair (..); then 6"
-unfoldable pub round-test : ℕ → List ℕ → List Float → List ℕ → ℕ → Verdict
-unfolding limits-test regions-test
-round-test p regions ideals counts limit =
-    then-test (limits-test p (length ideals) regions)
+-- "Order, solver: 1, 10, 8 (rounds), 11 (solve), 2, 9 (rounds); then by region and pair (..)": `last` is what is tested of the regions
+unfoldable pub round-order : ℕ → List ℕ → Spacing → List ℕ → ℕ → Verdict → Verdict
+unfolding limits-test
+round-order p regions spacing counts limit last =
+    then-test (spacing-limits p spacing regions)
     (then-test (limits-test p (length counts) regions)
     (then-test (refuse-if (ltb max-limit limit) (refused 10 0 0))
-    (then-test (refuse-if (not (eqb (length counts) (length ideals))) (refused 8 0 0))
-    (then-test (ideals-test ideals)
-    (then-test (counts-test counts) (regions-test p (length ideals) regions))))))
+    (then-test (values-test counts spacing) last)))
 
--- the same up to 6, which the code makes on its tables
-unfoldable pub round-test-head : ℕ → List ℕ → List Float → List ℕ → ℕ → Verdict
-unfolding limits-test pairs-test
-round-test-head p regions ideals counts limit =
-    then-test (limits-test p (length ideals) regions)
-    (then-test (limits-test p (length counts) regions)
-    (then-test (refuse-if (ltb max-limit limit) (refused 10 0 0))
-    (then-test (values-test counts ideals) (pairs-test p (length ideals) 0 (region-count p regions) regions))))
+unfoldable pub round-test : ℕ → List ℕ → Spacing → List ℕ → ℕ → Verdict
+unfolding round-order regions-test
+round-test p regions spacing counts limit = round-order p regions spacing counts limit (regions-test p (edges-of spacing) regions)
+
+-- the same up to 6, which the code makes on its tables (an inner contract)
+unfoldable pub round-head : ℕ → List ℕ → Spacing → List ℕ → ℕ → Verdict
+unfolding round-order pairs-test
+round-head p regions spacing counts limit =
+    round-order p regions spacing counts limit (pairs-test p (edges-of spacing) 0 (region-count p regions) regions)
 
 -- "A public round (added) applies the result to the lent counts"
 abbrev pub round-made : Bool → List Change → Float → List ℕ → Round
@@ -87,9 +86,9 @@ round-with p verdict costs regions counts limit =
       | false ↦ round-refused verdict counts
     ]
 
-unfoldable pub round : List ℕ → List Float → List ℕ → ℕ → Round
+unfoldable pub round : List ℕ → Spacing → List ℕ → ℕ → Round
 unfolding round-test round-with
-round regions ideals counts limit = round-with places (round-test places regions ideals counts limit) (by-ideals ideals) regions counts limit
+round regions spacing counts limit = round-with places (round-test places regions spacing counts limit) (costs-of spacing) regions counts limit
 
 -- ---- solve
 
@@ -103,21 +102,23 @@ unfolding verdict-of
 solve-of (solve-answer.Moves moves) counts = record { verdict = passed; moves = moves; counts = counts }
 solve-of (solve-answer.Refused r) counts = record { verdict = verdict-of r; moves = 0; counts = counts }
 
--- 11: the lent counts are output, and as many are needed as there are ideals
-unfoldable pub solve-test : ℕ → List ℕ → List Float → ℕ → Verdict
-unfolding limits-test regions-test
-solve-test p regions ideals room =
-    then-test (limits-test p (length ideals) regions)
-    (then-test (refuse-if (ltb room (length ideals)) (refused 11 0 0))
-    (then-test (ideals-test ideals) (regions-test p (length ideals) regions)))
+-- 11: the lent counts are output, and as many are needed as there are edges
+unfoldable pub solve-order : ℕ → List ℕ → Spacing → ℕ → Verdict → Verdict
+unfolding limits-test
+solve-order p regions spacing room last =
+    then-test (spacing-limits p spacing regions)
+    (then-test (spacing-lengths spacing)
+    (then-test (refuse-if (ltb room (edges-of spacing)) (refused 11 0 0))
+    (then-test (spacing-test spacing) last)))
 
--- the same up to 6
-unfoldable pub solve-test-head : ℕ → List ℕ → List Float → ℕ → Verdict
-unfolding limits-test pairs-test
-solve-test-head p regions ideals room =
-    then-test (limits-test p (length ideals) regions)
-    (then-test (refuse-if (ltb room (length ideals)) (refused 11 0 0))
-    (then-test (ideals-test ideals) (pairs-test p (length ideals) 0 (region-count p regions) regions)))
+unfoldable pub solve-test : ℕ → List ℕ → Spacing → ℕ → Verdict
+unfolding solve-order regions-test
+solve-test p regions spacing room = solve-order p regions spacing room (regions-test p (edges-of spacing) regions)
+
+-- the same up to 6 (an inner contract)
+unfoldable pub solve-head : ℕ → List ℕ → Spacing → ℕ → Verdict
+unfolding solve-order pairs-test
+solve-head p regions spacing room = solve-order p regions spacing room (pairs-test p (edges-of spacing) 0 (region-count p regions) regions)
 
 abbrev pub solve-refused : Verdict → List ℕ → Solve
 solve-refused v lent = record { verdict = v; moves = 0; counts = lent }
@@ -140,10 +141,10 @@ solve-with p verdict costs regions n limit lent =
     ]
 
 -- "with limit 100,000"
-unfoldable pub solve : List ℕ → List Float → List ℕ → Solve
+unfoldable pub solve : List ℕ → Spacing → List ℕ → Solve
 unfolding solve-test solve-with
-solve regions ideals lent =
-    solve-with places (solve-test places regions ideals (length lent)) (by-ideals ideals) regions (length ideals) max-limit lent
+solve regions spacing lent =
+    solve-with places (solve-test places regions spacing (length lent)) (costs-of spacing) regions (edges-of spacing) max-limit lent
 
 -- ---- energy and constraints_hold
 
@@ -159,10 +160,7 @@ energy-of (energy-answer.Refused r) = record { verdict = verdict-of r; total = o
 -- "`energy`: 1, 8, 2, 9"
 unfoldable pub energy-test : List ℕ → List Float → Verdict
 energy-test counts ideals =
-    then-test (limits-test places (length ideals) [])
-    (then-test (limits-test places (length counts) [])
-    (then-test (refuse-if (not (eqb (length counts) (length ideals))) (refused 8 0 0))
-    (then-test (ideals-test ideals) (counts-test counts))))
+    then-test (limits-test places (length ideals) []) (then-test (limits-test places (length counts) []) (values-test counts (by ideals)))
 
 unfoldable pub energy : List ℕ → List Float → Energy
 unfolding energy-test energy-from

@@ -10,7 +10,7 @@ ghost use mathlib.Core.Bool.{false, _||_};
 ghost use Prim.Native.Nat.{_*_, _/_, _≤_, _<_};
 ghost use lib.Dec.{T, ltb};
 ghost use lib.ListN.{length, replicate};
-ghost use Rattle.counts.specs.Cost.{by-ideals};
+ghost use Rattle.counts.specs.Cost.{by-ranges};
 ghost use Rattle.counts.specs.Move.{changed, apply-changes as changed-counts};
 ghost use Rattle.counts.specs.Round.{improves as improves-on};
 ghost use Rattle.counts.specs.Tables.{Tables, path-of};
@@ -315,14 +315,15 @@ fn forget(known: &mut [bool; 512])
 // The costs of every edge, and nothing known.
 pub(crate) fn start_tables(
     counts: &[u32],
-    ideals: &[f64],
+    least: &[f64],
+    most: &[f64],
     costs: &mut [f64; 512],
     allowed: &mut [bool; 512],
     known: &mut [bool; 512],
 )
-    requires { ⌜ (length (now counts) ≤ 256) × (length (now ideals) ≡ length (now counts)) × (length (now costs) ≡ 512) × (length (now allowed) ≡ 512) ⌝ }
-    ensures { λ _. ⌜ Priced (by-ideals (now (ideals .entry))) (now (counts .entry)) (now (costs .exit)) (now (allowed .exit)) × (now (known .exit) ≡ replicate 512 false) ⌝ }
+    requires { ⌜ (length (now counts) ≤ 256) × (length (now least) ≡ length (now counts)) × (length (now most) ≡ length (now counts)) × (length (now costs) ≡ 512) × (length (now allowed) ≡ 512) ⌝ }
+    ensures { λ _. ⌜ Priced (by-ranges (now (least .entry)) (now (most .entry))) (now (counts .entry)) (now (costs .exit)) (now (allowed .exit)) × (now (known .exit) ≡ replicate 512 false) ⌝ }
 {
-    fill_costs(counts, ideals, costs, allowed);
+    fill_costs(counts, least, most, costs, allowed);
     forget(known);
 }

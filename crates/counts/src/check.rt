@@ -13,8 +13,10 @@ ghost use lib.Dec.{T};
 ghost use Rattle.counts.specs.Lists.{member};
 ghost use Rattle.counts.specs.Region.{places, region-count};
 ghost use Rattle.counts.specs.Refusal.{outcome};
-ghost use Rattle.counts.specs.Accept.{ideal-ok, ideals-test, counts-test, values-test, sides-fit, records-whole, limits-test, shared-edge, side-test, pair-test, region-test, pairs-test};
-ghost use Rattle.counts.specs.Solver.{round-test-head, solve-test-head, energy-test};
+ghost use Rattle.counts.specs.Cost.{within};
+ghost use Rattle.counts.specs.Accept.{sides-fit, records-whole, limits-test, shared-edge, side-test, pair-test, region-test, pairs-test};
+ghost use Rattle.counts.specs.Accept.{ideal-ok, first-bad, ranges, ends-ok, in-order, ranges-test, counts-test, spacing-limits, values-test};
+ghost use Rattle.counts.specs.Solver.{round-head, solve-head, energy-test};
 
 const MAX_REGIONS: usize = 128;
 
@@ -70,15 +72,34 @@ fn is_ideal_ok(ideal: f64) -> bool
     false
 }
 
-// 2: an ideal that is not finite or not above 0.
-pub(crate) fn check_ideals(ideals: &[f64]) -> Check
-    requires { ⌜ length (now ideals) ≤ 256 ⌝ }
-    ensures { λ r. ⌜ outcome r ≡ ideals-test (now (ideals .entry)) ⌝ }
+fn are_ends_ok(least: f64, most: f64) -> bool
+    ensures { λ r. ⌜ r ≡ ends-ok (least, most) ⌝ }
+{
+    if is_ideal_ok(least) {
+        return is_ideal_ok(most);
+    }
+    false
+}
+
+fn is_in_order(least: f64, most: f64) -> bool
+    ensures { λ r. ⌜ r ≡ in-order (least, most) ⌝ }
+{
+    if most < least {
+        return false;
+    }
+    true
+}
+
+// 2: an end of a range that is not finite or not above 0.
+fn check_ends(least: &[f64], most: &[f64]) -> Check
+    requires { ⌜ (length (now least) ≤ 256) × (length (now most) ≡ length (now least)) ⌝ }
+    ensures { λ r. ⌜ outcome r ≡ first-bad ends-ok 2 0 (ranges (now (least .entry)) (now (most .entry))) ⌝ }
 {
     let mut e = 0usize;
-    while e < ideals.len() {
-        let ideal = ideals[e];
-        let ok = is_ideal_ok(ideal);
+    while e < least.len() {
+        let low = least[e];
+        let high = most[e];
+        let ok = are_ends_ok(low, high);
         if !ok {
             let edge = e as u32;
             return Check::Refused(Refusal::BadIdeal(edge));
@@ -86,6 +107,35 @@ pub(crate) fn check_ideals(ideals: &[f64]) -> Check
         e += 1;
     }
     Check::Passed
+}
+
+// 35: a least above its most.
+fn check_order(least: &[f64], most: &[f64]) -> Check
+    requires { ⌜ (length (now least) ≤ 256) × (length (now most) ≡ length (now least)) ⌝ }
+    ensures { λ r. ⌜ outcome r ≡ first-bad in-order 35 0 (ranges (now (least .entry)) (now (most .entry))) ⌝ }
+{
+    let mut e = 0usize;
+    while e < least.len() {
+        let low = least[e];
+        let high = most[e];
+        let ok = is_in_order(low, high);
+        if !ok {
+            let edge = e as u32;
+            return Check::Refused(Refusal::RangeReversed(edge));
+        }
+        e += 1;
+    }
+    Check::Passed
+}
+
+// 2, then 35.
+fn check_ranges(least: &[f64], most: &[f64]) -> Check
+    requires { ⌜ (length (now least) ≤ 256) × (length (now most) ≡ length (now least)) ⌝ }
+    ensures { λ r. ⌜ outcome r ≡ ranges-test (now (least .entry)) (now (most .entry)) ⌝ }
+{
+    let ends = check_ends(least, most);
+    let order = check_order(least, most);
+    ends.and(order)
 }
 
 // 9: a count over 1,000,000.
@@ -206,63 +256,80 @@ pub(crate) fn check_pairs(regions: &[u16], n: usize) -> Check
     Check::Passed
 }
 
-// 8, then 2, then 9: as many counts as ideals, and each value as it should be.
-fn check_values(counts: &[u32], ideals: &[f64]) -> Check
-    requires { ⌜ length (now counts) ≤ 256 ⌝ }
-    requires { ⌜ length (now ideals) ≤ 256 ⌝ }
-    ensures { λ r. ⌜ outcome r ≡ values-test (now (counts .entry)) (now (ideals .entry)) ⌝ }
+// 1, of both lists of ranges.
+fn check_spacing_limits(regions: &[u16], least: &[f64], most: &[f64]) -> Check
+    ensures { λ r. ⌜ outcome r ≡ spacing-limits places (within (now (least .entry)) (now (most .entry))) (now (regions .entry)) ⌝ }
 {
-    if counts.len() != ideals.len() {
+    let of_least = check_limits(regions, least.len());
+    let of_most = check_limits(regions, most.len());
+    of_least.and(of_most)
+}
+
+// 8, then 2 and 35, then 9: as many counts as ranges, and each value as it should be.
+fn check_values(counts: &[u32], least: &[f64], most: &[f64]) -> Check
+    requires { ⌜ length (now counts) ≤ 256 ⌝ }
+    ensures { λ r. ⌜ outcome r ≡ values-test (now (counts .entry)) (within (now (least .entry)) (now (most .entry))) ⌝ }
+{
+    if least.len() != most.len() {
         return Check::Refused(Refusal::LengthsDiffer);
     }
-    let of_ideals = check_ideals(ideals);
-    if let Check::Refused(_) = of_ideals {
-        return of_ideals;
+    if counts.len() != least.len() {
+        return Check::Refused(Refusal::LengthsDiffer);
+    }
+    let of_ranges = check_ranges(least, most);
+    if let Check::Refused(_) = of_ranges {
+        return of_ranges;
     }
     check_counts(counts)
 }
 
 // What a round tests before it builds its tables.
-pub(crate) fn check_round(regions: &[u16], ideals: &[f64], counts: &[u32], limit: u32) -> Check
-    ensures { λ r. ⌜ outcome r ≡ round-test-head places (now (regions .entry)) (now (ideals .entry)) (now (counts .entry)) limit ⌝ }
+pub(crate) fn check_round(
+    regions: &[u16],
+    least: &[f64],
+    most: &[f64],
+    counts: &[u32],
+    limit: u32,
+) -> Check
+    ensures { λ r. ⌜ outcome r ≡ round-head places (now (regions .entry)) (within (now (least .entry)) (now (most .entry))) (now (counts .entry)) limit ⌝ }
 {
-    let n = ideals.len();
-    let by_ideals = check_limits(regions, n);
-    if let Check::Refused(_) = by_ideals {
-        return by_ideals;
+    let of_spacing = check_spacing_limits(regions, least, most);
+    if let Check::Refused(_) = of_spacing {
+        return of_spacing;
     }
-    let m = counts.len();
-    let by_counts = check_limits(regions, m);
-    if let Check::Refused(_) = by_counts {
-        return by_counts;
+    let of_counts = check_limits(regions, counts.len());
+    if let Check::Refused(_) = of_counts {
+        return of_counts;
     }
     if limit > MAX_LIMIT {
         return Check::Refused(Refusal::LimitTooLarge);
     }
-    let values = check_values(counts, ideals);
+    let values = check_values(counts, least, most);
     if let Check::Refused(_) = values {
         return values;
     }
-    check_pairs(regions, n)
+    check_pairs(regions, least.len())
 }
 
 // What solve tests before it builds its tables; room is the length of the lent counts.
-pub(crate) fn check_solve(regions: &[u16], ideals: &[f64], room: usize) -> Check
-    ensures { λ r. ⌜ outcome r ≡ solve-test-head places (now (regions .entry)) (now (ideals .entry)) room ⌝ }
+pub(crate) fn check_solve(regions: &[u16], least: &[f64], most: &[f64], room: usize) -> Check
+    ensures { λ r. ⌜ outcome r ≡ solve-head places (now (regions .entry)) (within (now (least .entry)) (now (most .entry))) room ⌝ }
 {
-    let n = ideals.len();
-    let by_ideals = check_limits(regions, n);
-    if let Check::Refused(_) = by_ideals {
-        return by_ideals;
+    let of_spacing = check_spacing_limits(regions, least, most);
+    if let Check::Refused(_) = of_spacing {
+        return of_spacing;
     }
-    if room < n {
+    if least.len() != most.len() {
+        return Check::Refused(Refusal::LengthsDiffer);
+    }
+    if room < least.len() {
         return Check::Refused(Refusal::OutputTooShort);
     }
-    let values = check_ideals(ideals);
-    if let Check::Refused(_) = values {
-        return values;
+    let of_ranges = check_ranges(least, most);
+    if let Check::Refused(_) = of_ranges {
+        return of_ranges;
     }
-    check_pairs(regions, n)
+    check_pairs(regions, least.len())
 }
 
 // 1 where there are no regions: n is the length of a list with an entry for each edge.
@@ -275,7 +342,7 @@ fn check_edges(n: usize) -> Check
     Check::Passed
 }
 
-// What energy tests.
+// What energy tests; an ideal is a range whose ends are equal.
 pub(crate) fn check_energy(counts: &[u32], ideals: &[f64]) -> Check
     ensures { λ r. ⌜ outcome r ≡ energy-test (now (counts .entry)) (now (ideals .entry)) ⌝ }
 {
@@ -287,5 +354,5 @@ pub(crate) fn check_energy(counts: &[u32], ideals: &[f64]) -> Check
     if let Check::Refused(_) = by_counts {
         return by_counts;
     }
-    check_values(counts, ideals)
+    check_values(counts, ideals, ideals)
 }

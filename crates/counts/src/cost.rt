@@ -4,9 +4,9 @@ ghost use mathlib.Core.Bool.{true, false};
 ghost use Prim.Native.Nat.{ℕ, _≤_, _<_};
 ghost use lib.ListN.{length};
 ghost use lib.Dec.{ltb};
-ghost use lib.Ieee.{ofBits, binary64};
+ghost use lib.Ieee.{ofBits, add, sub, binary64};
 ghost use Rattle.counts.specs.Move.{allowed};
-ghost use Rattle.counts.specs.Cost.{deviation, square, step, edge-delta, set-both, Entries, energy-from};
+ghost use Rattle.counts.specs.Cost.{deviation, square, step, range-deviation, range-delta, by-ranges, set-both, Entries, energy-from};
 
 // s/ideal - 1
 fn deviation(s: f64, ideal: f64) -> f64
@@ -32,30 +32,52 @@ fn step(plus: bool) -> f64
     -1.0
 }
 
-// Change of the energy when an edge moves from s by +1 or -1.
-pub(crate) fn edge_delta(s: u32, ideal: f64, plus: bool) -> f64
-    ensures { λ r. ⌜ r ≡ edge-delta s ideal plus ⌝ }
+// The deviation of s from a range: nothing inside it.
+fn range_deviation(s: f64, least: f64, most: f64) -> f64
+    ensures { λ r. ⌜ r ≡ range-deviation s least most ⌝ }
 {
-    let from = s as f64;
-    let to = from + step(plus);
-    square(deviation(to, ideal)) - square(deviation(from, ideal))
+    if s < least {
+        return deviation(s, least);
+    }
+    if most < s {
+        return deviation(s, most);
+    }
+    0.0
+}
+
+// What an edge costs at a count s: the square of its deviation.
+fn edge_cost(s: f64, least: f64, most: f64) -> f64
+    ensures { λ r. ⌜ r ≡ square (range-deviation s least most) ⌝ }
+{
+    square(range_deviation(s, least, most))
+}
+
+// What +1 or -1 costs an edge whose count is s and which costs `before` there.
+fn edge_delta(s: f64, before: f64, least: f64, most: f64, plus: bool) -> f64
+    ensures { λ r. ⌜ r ≡ sub binary64 (square (range-deviation (add binary64 s (step plus)) least most)) before ⌝ }
+{
+    let to = s + step(plus);
+    edge_cost(to, least, most) - before
 }
 
 // The entries of edge e, whose count is s: what +1 and -1 cost, and whether each is allowed, at 2e + 1 and at 2e.
 pub(crate) fn set_costs(
     s: u32,
-    ideal: f64,
+    least: f64,
+    most: f64,
     e: usize,
     costs: &mut [f64; 512],
     allowed: &mut [bool; 512],
 )
     requires { ⌜ (e < 256) × (length (now costs) ≡ 512) × (length (now allowed) ≡ 512) ⌝ }
-    ensures { λ _. ⌜ (now (costs .exit) ≡ set-both (now (costs .entry)) e (edge-delta s ideal true) (edge-delta s ideal false)) × (now (allowed .exit) ≡ set-both (now (allowed .entry)) e true (ltb 0 s)) ⌝ }
+    ensures { λ _. ⌜ (now (costs .exit) ≡ set-both (now (costs .entry)) e (range-delta s least most true) (range-delta s least most false)) × (now (allowed .exit) ≡ set-both (now (allowed .entry)) e true (ltb 0 s)) ⌝ }
 {
     let down = e * 2;
     let up = down + 1;
-    costs[up] = edge_delta(s, ideal, true);
-    costs[down] = edge_delta(s, ideal, false);
+    let count = s as f64;
+    let before = edge_cost(count, least, most);
+    costs[up] = edge_delta(count, before, least, most, true);
+    costs[down] = edge_delta(count, before, least, most, false);
     allowed[up] = true;
     allowed[down] = s > 0;
 }
@@ -63,21 +85,23 @@ pub(crate) fn set_costs(
 // The entries of every edge.
 pub(crate) fn fill_costs(
     counts: &[u32],
-    ideals: &[f64],
+    least: &[f64],
+    most: &[f64],
     costs: &mut [f64; 512],
     allowed: &mut [bool; 512],
 )
     requires { ⌜ length (now counts) ≤ 256 ⌝ }
-    requires { ⌜ length (now ideals) ≡ length (now counts) ⌝ }
+    requires { ⌜ (length (now least) ≡ length (now counts)) × (length (now most) ≡ length (now counts)) ⌝ }
     requires { ⌜ (length (now costs) ≡ 512) × (length (now allowed) ≡ 512) ⌝ }
-    ensures { λ r. ⌜ ((y : ℕ) → y < length (now (counts .entry)) → Entries (now (counts .entry)) (now (ideals .entry)) (now (costs .exit)) (now (allowed .exit)) y) ⌝ }
+    ensures { λ r. ⌜ ((y : ℕ) → y < length (now (counts .entry)) → Entries (now (counts .entry)) (by-ranges (now (least .entry)) (now (most .entry))) (now (costs .exit)) (now (allowed .exit)) y) ⌝ }
     ensures { λ r. ⌜ (length (now (costs .exit)) ≡ 512) × (length (now (allowed .exit)) ≡ 512) ⌝ }
 {
     let mut e = 0usize;
     while e < counts.len() {
         let s = counts[e];
-        let ideal = ideals[e];
-        set_costs(s, ideal, e, costs, allowed);
+        let low = least[e];
+        let high = most[e];
+        set_costs(s, low, high, e, costs, allowed);
         e += 1;
     }
 }

@@ -27,34 +27,53 @@ use crate::refusal::Check;
 use crate::solve::make_round;
 use crate::solve::solve_from_zeros;
 ghost use mathlib.Core.Path.{_≡_};
+ghost use Rattle.counts.specs.Cost.{by, within};
 ghost use Rattle.counts.specs.Solver.{energy-of, energy, hold-of, constraints-hold, round-of, round, solve-of, solve};
 
-// One round: the move that costs least, if any costs less than -E, is made on the counts.
-pub fn round(regions: &[u16], ideals: &[f64], counts: &mut [u32], limit: u32) -> RoundAnswer
-    ensures { λ r. ⌜ round-of r (now (counts .exit)) ≡ round (now (regions .entry)) (now (ideals .entry)) (now (counts .entry)) limit ⌝ }
+// One round, with a least and a most for each edge: the move found, if there is one, is made on the counts.
+pub fn round_within(
+    regions: &[u16],
+    least: &[f64],
+    most: &[f64],
+    counts: &mut [u32],
+    limit: u32,
+) -> RoundAnswer
+    ensures { λ r. ⌜ round-of r (now (counts .exit)) ≡ round (now (regions .entry)) (within (now (least .entry)) (now (most .entry))) (now (counts .entry)) limit ⌝ }
 {
-    if let Check::Refused(r) = check_round(regions, ideals, counts, limit) {
+    if let Check::Refused(r) = check_round(regions, least, most, counts, limit) {
         return RoundAnswer::Refused(r);
     }
     let mut incident = [256; 512];
     let mut own = [0; 512];
-    if let Check::Refused(r) = build_graph(regions, ideals.len(), &mut incident, &mut own) {
+    if let Check::Refused(r) = build_graph(regions, least.len(), &mut incident, &mut own) {
         return RoundAnswer::Refused(r);
     }
-    make_round(regions, &incident, &own, ideals, counts, limit)
+    make_round(regions, &incident, &own, least, most, counts, limit)
 }
 
-// The counts of every edge, from zeros, by round after round until none finds a move. The lent counts are output.
-pub fn solve_counts(regions: &[u16], ideals: &[f64], counts: &mut [u32]) -> SolveAnswer
-    ensures { λ r. ⌜ solve-of r (now (counts .exit)) ≡ solve (now (regions .entry)) (now (ideals .entry)) (now (counts .entry)) ⌝ }
+// One round, with an ideal for each edge: a range whose ends are equal.
+pub fn round(regions: &[u16], ideals: &[f64], counts: &mut [u32], limit: u32) -> RoundAnswer
+    ensures { λ r. ⌜ round-of r (now (counts .exit)) ≡ round (now (regions .entry)) (by (now (ideals .entry))) (now (counts .entry)) limit ⌝ }
+{
+    round_within(regions, ideals, ideals, counts, limit)
+}
+
+// The counts of every edge, with a least and a most for each: from zeros, round after round until one finds no move. The lent counts are output.
+pub fn solve_counts_within(
+    regions: &[u16],
+    least: &[f64],
+    most: &[f64],
+    counts: &mut [u32],
+) -> SolveAnswer
+    ensures { λ r. ⌜ solve-of r (now (counts .exit)) ≡ solve (now (regions .entry)) (within (now (least .entry)) (now (most .entry))) (now (counts .entry)) ⌝ }
 {
     let room = counts.len();
-    if let Check::Refused(r) = check_solve(regions, ideals, room) {
+    if let Check::Refused(r) = check_solve(regions, least, most, room) {
         return SolveAnswer::Refused(r);
     }
     let mut incident = [256; 512];
     let mut own = [0; 512];
-    let n = ideals.len();
+    let n = least.len();
     if let Check::Refused(r) = build_graph(regions, n, &mut incident, &mut own) {
         return SolveAnswer::Refused(r);
     }
@@ -62,10 +81,18 @@ pub fn solve_counts(regions: &[u16], ideals: &[f64], counts: &mut [u32]) -> Solv
         regions,
         &incident,
         &own,
-        ideals,
+        least,
+        most,
         &mut counts[..n],
         MAX_LIMIT,
     )
+}
+
+// The counts of every edge, with an ideal for each.
+pub fn solve_counts(regions: &[u16], ideals: &[f64], counts: &mut [u32]) -> SolveAnswer
+    ensures { λ r. ⌜ solve-of r (now (counts .exit)) ≡ solve (now (regions .entry)) (by (now (ideals .entry))) (now (counts .entry)) ⌝ }
+{
+    solve_counts_within(regions, ideals, ideals, counts)
 }
 
 // The energy of the counts: the sum of (s/ideal - 1)² over the edges.

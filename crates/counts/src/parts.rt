@@ -5,6 +5,7 @@ use crate::search::wide;
 ghost use mathlib.Core.Path.{_≡_};
 ghost use Prim.Native.Nat.{ℕ, _*_, _≤_, _<_};
 ghost use lib.ListN.{length, getD};
+ghost use Rattle.counts.specs.Cost.{range-delta, by-ranges};
 ghost use Rattle.counts.specs.Tables.{none};
 ghost use Rattle.counts.specs.Parts.{Labels, StillEqual, OneMark, Taken, EdgeRefreshed, Refreshed, renamed as renamed-to};
 
@@ -119,19 +120,20 @@ fn refresh_edge(
     label: u16,
     part: u16,
     s: u32,
-    ideal: f64,
+    least: f64,
+    most: f64,
     e: usize,
     costs: &mut [f64; 512],
     allowed: &mut [bool; 512],
     known: &mut [bool; 512],
 )
     requires { ⌜ (e < 256) × (length (now costs) ≡ 512) × (length (now allowed) ≡ 512) × (length (now known) ≡ 512) ⌝ }
-    ensures { λ _. ⌜ EdgeRefreshed label part s ideal e (now (costs .entry)) (now (allowed .entry)) (now (known .entry)) (now (costs .exit)) (now (allowed .exit)) (now (known .exit)) ⌝ }
+    ensures { λ _. ⌜ EdgeRefreshed label part s (range-delta s least most) e (now (costs .entry)) (now (allowed .entry)) (now (known .entry)) (now (costs .exit)) (now (allowed .exit)) (now (known .exit)) ⌝ }
 {
     if label != part {
         return;
     }
-    set_costs(s, ideal, e, costs, allowed);
+    set_costs(s, least, most, e, costs, allowed);
     known[e * 2 + 1] = false;
     known[e * 2] = false;
 }
@@ -141,21 +143,23 @@ pub(crate) fn refresh_part(
     labels: &[u16; 256],
     part: u16,
     counts: &[u32],
-    ideals: &[f64],
+    least: &[f64],
+    most: &[f64],
     costs: &mut [f64; 512],
     allowed: &mut [bool; 512],
     known: &mut [bool; 512],
 )
-    requires { ⌜ (length (now counts) ≤ 256) × (length (now ideals) ≡ length (now counts)) ⌝ }
+    requires { ⌜ (length (now counts) ≤ 256) × (length (now least) ≡ length (now counts)) × (length (now most) ≡ length (now counts)) ⌝ }
     requires { ⌜ (length (now costs) ≡ 512) × (length (now allowed) ≡ 512) × (length (now known) ≡ 512) ⌝ }
-    ensures { λ _. ⌜ Refreshed (length (now (counts .entry))) (now (labels .entry)) part (now (counts .entry)) (now (ideals .entry)) (now (costs .entry)) (now (allowed .entry)) (now (known .entry)) (now (costs .exit)) (now (allowed .exit)) (now (known .exit)) ⌝ }
+    ensures { λ _. ⌜ Refreshed (length (now (counts .entry))) (now (labels .entry)) part (now (counts .entry)) (by-ranges (now (least .entry)) (now (most .entry))) (now (costs .entry)) (now (allowed .entry)) (now (known .entry)) (now (costs .exit)) (now (allowed .exit)) (now (known .exit)) ⌝ }
 {
     let mut e = 0usize;
     while e < counts.len() {
         let label = labels[e];
         let s = counts[e];
-        let ideal = ideals[e];
-        refresh_edge(label, part, s, ideal, e, costs, allowed, known);
+        let low = least[e];
+        let high = most[e];
+        refresh_edge(label, part, s, low, high, e, costs, allowed, known);
         e += 1;
     }
 }

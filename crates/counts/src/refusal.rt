@@ -1,6 +1,9 @@
 // The causes for which input is turned away, one variant for each row of the table of refusals. specs/Refusal.antt gives each its
 // number and its two places. The upper crates refuse by the same enum, so all their causes stand here too.
 
+ghost use mathlib.Core.Path.{_≡_};
+ghost use Rattle.counts.specs.Refusal.{outcome, then-test};
+
 pub enum Refusal {
     Malformed,
     BadIdeal(u32),
@@ -30,10 +33,23 @@ pub enum Refusal {
     NoCells,
     BreaksMismatch(u32),
     RootUndefined,
+    RangeReversed(u32),
 }
 
 // The outcome of one test.
 pub enum Check {
     Passed,
     Refused(Refusal),
+}
+
+impl Check {
+    // The first refusal of two tests in a row.
+    pub(crate) fn and(self, next: Check) -> Check
+        ensures { λ r. ⌜ outcome r ≡ then-test (outcome self) (outcome next) ⌝ }
+    {
+        if let Check::Refused(_) = self {
+            return self;
+        }
+        next
+    }
 }

@@ -16,7 +16,7 @@ ghost use Rattle.counts.specs.Refusal.{is-passed};
 ghost use Rattle.counts.specs.Region.{places};
 ghost use Rattle.counts.specs.Accept.{regions-test};
 ghost use Rattle.counts.specs.Move.{apply-changes as changed-counts};
-ghost use Rattle.counts.specs.Cost.{by-ideals};
+ghost use Rattle.counts.specs.Cost.{by-ranges};
 ghost use Rattle.counts.specs.Round.{find-move, solve-from, solve-zeros, max-moves};
 ghost use Rattle.counts.specs.Solver.{round-of, round-by, solve-of, solve-part};
 ghost use Rattle.counts.specs.Tables.{Tables, the-graph, path-of};
@@ -42,7 +42,8 @@ fn round_in(
     regions: &[u16],
     incident: &[u16; 512],
     own: &[u16; 512],
-    ideals: &[f64],
+    least: &[f64],
+    most: &[f64],
     counts: &mut [u32],
     limit: u32,
     costs: &mut [f64; 512],
@@ -54,11 +55,11 @@ fn round_in(
     cut: &mut [bool; 512],
     known: &mut [bool; 512],
 ) -> RoundAnswer
-    requires { ⌜ Tables (now regions) (now incident) (now own) × RoundInput (now regions) (now counts) (now ideals) ⌝ }
+    requires { ⌜ Tables (now regions) (now incident) (now own) × RoundInput (now regions) (now counts) × (length (now least) ≡ length (now counts)) × (length (now most) ≡ length (now counts)) ⌝ }
     requires { ⌜ Buffers (now used) (now path) (now best) × TableSizes (now costs) (now allowed) (now kept) (now cut) (now known) ⌝ }
-    ensures { λ r. ⌜ round-of r (now (counts .exit)) ≡ round-by (find-move (the-graph (now (regions .entry))) (by-ideals (now (ideals .entry))) (now (counts .entry)) limit) (now (counts .entry)) ⌝ }
+    ensures { λ r. ⌜ round-of r (now (counts .exit)) ≡ round-by (find-move (the-graph (now (regions .entry))) (by-ranges (now (least .entry)) (now (most .entry))) (now (counts .entry)) limit) (now (counts .entry)) ⌝ }
 {
-    start_tables(counts, ideals, costs, allowed, known);
+    start_tables(counts, least, most, costs, allowed, known);
     let found = find_augmentation(
         regions,
         incident,
@@ -86,12 +87,13 @@ pub(crate) fn make_round(
     regions: &[u16],
     incident: &[u16; 512],
     own: &[u16; 512],
-    ideals: &[f64],
+    least: &[f64],
+    most: &[f64],
     counts: &mut [u32],
     limit: u32,
 ) -> RoundAnswer
-    requires { ⌜ Tables (now regions) (now incident) (now own) × RoundInput (now regions) (now counts) (now ideals) ⌝ }
-    ensures { λ r. ⌜ round-of r (now (counts .exit)) ≡ round-by (find-move (the-graph (now (regions .entry))) (by-ideals (now (ideals .entry))) (now (counts .entry)) limit) (now (counts .entry)) ⌝ }
+    requires { ⌜ Tables (now regions) (now incident) (now own) × RoundInput (now regions) (now counts) × (length (now least) ≡ length (now counts)) × (length (now most) ≡ length (now counts)) ⌝ }
+    ensures { λ r. ⌜ round-of r (now (counts .exit)) ≡ round-by (find-move (the-graph (now (regions .entry))) (by-ranges (now (least .entry)) (now (most .entry))) (now (counts .entry)) limit) (now (counts .entry)) ⌝ }
 {
     let mut costs = [0.0; 512];
     let mut allowed = [false; 512];
@@ -106,7 +108,8 @@ pub(crate) fn make_round(
         regions,
         incident,
         own,
-        ideals,
+        least,
+        most,
         counts,
         limit,
         &mut costs,
@@ -123,7 +126,8 @@ pub(crate) fn make_round(
 // The move made on the counts. The part of the farm that it touches gets new costs, and its results are forgotten.
 fn make_move(
     counts: &mut [u32],
-    ideals: &[f64],
+    least: &[f64],
+    most: &[f64],
     labels: &[u16; 256],
     best: &[u16; 257],
     len: usize,
@@ -132,15 +136,17 @@ fn make_move(
     known: &mut [bool; 512],
 )
     requires { ⌜ CanApply (now counts) (path-of len (now best)) × (len ≤ 257) × (length (now best) ≡ 257) ⌝ }
-    requires { ⌜ (0 < len) × (length (now counts) ≤ 256) × (length (now ideals) ≡ length (now counts)) ⌝ }
+    requires { ⌜ (0 < len) × (length (now counts) ≤ 256) × (length (now least) ≡ length (now counts)) × (length (now most) ≡ length (now counts)) ⌝ }
     requires { ⌜ (length (now costs) ≡ 512) × (length (now allowed) ≡ 512) × (length (now known) ≡ 512) ⌝ }
     ensures { λ _. ⌜ now (counts .exit) ≡ changed-counts (path-of len (now (best .entry))) (now (counts .entry)) ⌝ }
-    ensures { λ _. ⌜ Refreshed (length (now (counts .entry))) (now (labels .entry)) (getD (now (labels .entry)) (getD (now (best .entry)) 0 0 / 2) 0) (now (counts .exit)) (now (ideals .entry)) (now (costs .entry)) (now (allowed .entry)) (now (known .entry)) (now (costs .exit)) (now (allowed .exit)) (now (known .exit)) ⌝ }
+    ensures { λ _. ⌜ Refreshed (length (now (counts .entry))) (now (labels .entry)) (getD (now (labels .entry)) (getD (now (best .entry)) 0 0 / 2) 0)
+        (now (counts .exit)) (by-ranges (now (least .entry)) (now (most .entry)))
+        (now (costs .entry)) (now (allowed .entry)) (now (known .entry)) (now (costs .exit)) (now (allowed .exit)) (now (known .exit)) ⌝ }
 {
     apply_changes(counts, best, len);
     let first = wide(best[0]) / 2;
     let part = labels[first];
-    refresh_part(labels, part, counts, ideals, costs, allowed, known);
+    refresh_part(labels, part, counts, least, most, costs, allowed, known);
 }
 
 // Round after round until one finds no move. The buffers are lent.
@@ -149,7 +155,8 @@ fn moves_in(
     incident: &[u16; 512],
     own: &[u16; 512],
     labels: &[u16; 256],
-    ideals: &[f64],
+    least: &[f64],
+    most: &[f64],
     counts: &mut [u32],
     limit: u32,
     costs: &mut [f64; 512],
@@ -161,11 +168,12 @@ fn moves_in(
     cut: &mut [bool; 512],
     known: &mut [bool; 512],
 ) -> MovesMade
-    requires { ⌜ Tables (now regions) (now incident) (now own) × RoundInput (now regions) (now counts) (now ideals) × (now counts ≡ replicate (length (now counts)) 0) × Labels (length (now counts)) (now incident) (now labels) ⌝ }
+    requires { ⌜ Tables (now regions) (now incident) (now own) × RoundInput (now regions) (now counts) × (length (now least) ≡ length (now counts)) × (length (now most) ≡ length (now counts))
+        × (now counts ≡ replicate (length (now counts)) 0) × Labels (length (now counts)) (now incident) (now labels) ⌝ }
     requires { ⌜ Buffers (now used) (now path) (now best) × TableSizes (now costs) (now allowed) (now kept) (now cut) (now known) ⌝ }
-    ensures { λ r. ⌜ solved-of r (now (counts .exit)) ≡ solve-from (the-graph (now (regions .entry))) (by-ideals (now (ideals .entry))) limit max-moves 0 (now (counts .entry)) ⌝ }
+    ensures { λ r. ⌜ solved-of r (now (counts .exit)) ≡ solve-from (the-graph (now (regions .entry))) (by-ranges (now (least .entry)) (now (most .entry))) limit max-moves 0 (now (counts .entry)) ⌝ }
 {
-    start_tables(counts, ideals, costs, allowed, known);
+    start_tables(counts, least, most, costs, allowed, known);
     let mut moves = 0;
     loop {
         let found = find_augmentation(
@@ -190,7 +198,17 @@ fn moves_in(
         if moves == MAX_MOVES {
             return MovesMade { moves, more: true };
         }
-        make_move(counts, ideals, labels, best, len, costs, allowed, known);
+        make_move(
+            counts,
+            least,
+            most,
+            labels,
+            best,
+            len,
+            costs,
+            allowed,
+            known,
+        );
         moves += 1;
     }
 }
@@ -199,12 +217,14 @@ pub(crate) fn make_moves(
     regions: &[u16],
     incident: &[u16; 512],
     own: &[u16; 512],
-    ideals: &[f64],
+    least: &[f64],
+    most: &[f64],
     counts: &mut [u32],
     limit: u32,
 ) -> MovesMade
-    requires { ⌜ Tables (now regions) (now incident) (now own) × RoundInput (now regions) (now counts) (now ideals) × (now counts ≡ replicate (length (now counts)) 0) ⌝ }
-    ensures { λ r. ⌜ solved-of r (now (counts .exit)) ≡ solve-from (the-graph (now (regions .entry))) (by-ideals (now (ideals .entry))) limit max-moves 0 (now (counts .entry)) ⌝ }
+    requires { ⌜ Tables (now regions) (now incident) (now own) × RoundInput (now regions) (now counts) × (length (now least) ≡ length (now counts)) × (length (now most) ≡ length (now counts))
+        × (now counts ≡ replicate (length (now counts)) 0) ⌝ }
+    ensures { λ r. ⌜ solved-of r (now (counts .exit)) ≡ solve-from (the-graph (now (regions .entry))) (by-ranges (now (least .entry)) (now (most .entry))) limit max-moves 0 (now (counts .entry)) ⌝ }
 {
     let mut costs = [0.0; 512];
     let mut allowed = [false; 512];
@@ -222,7 +242,8 @@ pub(crate) fn make_moves(
         incident,
         own,
         &labels,
-        ideals,
+        least,
+        most,
         counts,
         limit,
         &mut costs,
@@ -251,15 +272,18 @@ pub(crate) fn solve_from_zeros(
     regions: &[u16],
     incident: &[u16; 512],
     own: &[u16; 512],
-    ideals: &[f64],
+    least: &[f64],
+    most: &[f64],
     counts: &mut [u32],
     limit: u32,
 ) -> SolveAnswer
-    requires { ⌜ Tables (now regions) (now incident) (now own) × (length (now ideals) ≡ length (now counts)) × (length (now counts) ≤ 256) × T (is-passed (regions-test places (length (now counts)) (now regions))) ⌝ }
-    ensures { λ r. ⌜ solve-of r (now (counts .exit)) ≡ solve-part (length (now (ideals .entry))) (solve-zeros (the-graph (now (regions .entry))) (by-ideals (now (ideals .entry))) limit (length (now (ideals .entry)))) ⌝ }
+    requires { ⌜ Tables (now regions) (now incident) (now own) × (length (now least) ≡ length (now counts)) × (length (now most) ≡ length (now counts))
+        × (length (now counts) ≤ 256) × T (is-passed (regions-test places (length (now counts)) (now regions))) ⌝ }
+    ensures { λ r. ⌜ solve-of r (now (counts .exit)) ≡ solve-part (length (now (least .entry)))
+        (solve-zeros (the-graph (now (regions .entry))) (by-ranges (now (least .entry)) (now (most .entry))) limit (length (now (least .entry)))) ⌝ }
 {
     clear(counts);
-    let made = make_moves(regions, incident, own, ideals, counts, limit);
+    let made = make_moves(regions, incident, own, least, most, counts, limit);
     if made.more {
         clear(counts);
         return SolveAnswer::Refused(Refusal::TooManyMoves);

@@ -13,17 +13,17 @@ use lib.Ieee.{Float}
 use Rattle.counts.specs.Refusal.{is-passed}
 use Rattle.counts.specs.Lists.{In, member}
 use Rattle.counts.specs.Region.{Constraint, constraint, places, region-count, from-region, graph, side, side-sum}
-use Rattle.counts.specs.Cost.{by-ideals}
 use Rattle.counts.specs.Round.{solve-zeros}
+use Rattle.counts.specs.Cost.{Spacing, costs-of, edges-of}
 use Rattle.counts.specs.Accept.{accepted, sides-fit, limits-test, regions-test}
-use Rattle.counts.specs.Solver.{solve, round, round-test, max-limit}
-use Rattle.counts.specs.Demand.{Ask, asked, costs-of, left-by-all, Balanced, sum-of}
+use Rattle.counts.specs.Solver.{max-limit, solve}
+use Rattle.counts.specs.Demand.{Ask, asked, asked-costs, left-by-all, Balanced, sum-of}
 use Rattle.counts.proofs.Accepted.{Accepted, accepted-ok}
 use Rattle.counts.proofs.BoolLaws.{clash, eq→eqb, or-left, or-right, T-true}
 use Rattle.counts.proofs.RefusalLaws.{then-left}
 use Rattle.counts.proofs.AcceptLaws.{sides-first, sides-rest, side-few, limits-passed, whole-sides}
 use Rattle.counts.proofs.ListLaws.{in→member}
-use Rattle.counts.proofs.Rounds.{Steady, steady-all, constraint-at, demand-3-rounds}
+use Rattle.counts.proofs.Rounds.{Steady, steady-all, constraint-at, demand-3-rounds, test-of, limit-of, asked-is}
 use Rattle.counts.proofs.Solving.{SolveIs, solve-is, solve-balanced, level-solved}
 use Rattle.curves.specs.Lay.{Field, seams-of, seam-of, lay}
 use Rattle.curves.specs.Demand.{record-of, Alike, Handed, Demand-3}
@@ -57,36 +57,35 @@ sum-alike n counts others (x ∷ side) e h =
 
 module _ (regions counts : List ℕ) (h : Handed regions counts) where
   abbrev n : ℕ
-  n = length (h .ideals)
+  n = edges-of (h .spacing)
 
   abbrev g : List Constraint
   g = graph places regions
 
   abbrev written : List ℕ
-  written = solve regions (h .ideals) (h .lent) .counts
+  written = solve regions (h .spacing) (h .lent) .counts
 
   abbrev after : List ℕ
-  after = left-by-all regions (asked regions) costs-of (h .begun) (h .asks)
+  after = left-by-all regions (asked regions) asked-costs (h .begun) (h .asks)
 
-  is : SolveIs regions (h .ideals) (h .lent)
-  is = solve-is regions (h .ideals) (h .lent) (h .solved)
+  is : SolveIs regions (h .spacing) (h .lent)
+  is = solve-is regions (h .spacing) (h .lent) (h .accepted-solve)
 
   ok : Accepted n g
   ok = accepted-ok places n regions (is .regions-accepted)
 
-  -- there are at least as many counts as the solve had ideals
+  -- there are at least as many counts as the solve had edges
   long : n ≤ length (h .begun)
   long =
-      let part = solve-zeros g (by-ideals (h .ideals)) max-limit n .counts in
-      let l = level-solved g n ok (by-ideals (h .ideals)) max-limit .long in
+      let part = solve-zeros g (costs-of (h .spacing)) max-limit n .counts in
+      let l = level-solved g n ok (costs-of (h .spacing)) max-limit .long in
       let w : take n written ≡ part = ap (take n) (is .counts-are) ∙ take-at part (drop n (h .lent)) n l in
       let e : min n (length (h .begun)) ≡ n = sym (length-take n (h .begun)) ∙ ap length (h .wrote ∙ w) ∙ l in
       omega arith
 
   steady : Steady g (h .begun) after
-  unfolding round
   steady =
-      steady-all regions (asked regions) costs-of (λ ask counts. round-test places regions (ask .ideals) counts (ask .limit)) (λ ask. ask .limit) (λ ask counts. refl)
+      steady-all regions (asked regions) asked-costs (test-of regions) limit-of (asked-is regions)
       (h .asks) (h .begun) (wider n (length (h .begun)) g long ok)
 
   below : (i x : ℕ) → T (member x (constraint g i .a) || member x (constraint g i .b)) → x < n
@@ -118,7 +117,7 @@ module _ (regions counts : List ℕ) (h : Handed regions counts) where
 
   pub handed-balanced : Balanced regions counts
   handed-balanced =
-      let b = solve-balanced regions (h .ideals) (h .lent) (h .solved) in
+      let b = solve-balanced regions (h .spacing) (h .lent) (h .accepted-solve) in
       record {
         bottom-top = λ r l. still-even (r * 2) _ (constraint-at places (region-count places regions) regions r l .0) (b .bottom-top r l);
         right-left = λ r l. still-even (suc (r * 2)) _ (constraint-at places (region-count places regions) regions r l .1) (b .right-left r l);
@@ -166,21 +165,21 @@ same-sides n regions t r h k b =
 
 -- ---- the two ways to hand on what an accepted solve wrote, each with any list of rounds: the whole lent buffer, or the part that was written
 
-pub whole-buffer : (regions : List ℕ) (ideals : List Float) (lent : List ℕ) (asks : List Ask) → T (is-passed (solve regions ideals lent .verdict))
-    → Handed regions (left-by-all regions (asked regions) costs-of (solve regions ideals lent .counts) asks)
-whole-buffer regions ideals lent asks t =
-    record { ideals = ideals; lent = lent; solved = t; begun = solve regions ideals lent .counts; wrote = refl; asks = asks; left = refl }
+pub whole-buffer : (regions : List ℕ) (spacing : Spacing) (lent : List ℕ) (asks : List Ask) → T (is-passed (solve regions spacing lent .verdict))
+    → Handed regions (left-by-all regions (asked regions) asked-costs (solve regions spacing lent .counts) asks)
+whole-buffer regions spacing lent asks t =
+    record { spacing = spacing; lent = lent; accepted-solve = t; begun = solve regions spacing lent .counts; wrote = refl; asks = asks; left = refl }
 
-pub written-part : (regions : List ℕ) (ideals : List Float) (lent : List ℕ) (asks : List Ask) → T (is-passed (solve regions ideals lent .verdict))
-    → Handed regions (left-by-all regions (asked regions) costs-of (take (length ideals) (solve regions ideals lent .counts)) asks)
-written-part regions ideals lent asks t =
-    let n = length ideals in
+pub written-part : (regions : List ℕ) (spacing : Spacing) (lent : List ℕ) (asks : List Ask) → T (is-passed (solve regions spacing lent .verdict))
+    → Handed regions (left-by-all regions (asked regions) asked-costs (take (edges-of spacing) (solve regions spacing lent .counts)) asks)
+written-part regions spacing lent asks t =
+    let n = edges-of spacing in
     record {
-      ideals = ideals;
+      spacing = spacing;
       lent = lent;
-      solved = t;
-      begun = take n (solve regions ideals lent .counts);
-      wrote = take-take n n (solve regions ideals lent .counts) (omega arith);
+      accepted-solve = t;
+      begun = take n (solve regions spacing lent .counts);
+      wrote = take-take n n (solve regions spacing lent .counts) (omega arith);
       asks = asks;
       left = refl;
     }
@@ -205,7 +204,7 @@ equal-seams regions counts h r l f =
     seam-long : (k : ℕ) (breaks : List Float) → k < 4 → length (seam-of region counts k breaks) ≡ suc (sum-of regions counts r k)
     seam-long k breaks j =
         length-seam region counts k breaks
-        ∙ ap (λ (edges : List ℕ). suc (side-sum counts edges)) (same-sides (length (h .ideals)) regions (is regions counts h .regions-accepted) r l k j)
+        ∙ ap (λ (edges : List ℕ). suc (side-sum counts edges)) (same-sides (edges-of (h .spacing)) regions (is regions counts h .regions-accepted) r l k j)
 
     alike : (j k : ℕ) (breaks others : List Float) → j < 4 → k < 4 → sum-of regions counts r j ≡ sum-of regions counts r k
         → length (seam-of region counts j breaks) ≡ length (seam-of region counts k others)

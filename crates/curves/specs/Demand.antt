@@ -10,9 +10,10 @@ use lib.Dec.{T}
 use lib.Ieee.{Float}
 use Rattle.counts.specs.Refusal.{is-passed}
 use Rattle.counts.specs.Region.{places, record-size, region-count, from-region}
+use Rattle.counts.specs.Cost.{Spacing, edges-of}
 use Rattle.counts.specs.Accept.{accepted}
 use Rattle.counts.specs.Solver.{solve}
-use Rattle.counts.specs.Demand.{Ask, asked, costs-of, left-by-all, Demand}
+use Rattle.counts.specs.Demand.{Ask, asked, asked-costs, left-by-all, Demand}
 use Rattle.curves.specs.Lay.{Field, lay}
 
 -- "one region record of the list"
@@ -25,20 +26,20 @@ Alike n counts others = take n counts ≡ take n others
 
 -- "counts that an accepted solve wrote for the list, or that a list of rounds with this same list of regions, begun on these, left"; no rounds leave what was written
 pub record Handed (regions counts : List ℕ) : Type 0 where
-  pub ideals : List Float
+  pub spacing : Spacing
   pub lent : List ℕ
-  -- "an accepted solve"
-  pub solved : T (is-passed (solve regions ideals lent .verdict))
-  -- "begun on these": counts that begin with what was written, as many as there are ideals
+  -- "an accepted solve", by ideals of either kind
+  pub accepted-solve : T (is-passed (solve regions spacing lent .verdict))
+  -- "begun on these": counts that begin with what was written, as many as there are edges
   pub begun : List ℕ
-  pub wrote : Alike (length ideals) begun (solve regions ideals lent .counts)
+  pub wrote : Alike (edges-of spacing) begun (solve regions spacing lent .counts)
   pub asks : List Ask
-  pub left : Alike (length ideals) counts (left-by-all regions (asked regions) costs-of begun asks)
+  pub left : Alike (edges-of spacing) counts (left-by-all regions (asked regions) asked-costs begun asks)
 
 pub record Demand-3 (regions : List ℕ) : Type 0 where
   -- "For every accepted list of regions, the same throughout, and every list of rounds from any starting counts, each round with its own ideals and search limit, refused rounds
   -- included": opposite sides balance just if they did before, a round that changes the counts makes one unit move, and an idle one leaves none below -2e-12
-  pub rounds : (counts : List ℕ) (asks : List Ask) → T (accepted places (length counts) regions) → Demand regions (asked regions) costs-of counts asks
+  pub rounds : (counts : List ℕ) (asks : List Ask) → T (accepted places (length counts) regions) → Demand regions (asked regions) asked-costs counts asks
   -- "lay never answers it with 22, whatever breaks, curves and output it is lent"
   pub tiles : (counts : List ℕ) → Handed regions counts → (r : ℕ) → r < region-count places regions → (f : Field) (out : List Float)
       → lay (record-of regions r) counts f out .verdict .number ≢ 22

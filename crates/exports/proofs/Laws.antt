@@ -99,9 +99,9 @@ unfolding solve-of
 solve-left (solve-answer.Moves moves) counts = refl
 solve-left (solve-answer.Refused r) counts = refl
 
-pub solve-exported : (a : SolveAnswer) {counts : List ℕ} {s : Solve} {r : ℕ} {answer : List ℕ} → TellsSolve a r answer → solve-of a counts ≡ s → (r ≡ s .verdict .number) × ((answer ≡ solve-told s) × (counts ≡ s .counts))
+pub solve-exported : (a : SolveAnswer) {counts : List ℕ} {s : Solve} {r : ℕ} {answer : List ℕ} → TellsSolve a r answer → solve-of a counts ≡ s → (r ≡ s .verdict .number) × (answer ≡ solve-told s) × (counts ≡ s .counts)
 solve-exported a {counts} t e =
-    (t counts .0 ∙ ap (λ (x : Solve). x .verdict .number) e, (t counts .1 ∙ ap solve-told e, solve-left a counts ∙ ap (λ (x : Solve). x .counts) e))
+    (t counts .0 ∙ ap (λ (x : Solve). x .verdict .number) e, t counts .1 ∙ ap solve-told e, solve-left a counts ∙ ap (λ (x : Solve). x .counts) e)
 
 round-left : (a : RoundAnswer) (counts : List ℕ) → counts ≡ round-of a counts .counts
 unfolding round-of
@@ -109,13 +109,12 @@ round-left (round-answer.Moved cost cut) counts = refl
 round-left (round-answer.Idle cut) counts = refl
 round-left (round-answer.Refused r) counts = refl
 
-pub round-exported : (a : RoundAnswer) {counts : List ℕ} {s : Round} {r : ℕ} {answer : List ℕ} {cost : List Float} → TellsRound a r answer cost → round-of a counts ≡ s → (r ≡ s .verdict .number) × ((answer ≡ round-told s) × ((cost ≡ cost-of (s .move) ∷ []) × (counts ≡ s .counts)))
+pub round-exported : (a : RoundAnswer) {counts : List ℕ} {s : Round} {r : ℕ} {answer : List ℕ} {cost : List Float} → TellsRound a r answer cost → round-of a counts ≡ s → (r ≡ s .verdict .number) × (answer ≡ round-told s) × (cost ≡ cost-of (s .move) ∷ []) × (counts ≡ s .counts)
 round-exported a {counts} t e = (
   t counts .0 .0 ∙ ap (λ (x : Round). x .verdict .number) e,
-  (
-    t counts .0 .1 ∙ ap round-told e,
-    (t counts .1 ∙ ap (λ (x : Round). cost-of (x .move) ∷ []) e, round-left a counts ∙ ap (λ (x : Round). x .counts) e),
-  ),
+  t counts .0 .1 ∙ ap round-told e,
+  t counts .1 ∙ ap (λ (x : Round). cost-of (x .move) ∷ []) e,
+  round-left a counts ∙ ap (λ (x : Round). x .counts) e,
 )
 
 pub hold-exported : (a : HoldAnswer) {s : Hold} {r : ℕ} {answer : List ℕ} → TellsHold a r answer → hold-of a ≡ s → (r ≡ s .verdict .number) × (answer ≡ hold-told s)

@@ -4,6 +4,7 @@ mod telling;
 
 ghost use mathlib.Core.Path.{_≡_};
 ghost use mathlib.Core.List.{[], _∷_};
+ghost use Rattle.counts.specs.Cost.{by, within};
 ghost use Rattle.counts.specs.Solver.{solve, round, energy, constraints-hold};
 ghost use Rattle.curves.specs.Answers.{verdict, root-answer};
 ghost use Rattle.curves.specs.Grid.{seams};
@@ -26,9 +27,9 @@ pub extern "C" fn juplatsk_solve_counts(
     counts: &mut [u32],
     answer: &mut [u32; 3],
 ) -> u32
-    ensures { λ r. ⌜ r ≡ solve (now (regions .entry)) (now (ideals .entry)) (now (counts .entry)) .verdict .number ⌝ }
-    ensures { λ _. ⌜ now (answer .exit) ≡ solve-told (solve (now (regions .entry)) (now (ideals .entry)) (now (counts .entry))) ⌝ }
-    ensures { λ _. ⌜ now (counts .exit) ≡ solve (now (regions .entry)) (now (ideals .entry)) (now (counts .entry)) .counts ⌝ }
+    ensures { λ r.
+        let o = solve (now (regions .entry)) (by (now (ideals .entry))) (now (counts .entry)) in
+        ⌜ (r ≡ o .verdict .number) × (now (answer .exit) ≡ solve-told o) × (now (counts .exit) ≡ o .counts) ⌝ }
 {
     let solved = counts::solve_counts(regions, ideals, counts);
     tell_solve(solved, answer)
@@ -43,12 +44,45 @@ pub extern "C" fn juplatsk_round(
     answer: &mut [u32; 4],
     cost: &mut [f64; 1],
 ) -> u32
-    ensures { λ r. ⌜ r ≡ round (now (regions .entry)) (now (ideals .entry)) (now (counts .entry)) limit .verdict .number ⌝ }
-    ensures { λ _. ⌜ now (answer .exit) ≡ round-told (round (now (regions .entry)) (now (ideals .entry)) (now (counts .entry)) limit) ⌝ }
-    ensures { λ _. ⌜ now (cost .exit) ≡ cost-of (round (now (regions .entry)) (now (ideals .entry)) (now (counts .entry)) limit .move) ∷ [] ⌝ }
-    ensures { λ _. ⌜ now (counts .exit) ≡ round (now (regions .entry)) (now (ideals .entry)) (now (counts .entry)) limit .counts ⌝ }
+    ensures { λ r.
+        let o = round (now (regions .entry)) (by (now (ideals .entry))) (now (counts .entry)) limit in
+        ⌜ (r ≡ o .verdict .number) × (now (answer .exit) ≡ round-told o) × (now (cost .exit) ≡ cost-of (o .move) ∷ []) × (now (counts .exit) ≡ o .counts) ⌝ }
 {
     let made = counts::round(regions, ideals, counts, limit);
+    tell_round(made, answer, cost)
+}
+
+#[no_mangle]
+pub extern "C" fn juplatsk_solve_counts_within(
+    regions: &[u16],
+    least: &[f64],
+    most: &[f64],
+    counts: &mut [u32],
+    answer: &mut [u32; 3],
+) -> u32
+    ensures { λ r.
+        let o = solve (now (regions .entry)) (within (now (least .entry)) (now (most .entry))) (now (counts .entry)) in
+        ⌜ (r ≡ o .verdict .number) × (now (answer .exit) ≡ solve-told o) × (now (counts .exit) ≡ o .counts) ⌝ }
+{
+    let solved = counts::solve_counts_within(regions, least, most, counts);
+    tell_solve(solved, answer)
+}
+
+#[no_mangle]
+pub extern "C" fn juplatsk_round_within(
+    regions: &[u16],
+    least: &[f64],
+    most: &[f64],
+    counts: &mut [u32],
+    limit: u32,
+    answer: &mut [u32; 4],
+    cost: &mut [f64; 1],
+) -> u32
+    ensures { λ r.
+        let o = round (now (regions .entry)) (within (now (least .entry)) (now (most .entry))) (now (counts .entry)) limit in
+        ⌜ (r ≡ o .verdict .number) × (now (answer .exit) ≡ round-told o) × (now (cost .exit) ≡ cost-of (o .move) ∷ []) × (now (counts .exit) ≡ o .counts) ⌝ }
+{
+    let made = counts::round_within(regions, least, most, counts, limit);
     tell_round(made, answer, cost)
 }
 

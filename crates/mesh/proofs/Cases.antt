@@ -1,9 +1,9 @@
--- 01's bench cases hold, by working out the definitions that the public contracts cite. Assumes nothing.
+-- 01's bench cases and 02's hold, by working out the definitions that the public contracts cite. Assumes nothing.
 use mathlib.Core.Path.{refl}
 use lib.Ieee.{ofBits, ofInt}
 use Rattle.counts.specs.Accept.{first-bad}
 use Rattle.counts.specs.Region.{constraints}
-use Rattle.counts.specs.Cost.{edge-delta}
+use Rattle.counts.specs.Cost.{edge-delta, range-delta}
 use Rattle.counts.specs.Solver.{solve, round}
 use Rattle.curves.specs.Answers.{root-answer}
 use Rattle.curves.specs.Curve.{cumulative-of}
@@ -12,5 +12,6 @@ use Rattle.curves.specs.Coons.{coons-curves, coons-from-parameters}
 use Rattle.mesh.specs.Cases.{areas, All-hold, bench}
 
 pub bench-holds : All-hold bench
-unfolding solve round edge-delta first-bad constraints coons-curves coons-from-parameters cumulative-of row-of areas root-answer ofBits ofInt
-bench-holds = (refl, (refl, (refl, (refl, (refl, (refl, (refl, (refl, (refl, (refl, (refl, (refl, (refl, (refl, tt))))))))))))))
+unfolding solve round edge-delta range-delta first-bad constraints coons-curves coons-from-parameters cumulative-of row-of areas root-answer ofBits ofInt
+bench-holds =
+    (refl, (refl, (refl, (refl, (refl, (refl, (refl, (refl, (refl, (refl, (refl, (refl, (refl, (refl, (refl, (refl, (refl, (refl, tt))))))))))))))))))

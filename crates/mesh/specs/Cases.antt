@@ -1,4 +1,5 @@
--- 01's bench cases: what is asked, and what is answered and left, whole. A to F and H to L are those that 01 wants proved together; G, which runs, is among them too. Definitions only.
+-- 01's bench cases: what is asked, and what is answered and left, whole. A to F and H to L are those that 01 wants proved together; G, which runs, is among them too,
+-- and so are a few of 02's. Definitions only.
 use mathlib.Core.Path.{_≡_}
 use mathlib.Core.Bool.{true, false}
 use mathlib.Core.List.{List, [], _∷_, _++_}
@@ -8,7 +9,7 @@ use lib.IntN.{negsuc}
 use lib.Ieee.{Float, nan, fin, binary64, ofBits}
 use Rattle.counts.specs.Refusal.{passed, refused}
 use Rattle.counts.specs.Region.{places}
-use Rattle.counts.specs.Cost.{real}
+use Rattle.counts.specs.Cost.{real, Spacing, by, within}
 use Rattle.counts.specs.Solver.{none, made, Round, round, Solve, solve}
 use Rattle.curves.specs.Scalar.{nought, half, one}
 use Rattle.curves.specs.Lists.{tab}
@@ -28,10 +29,10 @@ pub record Tile : Type 0 where
   pub left : List Float
 
 pub data Case : Type 0 where
-  -- regions, ideals, counts lent
-  solved : List ℕ → List Float → List ℕ → Solve → Case
-  -- regions, ideals, counts lent, limit
-  moved : List ℕ → List Float → List ℕ → ℕ → Round → Case
+  -- regions, ideals of either kind, counts lent
+  solved : List ℕ → Spacing → List ℕ → Solve → Case
+  -- regions, ideals of either kind, counts lent, limit
+  moved : List ℕ → Spacing → List ℕ → ℕ → Round → Case
   -- n_u, n_v, output lent
   gridded : Tile → ℕ → ℕ → List Float → Outcome → Case
   -- output lent
@@ -46,8 +47,8 @@ unfolding signed-area
 areas out n = tab (λ (k : ℕ). signed-area (point-at out (4 * k)) (point-at out (4 * k + 1)) (point-at out (4 * k + 2)) (point-at out (4 * k + 3))) 0 n
 
 abbrev pub Holds : Case → Type 0
-Holds (solved regions ideals lent o) = solve regions ideals lent ≡ o
-Holds (moved regions ideals counts limit o) = round regions ideals counts limit ≡ o
+Holds (solved regions spacing lent o) = solve regions spacing lent ≡ o
+Holds (moved regions spacing counts limit o) = round regions spacing counts limit ≡ o
 Holds (gridded t n m lent o) = coons-quads (t .bottom) (t .right) (t .top) (t .left) n m lent ≡ o
 Holds (seamed t s lent o) = coons-seamed (t .bottom) (t .right) (t .top) (t .left) s lent ≡ o
 Holds (measured out n o) = areas out n ≡ o
@@ -78,7 +79,7 @@ lent-counts n = replicate n 9 ++ 7 ∷ []
 
 abbrev pub accepted : List ℕ → List ℕ → ℕ → List ℕ → Case
 accepted regions ideals moves counts =
-    solved regions (reals ideals) (lent-counts (length ideals)) (record { verdict = passed; moves = moves; counts = counts ++ 7 ∷ [] })
+    solved regions (by (reals ideals)) (lent-counts (length ideals)) (record { verdict = passed; moves = moves; counts = counts ++ 7 ∷ [] })
 
 abbrev pub case-A : Case
 case-A =
@@ -102,7 +103,7 @@ case-F = accepted (region (alone 0) [] (alone 1) [] ++ region (alone 0) [] (alon
 
 abbrev pub case-G : Case
 case-G =
-    solved (region (alone 0) (alone 1) (alone 0) (alone 2)) (reals (1 ∷ 1 ∷ 1 ∷ [])) (lent-counts 3)
+    solved (region (alone 0) (alone 1) (alone 0) (alone 2)) (by (reals (1 ∷ 1 ∷ 1 ∷ []))) (lent-counts 3)
     (record { verdict = refused 5 0 0; moves = 0; counts = lent-counts 3 })
 
 -- ---- the unit square, and 32 values for 2 by 2 quads, one more lent than is needed
@@ -166,21 +167,46 @@ case-J = seamed square (seams early late early late) lent (record { verdict = re
 -- ---- K: "a round from count 0 on a free edge (no region) with ideal 1, limit 0: unchanged and cut; limit 1: count 1, not cut"
 
 abbrev pub case-K-turned-back : Case
-case-K-turned-back = moved [] (real 1 ∷ []) (0 ∷ []) 0 (record { verdict = passed; move = none; cut = true; counts = 0 ∷ [] })
+case-K-turned-back = moved [] (by (real 1 ∷ [])) (0 ∷ []) 0 (record { verdict = passed; move = none; cut = true; counts = 0 ∷ [] })
 
 -- the move costs -1
 abbrev pub minus-one : Float
 minus-one = ofBits binary64 0xbff0_0000_0000_0000
 
 abbrev pub case-K-made : Case
-case-K-made = moved [] (real 1 ∷ []) (0 ∷ []) 1 (record { verdict = passed; move = made minus-one; cut = false; counts = 1 ∷ [] })
+case-K-made = moved [] (by (real 1 ∷ [])) (0 ∷ []) 1 (record { verdict = passed; move = made minus-one; cut = false; counts = 1 ∷ [] })
 
 -- ---- L: "root of 2^-1074 is 2^-537"; `negsuc n` is -(n + 1)
 
 abbrev pub case-L : Case
 case-L = rooted (fin false 1 (negsuc 1073)) (good (fin false 1 (negsuc 536)))
 
+-- ---- 02, "Spacing given as a range"
+
+abbrev pub from-to : List ℕ → List ℕ → Spacing
+from-to least most = within (reals least) (reals most)
+
+-- "An edge costs nothing while its count lies from least to most": a free edge from 2 to 5 gets 2
+abbrev pub case-least-met : Case
+case-least-met = solved [] (from-to (2 ∷ []) (5 ∷ [])) (lent-counts 1) (record { verdict = passed; moves = 2; counts = 2 ∷ 7 ∷ [] })
+
+-- bottom 3 to 5 and top 1 to 3, right 1 to 2 and left 2 to 4: both pairs meet where the ranges do
+abbrev pub case-ranges-meet : Case
+case-ranges-meet =
+    solved (region (alone 0) (alone 1) (alone 2) (alone 3)) (from-to (3 ∷ 1 ∷ 1 ∷ 2 ∷ []) (5 ∷ 2 ∷ 3 ∷ 4 ∷ [])) (lent-counts 4)
+    (record { verdict = passed; moves = 5; counts = 3 ∷ 2 ∷ 3 ∷ 2 ∷ 7 ∷ [] })
+
+-- inside its range an edge is left alone
+abbrev pub case-inside : Case
+case-inside = moved [] (from-to (2 ∷ []) (5 ∷ [])) (4 ∷ []) 1 (record { verdict = passed; move = none; cut = false; counts = 4 ∷ [] })
+
+-- "A least above its most is refused (..) under 35, with the lowest edge"
+abbrev pub case-reversed : Case
+case-reversed =
+    solved [] (from-to (1 ∷ 3 ∷ 3 ∷ []) (1 ∷ 2 ∷ 2 ∷ [])) (lent-counts 3) (record { verdict = refused 35 1 0; moves = 0; counts = lent-counts 3 })
+
 abbrev pub bench : List Case
 bench =
     case-A ∷ case-B ∷ case-C ∷ case-D ∷ case-E ∷ case-F ∷ case-G
-    ∷ case-H ∷ areas-H ∷ case-I ∷ case-J ∷ case-K-turned-back ∷ case-K-made ∷ case-L ∷ []
+    ∷ case-H ∷ areas-H ∷ case-I ∷ case-J ∷ case-K-turned-back ∷ case-K-made ∷ case-L
+    ∷ case-least-met ∷ case-ranges-meet ∷ case-inside ∷ case-reversed ∷ []

@@ -15,25 +15,26 @@ const MARK_LOW: u32 = 0x6c70_6572;
 const MARK_HIGH: u32 = 0x3120_7961;
 
 // Operations are numbered from 1; 0 stands for those that this program does not know.
-const OPERATIONS: usize = 13;
+const OPERATIONS: usize = 15;
 
 // Whether the functions do on this case what it says.
 fn agrees(operation: usize, case: &[u8]) -> bool {
     match operation {
         1 => solver::solve(case),
-        2 => solver::rounds(case),
-        3 => solver::rounds(case),
+        2 | 3 => solver::rounds(case, false),
         4 => solver::energy(case),
         5 => solver::hold(case),
         6 => geometry::root(case),
         7 | 8 | 9 | 11 => geometry::on_curves(operation, case),
         10 | 12 => geometry::on_loop(operation, case),
+        13 => solver::solve_within(case),
+        14 => solver::rounds(case, true),
         _ => false,
     }
 }
 
 fn known(operation: u32) -> usize {
-    if operation < 13 {
+    if operation < 15 {
         operation as usize
     } else {
         0
@@ -169,6 +170,7 @@ fn main() {
     let mut differ = [0u32; OPERATIONS];
     replay_file(b"solver.cases", &mut run, &mut differ);
     replay_file(b"geometry.cases", &mut run, &mut differ);
+    replay_file(b"ranges.cases", &mut run, &mut differ);
     tell(b"solve", run[1], differ[1]);
     tell(b"round", run[2], differ[2]);
     tell(b"rounds", run[3], differ[3]);
@@ -181,5 +183,7 @@ fn main() {
     tell(b"coons_checked", run[10], differ[10]);
     tell(b"mesh_tile_curves", run[11], differ[11]);
     tell(b"mesh_tile", run[12], differ[12]);
+    tell(b"solve_within", run[13], differ[13]);
+    tell(b"rounds_mixed", run[14], differ[14]);
     tell(b"other", run[0], differ[0]);
 }

@@ -79,6 +79,41 @@ pub(crate) fn solve(case: &[u8]) -> bool {
     )
 }
 
+fn solve_within_on(
+    case: &[u8],
+    answer_at: usize,
+    regions: &[u16],
+    least: &[f64],
+    most: &[f64],
+    counts: &mut [u32],
+) -> bool {
+    let answer = counts::solve_counts_within(regions, least, most, counts);
+    is_solved(case, answer_at, answer, counts)
+}
+
+pub(crate) fn solve_within(case: &[u8]) -> bool {
+    let mut regions = [0u16; PLACES];
+    let mut least = [0.0; EDGES];
+    let mut most = [0.0; EDGES];
+    let mut counts = [0u32; EDGES];
+    let least_at = reading::past_places(case, INPUT);
+    let most_at = reading::past_floats(case, least_at);
+    let counts_at = reading::past_floats(case, most_at);
+    let answer_at = reading::past_numbers(case, counts_at);
+    let r = reading::places(case, INPUT, &mut regions);
+    let l = reading::floats(case, least_at, &mut least);
+    let m = reading::floats(case, most_at, &mut most);
+    let n = reading::numbers(case, counts_at, &mut counts);
+    solve_within_on(
+        case,
+        answer_at,
+        &regions[..r],
+        &least[..l],
+        &most[..m],
+        &mut counts[..n],
+    )
+}
+
 // A round's answer as the case has it: no cost is 0.
 struct RoundResult {
     verdict: Verdict,
@@ -141,47 +176,92 @@ fn is_rounded(case: &[u8], at: usize, answer: RoundAnswer, left: &[u32]) -> bool
     reading::is_numbers(case, reading::past_number(cut_at), left)
 }
 
-// One round of a list, on the counts as the round before left them.
-fn round(case: &[u8], at: usize, regions: &[u16], counts: &mut [u32]) -> bool {
+// A round whose ideals stand at `at`, on the counts as the round before left them.
+fn round_by(case: &[u8], at: usize, regions: &[u16], counts: &mut [u32]) -> bool {
     let mut ideals = [0.0; EDGES];
     let i = reading::floats(case, at, &mut ideals);
-    let limit_at = reading::past_floats(case, at);
+    let limit_at = limit_at(case, at, false);
     let limit = reading::number(case, limit_at);
     let answer = counts::round(regions, &ideals[..i], counts, limit);
     is_rounded(case, reading::past_number(limit_at), answer, counts)
 }
 
+// The same of a round whose leasts stand at `at`, and its mosts behind them.
+fn round_within(case: &[u8], at: usize, regions: &[u16], counts: &mut [u32]) -> bool {
+    let mut least = [0.0; EDGES];
+    let mut most = [0.0; EDGES];
+    let l = reading::floats(case, at, &mut least);
+    let m = reading::floats(case, reading::past_floats(case, at), &mut most);
+    let limit_at = limit_at(case, at, true);
+    let limit = reading::number(case, limit_at);
+    let answer = counts::round_within(regions, &least[..l], &most[..m], counts, limit);
+    is_rounded(case, reading::past_number(limit_at), answer, counts)
+}
+
+// The limit stands behind the ideals, or behind the leasts and the mosts.
+fn limit_at(case: &[u8], at: usize, within: bool) -> usize {
+    let behind = reading::past_floats(case, at);
+    if within {
+        return reading::past_floats(case, behind);
+    }
+    behind
+}
+
+// In a list of rounds of both kinds each round starts with its kind; in the others all go by ideals.
+fn is_within(case: &[u8], at: usize, mixed: bool) -> bool {
+    if mixed {
+        return reading::flag(case, at);
+    }
+    false
+}
+
+fn lists_at(at: usize, mixed: bool) -> usize {
+    if mixed {
+        return reading::past_number(at);
+    }
+    at
+}
+
+// One round of a list.
+fn round(case: &[u8], at: usize, mixed: bool, regions: &[u16], counts: &mut [u32]) -> bool {
+    let lists = lists_at(at, mixed);
+    if is_within(case, at, mixed) {
+        return round_within(case, lists, regions, counts);
+    }
+    round_by(case, lists, regions, counts)
+}
+
 // The position behind a round that starts at `at`.
-fn past_round(case: &[u8], at: usize) -> usize {
-    let limit_at = reading::past_floats(case, at);
+fn past_round(case: &[u8], at: usize, mixed: bool) -> usize {
+    let limit_at = limit_at(case, lists_at(at, mixed), is_within(case, at, mixed));
     let moved_at = reading::past_verdict(reading::past_number(limit_at));
     let cut_at = reading::past_float(reading::past_number(moved_at));
     reading::past_numbers(case, reading::past_number(cut_at))
 }
 
 // The rounds from `at` on.
-fn rounds_from(case: &[u8], at: usize, regions: &[u16], counts: &mut [u32]) -> bool {
+fn rounds_from(case: &[u8], at: usize, mixed: bool, regions: &[u16], counts: &mut [u32]) -> bool {
     let steps = reading::number(case, at);
     let mut from = reading::past_number(at);
     let mut k = 0;
     while k < steps {
-        if !round(case, from, regions, counts) {
+        if !round(case, from, mixed, regions, counts) {
             return false;
         }
-        from = past_round(case, from);
+        from = past_round(case, from, mixed);
         k += 1;
     }
     reading::is_end(case, from)
 }
 
-pub(crate) fn rounds(case: &[u8]) -> bool {
+pub(crate) fn rounds(case: &[u8], mixed: bool) -> bool {
     let mut regions = [0u16; PLACES];
     let mut counts = [0u32; EDGES];
     let counts_at = reading::past_places(case, INPUT);
     let r = reading::places(case, INPUT, &mut regions);
     let n = reading::numbers(case, counts_at, &mut counts);
     let steps_at = reading::past_numbers(case, counts_at);
-    rounds_from(case, steps_at, &regions[..r], &mut counts[..n])
+    rounds_from(case, steps_at, mixed, &regions[..r], &mut counts[..n])
 }
 
 struct EnergyResult {

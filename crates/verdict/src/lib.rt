@@ -84,5 +84,6 @@ pub fn verdict_of(refusal: Refusal) -> Verdict
         Refusal::NoCells => alone(26),
         Refusal::BreaksMismatch(side) => with_place(27, side),
         Refusal::RootUndefined => alone(28),
+        Refusal::RangeReversed(edge) => with_place(35, edge),
     }
 }

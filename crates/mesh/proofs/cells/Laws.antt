@@ -84,41 +84,42 @@ row-fits n m j h =
 
 -- ---- 23 to 25
 
--- the table's numbers go with the order of the causes
-number-by-tag : (r : Refusal) → verdict-of r .number ≡ suc (tagOf the-type r)
-unfolding verdict-of
-number-by-tag because.Malformed = refl
-number-by-tag (because.BadIdeal e) = refl
-number-by-tag (because.EdgeOutOfRange r s) = refl
-number-by-tag (because.EdgeRepeated r s) = refl
-number-by-tag (because.EdgeOnBothSides r s) = refl
-number-by-tag (because.EdgeOverused e) = refl
-number-by-tag because.TooManyMoves = refl
-number-by-tag because.LengthsDiffer = refl
-number-by-tag (because.CountTooLarge e) = refl
-number-by-tag because.LimitTooLarge = refl
-number-by-tag because.OutputTooShort = refl
-number-by-tag because.BadLoop = refl
-number-by-tag (because.CurveTooShort k) = refl
-number-by-tag (because.PointNotFinite k) = refl
-number-by-tag (because.BadCurveLength k) = refl
-number-by-tag (because.CurvesApart k) = refl
-number-by-tag because.CornersClockwise = refl
-number-by-tag (because.SeamTooShort k) = refl
-number-by-tag (because.SeamOutOfRange k i) = refl
-number-by-tag (because.SeamFalling k i) = refl
-number-by-tag (because.SeamEnds k) = refl
-number-by-tag (because.SeamsUnequal k) = refl
-number-by-tag (because.LinesParallel i j) = refl
-number-by-tag (because.CrossingOutside i j) = refl
-number-by-tag (because.BadQuadArea i j) = refl
-number-by-tag because.NoCells = refl
-number-by-tag (because.BreaksMismatch k) = refl
-number-by-tag because.RootUndefined = refl
-
 -- whether a cause of this tag leaves zeros
 abbrev among : ℕ → Bool
 among x = leb 23 (suc x) && leb (suc x) 25
+
+-- the causes that leave zeros are those of these tags
+zeroes-by-tag : (r : Refusal) → among (tagOf the-type r) ≡ zeroes (verdict-of r)
+unfolding verdict-of
+zeroes-by-tag because.Malformed = refl
+zeroes-by-tag (because.BadIdeal e) = refl
+zeroes-by-tag (because.EdgeOutOfRange r s) = refl
+zeroes-by-tag (because.EdgeRepeated r s) = refl
+zeroes-by-tag (because.EdgeOnBothSides r s) = refl
+zeroes-by-tag (because.EdgeOverused e) = refl
+zeroes-by-tag because.TooManyMoves = refl
+zeroes-by-tag because.LengthsDiffer = refl
+zeroes-by-tag (because.CountTooLarge e) = refl
+zeroes-by-tag because.LimitTooLarge = refl
+zeroes-by-tag because.OutputTooShort = refl
+zeroes-by-tag because.BadLoop = refl
+zeroes-by-tag (because.CurveTooShort k) = refl
+zeroes-by-tag (because.PointNotFinite k) = refl
+zeroes-by-tag (because.BadCurveLength k) = refl
+zeroes-by-tag (because.CurvesApart k) = refl
+zeroes-by-tag because.CornersClockwise = refl
+zeroes-by-tag (because.SeamTooShort k) = refl
+zeroes-by-tag (because.SeamOutOfRange k i) = refl
+zeroes-by-tag (because.SeamFalling k i) = refl
+zeroes-by-tag (because.SeamEnds k) = refl
+zeroes-by-tag (because.SeamsUnequal k) = refl
+zeroes-by-tag (because.LinesParallel i j) = refl
+zeroes-by-tag (because.CrossingOutside i j) = refl
+zeroes-by-tag (because.BadQuadArea i j) = refl
+zeroes-by-tag because.NoCells = refl
+zeroes-by-tag (because.BreaksMismatch k) = refl
+zeroes-by-tag because.RootUndefined = refl
+zeroes-by-tag (because.RangeReversed e) = refl
 
 -- whether b is the answer for every tag of a list
 abbrev answers : Bool → List ℕ → Bool
@@ -141,4 +142,4 @@ by-tags b k (l ∷ ks) x a (inl e) = agree (among k) b (both (cond (among k) b (
 by-tags b k (l ∷ ks) x a (inr o) = by-tags b l ks x (both (cond (among k) b (not b)) (answers b (l ∷ ks)) a .1) o
 
 pub zeroes-by-tags : (b : Bool) (k : ℕ) (ks : List ℕ) (r : Refusal) → T (answers b (k ∷ ks)) → OneOf (k ∷ ks) (tagOf the-type r) → b ≡ zeroes (verdict-of r)
-zeroes-by-tags b k ks r a o = by-tags b k ks (tagOf the-type r) a o ∙ ap (λ (x : ℕ). leb 23 x && leb x 25) (sym (number-by-tag r))
+zeroes-by-tags b k ks r a o = by-tags b k ks (tagOf the-type r) a o ∙ zeroes-by-tag r

@@ -173,6 +173,12 @@ enum-told-9 c = search needs
 alone-requires-9 : tie.Need-alone-requires-9
 alone-requires-9 c κs = search needs
 
+enum-known-refusal-20 : tie.Need-enum-known-refusal-20
+enum-known-refusal-20 c = search needs
+
+with-place-requires-12 : tie.Need-with-place-requires-12
+with-place-requires-12 c κs = search needs
+
 returns : tie.Need-returns
 unfolding verdict-of
 returns c = told (c .before .enum-told .given .1) (c .alone .ensures)
@@ -285,6 +291,10 @@ returns-28 : tie.Need-returns-28
 unfolding verdict-of
 returns-28 c = told (c .before .enum-told9 .given .1) (c .alone9 .ensures)
 
+returns-29 : tie.Need-returns-29
+unfolding verdict-of
+returns-29 c = told (c .before .before .refusal20 .given .1) (c .with-place12 .ensures)
+
 pub verdict-of-spec : {M : Type 1} → statement M
 verdict-of-spec =
     tie.close
@@ -345,6 +355,8 @@ verdict-of-spec =
     with-place-requires-11
     enum-told-9
     alone-requires-9
+    enum-known-refusal-20
+    with-place-requires-12
     returns
     returns-2
     returns-3
@@ -372,4 +384,5 @@ verdict-of-spec =
     returns-25
     returns-26
     returns-27
-    returns-28)
+    returns-28
+    returns-29)

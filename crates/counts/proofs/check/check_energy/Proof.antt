@@ -6,9 +6,11 @@ use denote.Ref.{now}
 use lib.ListN.{length}
 use Rattle.counts.specs.Refusal.{then-test}
 use Rattle.counts.specs.Region.{places}
+use Rattle.counts.specs.Cost.{by}
 use Rattle.counts.specs.Accept.{limits-test, values-test}
 use Rattle.counts.specs.Solver.{energy-test}
 use Rattle.counts.proofs.AcceptLaws.{limits-passed}
+use Rattle.counts.proofs.EqualEnds.{values-same}
 use Rattle.counts.proofs.RefusalLaws.{chain-ends, chain-goes-on, was-passed}
 use Rattle.counts.proofs.check.check_energy.Statement.{statement}
 use Rattle.counts.proofs.check.check_energy.Tie as tie
@@ -24,7 +26,7 @@ unfolding energy-test
 returns c =
     let xs = now (c .before .before .before .before .before .args .counts) in
     let ys = now (c .before .before .before .before .before .args .ideals) in
-    chain-ends (then-test (limits-test places (length xs) []) (values-test xs ys)) (c .enum-told .given .1) (c .before .before .check-edges .ensures)
+    chain-ends (then-test (limits-test places (length xs) []) (values-test xs (by ys))) (c .enum-told .given .1) (c .before .before .check-edges .ensures)
 
 enum-told-2 : tie.Need-enum-told-2
 enum-told-2 c = search needs
@@ -40,24 +42,21 @@ unfolding energy-test
 returns-2 c =
     let xs = now (c .before .before .before .before .before .before .before .before .args .counts) in
     let ys = now (c .before .before .before .before .before .before .before .before .args .ideals) in
-    chain-ends (values-test xs ys) (c .enum-told3 .given .1) (c .before .before .check-edges2 .ensures)
+    chain-ends (values-test xs (by ys)) (c .enum-told3 .given .1) (c .before .before .check-edges2 .ensures)
     ∙ chain-goes-on (c .before .before .before .enum-told2 .given .1) (c .before .before .before .before .before .check-edges .ensures)
 
 enum-told-4 : tie.Need-enum-told-4
 enum-told-4 c = search needs
 
 check-values-requires : tie.Need-check-values-requires
-check-values-requires c κs =
-    let xs = now (c .before .before .before .before .before .before .before .before .args .counts) in
-    let ys = now (c .before .before .before .before .before .before .before .before .args .ideals) in
-    (limits-passed (length xs) [] (was-passed (c .enum-told4 .given .1) (c .before .before .check-edges2 .ensures)) .0, limits-passed (length ys) [] (was-passed (c .before .before .before .enum-told2 .given .1) (c .before .before .before .before .before .check-edges .ensures)) .0)
+check-values-requires c κs = limits-passed (length (now (c .before .before .before .before .before .before .before .before .args .counts))) [] (was-passed (c .enum-told4 .given .1) (c .before .before .check-edges2 .ensures)) .0
 
 returns-3 : tie.Need-returns-3
 unfolding energy-test
 returns-3 c =
     let xs = now (c .before .before .before .before .before .before .before .before .before .args .counts) in
     let ys = now (c .before .before .before .before .before .before .before .before .before .args .ideals) in
-    c .check-values .ensures
+    c .check-values .ensures ∙ values-same xs ys
     ∙ chain-goes-on (c .before .enum-told4 .given .1) (c .before .before .before .check-edges2 .ensures)
     ∙ chain-goes-on (c .before .before .before .before .enum-told2 .given .1) (c .before .before .before .before .before .before .check-edges .ensures)
 

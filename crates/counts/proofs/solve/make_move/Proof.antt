@@ -21,8 +21,8 @@ mul-part c = search needs
 
 element-copy-out-part : tie.Need-element-copy-out-part
 element-copy-out-part c =
-    let h = first-below _ (c .before .before .before .before .before .before .before .before .args .best .now) _ (c .before .before .before .before .before .before .before .before .pre .0 .0) (c .before .before .before .before .before .before .before .before .pre .1 .0 .0) (c .before .before .before .before .before .before .before .before .pre .0 .2) in
-    omega (arith, h, c .wide .ensures .0, c .before .before .before .before .before .before .before .before .pre .1 .0 .1)
+    let h = first-below _ (c .before .before .before .before .before .before .before .before .before .args .best .now) _ (c .before .before .before .before .before .before .before .before .before .pre .0 .0) (c .before .before .before .before .before .before .before .before .before .pre .1 .0 .0) (c .before .before .before .before .before .before .before .before .before .pre .0 .2) in
+    omega (arith, h, c .wide .ensures .0, c .before .before .before .before .before .before .before .before .before .pre .1 .0 .1)
 
 refresh-part-requires : tie.Need-refresh-part-requires
 refresh-part-requires c κs = search needs
@@ -32,7 +32,7 @@ same-length c = search needs
 
 returns : tie.Need-returns
 returns c =
-    let s = c .before .before .before .before .before .before .before .before .before .before .before .before .before .before .args in (
+    let s = c .before .before .before .before .before .before .before .before .before .before .before .before .before .before .before .args in (
       c .before .before .before .before .before .before .before .before .before .before .apply-changes .ensures,
       refreshed-by (s .labels .now) (s .counts .now) _ _ _ _ _ _ _ _ (path-of (s .len) (s .best .now)) (c .before .before .before .before .before .before .wide .result) (getD (s .best .now) 0 0) (c .before .before .before .before .before .before .before .before .before .before .apply-changes .ensures) (c .before .before .before .before .before .before .wide .ensures .0) (c .refresh-part .ensures),
     )

@@ -9,11 +9,11 @@ array-write-used : tie.Need-array-write-used
 array-write-used c = search needs
 
 label-edges-requires : tie.Need-label-edges-requires
-label-edges-requires c κs = (c .before .before .before .before .pre .1 .few, refl)
+label-edges-requires c κs = (c .before .before .before .before .before .pre .1 .few, refl)
 
 moves-in-requires : tie.Need-moves-in-requires
 moves-in-requires c κs = (
-  (c .before .before .before .before .before .before .before .before .before .before .before .before .before .before .before .pre .0, c .before .before .before .before .before .before .before .before .before .before .before .before .before .before .before .pre .1, c .before .before .before .before .before .before .before .before .before .before .before .before .before .before .before .pre .2, c .before .before .before .before .before .before .before .before .before .before .label-edges .ensures),
+  (c .before .before .before .before .before .before .before .before .before .before .before .before .before .before .before .before .pre .0, c .before .before .before .before .before .before .before .before .before .before .before .before .before .before .before .before .pre .1, c .before .before .before .before .before .before .before .before .before .before .before .before .before .before .before .before .pre .2, c .before .before .before .before .before .before .before .before .before .before .before .before .before .before .before .before .pre .3, c .before .before .before .before .before .before .before .before .before .before .before .before .before .before .before .before .pre .4, c .before .before .before .before .before .before .before .before .before .before .label-edges .ensures),
   (record { unmarked = marks-made; path-long = refl; best-long = refl }, record { costs-long = refl; may-long = refl; kept-long = refl; cut-long = refl; known-long = refl }),
 )
 

@@ -7,10 +7,10 @@ use Rattle.replay.proofs.solver.rounds_from.Statement.{statement}
 use Rattle.replay.proofs.solver.rounds_from.Tie as tie
 
 abbrev Inv-loop : tie.InvT-loop
-Inv-loop case at regions counts₀ steps from₀ k₀ counts from k = (k ≤ steps) × (length counts ≡ length counts₀)
+Inv-loop case at mixed regions counts₀ steps from₀ k₀ counts from k = (k ≤ steps) × (length counts ≡ length counts₀)
 
 abbrev μ-loop : tie.MeasureT-loop
-μ-loop case at regions counts₀ steps from₀ k₀ counts from k = steps - k
+μ-loop case at mixed regions counts₀ steps from₀ k₀ counts from k = steps - k
 
 number-requires : tie.Need-number-requires Inv-loop μ-loop
 number-requires c κs = tt
