@@ -1,5 +1,5 @@
-/* Calls the library from C: cases of the bench table, a grid, a lay, a mesh, refusals, and the borders that the header guards. What it
- * prints is compared with the file `expected`. */
+/* Calls the library from C: cases of the bench table, counts within ranges, a grid, a lay, a mesh, refusals, and the borders that the
+ * header guards. What it prints is compared with the file `expected`. */
 #include "../include/juplatsk.h"
 
 #include <math.h>
@@ -77,6 +77,29 @@ static void solver(void)
     tell("K, limit 1", jp_round(NULL, 0, ideals, 1, counts, 1, 1, answer, value), answer, 4);
     tell_values("cost", value, 1);
     tell_counts(counts, 1);
+}
+
+/* The first tile alone, with a least and a most for each of its edges; the last count is past the needed ones. */
+static void ranges(void)
+{
+    static const double least[4] = {2, 1, 3, 1};
+    static const double most[4] = {5, 4, 4, 4};
+    static const double reversed[4] = {2, 1, 5, 1};
+    uint16_t regions[2 * JP_RECORD];
+    uint32_t counts[5] = {9, 9, 9, 9, 9};
+    uint32_t answer[4];
+    double cost[1];
+    farm(regions);
+    tell("within ranges", jp_solve_counts_within(regions, JP_RECORD, least, 4, most, 4, counts, 5, answer), answer, 3);
+    tell_counts(counts, 5);
+    counts[0] = counts[2] = 2;
+    tell("round within ranges", jp_round_within(regions, JP_RECORD, least, 4, most, 4, counts, 4, 100000, answer, cost), answer, 4);
+    tell_values("cost", cost, 1);
+    tell_counts(counts, 5);
+    tell("edge 2 from 5 to 4", jp_solve_counts_within(regions, JP_RECORD, reversed, 4, most, 4, counts, 5, answer), answer, 3);
+    tell("so in a round", jp_round_within(regions, JP_RECORD, reversed, 4, most, 4, counts, 4, 100000, answer, cost), answer, 4);
+    tell("edge 3 without a most", jp_solve_counts_within(regions, JP_RECORD, least, 4, most, 3, counts, 5, answer), answer, 3);
+    tell_counts(counts, 5);
 }
 
 static const double bottom[4] = {0, 0, 1, 0};
@@ -157,12 +180,14 @@ static void borders(void)
     answer[0] = answer[1] = answer[2] = 5;
     tell("NULL with a length", jp_solve_counts(NULL, 68, ideals, 7, counts, 7, answer), answer, 3);
     tell("NULL ideals", jp_solve_counts(NULL, 0, NULL, 7, counts, 7, answer), answer, 3);
+    tell("NULL most", jp_solve_counts_within(NULL, 0, ideals, 7, NULL, 7, counts, 7, answer), answer, 3);
     tell("NULL counts", jp_solve_counts(NULL, 0, ideals, 7, NULL, 7, answer), answer, 3);
     printf("NULL answer: %u\n", jp_solve_counts(NULL, 0, ideals, 7, counts, 7, NULL));
     printf("NULL root: %u\n", jp_root(2, NULL));
     tell("odd pointer", jp_energy(counts, 7, (const double *)(const void *)(shared.bytes + 1), 7, answer, sum), answer, 2);
     tell("too long", jp_energy(counts, SIZE_MAX / 2, ideals, 7, answer, sum), answer, 2);
     tell("counts in the ideals", jp_solve_counts(NULL, 0, shared.values, 7, shared.numbers + 13, 3, answer), answer, 3);
+    tell("counts in most", jp_solve_counts_within(NULL, 0, ideals, 7, shared.values, 7, shared.numbers + 13, 3, answer), answer, 3);
     tell("counts after the ideals", jp_solve_counts(NULL, 0, shared.values, 1, shared.numbers + 2, 1, answer), answer, 3);
     printf("answer in the counts: %u\n", jp_solve_counts(NULL, 0, ideals, 7, counts, 7, counts + 4));
     tell("output over a curve", jp_coons_curves(bottom, 4, right, 4, top, 4, shared.values, 4, 1, 1, shared.values, 8, answer), answer, 3);
@@ -174,6 +199,7 @@ static void borders(void)
 int main(void)
 {
     solver();
+    ranges();
     grids();
     refusals();
     borders();

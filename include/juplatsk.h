@@ -1,6 +1,7 @@
 /* The field gridder for C and C++ on x86-64: counts of edges, grids between curves, meshes, roots.
  *
- * Link the archive that `rt staticlib exports` writes. What each function does is proved; the scope paper (01 below) defines it.
+ * Link the archive that `rt staticlib exports` writes. What each function does is proved; the scope paper (01 below) defines it, and the
+ * paper of change requests (02 below) the calls within ranges.
  *
  * Two layers
  * ----------
@@ -21,11 +22,11 @@
  *
  * Answers
  * -------
- * Each function returns 0 (JP_ACCEPTED), or the number of the refusal by 01's table, the enum below; or JP_BAD_BUFFER.
+ * Each function returns 0 (JP_ACCEPTED), or the number of the refusal by 01's table or by 02, the enum below; or JP_BAD_BUFFER.
  * `answer` gets the two places of the refusal, 0 where it names none, and then the values that each function tells; they are 0 when
  * a call is refused. It is written at every call but those with JP_BAD_BUFFER.
  * A refusal leaves every list as it was, but for these:
- *   JP_TOO_MANY_MOVES (solve)                                         the needed counts are 0
+ *   JP_TOO_MANY_MOVES (both solves)                                   the needed counts are 0
  *   JP_LINES_PARALLEL, JP_CROSSING_OUTSIDE, JP_BAD_QUAD_AREA          the needed output is +0.0, point indices are 0
  *
  * Regions
@@ -33,6 +34,14 @@
  * A region is a record of 68 numbers: for each side (bottom 0, right 1, top 2, left 3) how many edges it has, at most 16, and then
  * 16 places for the numbers of the edges; places past that number are not read. A list of regions has whole records, at most 128.
  * There are at most 256 edges. jp_set_side fills in a side.
+ *
+ * Ideals and ranges
+ * -----------------
+ * How many pieces each edge should have is stated in one of two ways. By ideals: one value for each edge, and a count costs the square
+ * of (count/ideal - 1). By ranges: a least and a most for each edge, in two lists. A count from least to most, ends included, costs
+ * nothing; one below costs the square of (count/least - 1), one above that of (count/most - 1). Ideals and ends must be finite and above
+ * 0, and no least above its most. They need not be whole, and a range need not hold a whole number. Ranges with equal ends give what
+ * these ends as ideals give.
  *
  * Curves
  * ------
@@ -49,17 +58,17 @@
 extern "C" {
 #endif
 
-/* The refusals by 01's numbers, each with the places that it names. */
+/* The refusals by their numbers, 35 of 02 and the others of 01, each with the places that it names. */
 enum {
     JP_ACCEPTED = 0,
     JP_MALFORMED = 1,           /* a limit exceeded, or a broken record or list */
-    JP_BAD_IDEAL = 2,           /* edge: its ideal is not finite or not above 0 */
+    JP_BAD_IDEAL = 2,           /* edge: its ideal, or an end of its range, is not finite or not above 0 */
     JP_EDGE_OUT_OF_RANGE = 3,   /* region, side */
     JP_EDGE_REPEATED = 4,       /* region, side: an edge twice in the side */
     JP_EDGE_ON_BOTH_SIDES = 5,  /* region, first of the two sides */
     JP_EDGE_OVERUSED = 6,       /* edge: it is in more than two constraints */
     JP_TOO_MANY_MOVES = 7,      /* a further move found after 200,000 */
-    JP_LENGTHS_DIFFER = 8,      /* of counts and ideals */
+    JP_LENGTHS_DIFFER = 8,      /* of counts and ideals; of least and most, or of counts and these */
     JP_COUNT_TOO_LARGE = 9,     /* edge: its count is over 1,000,000 */
     JP_LIMIT_TOO_LARGE = 10,    /* the search limit is over 100,000 */
     JP_OUTPUT_TOO_SHORT = 11,
@@ -80,8 +89,9 @@ enum {
     JP_NO_CELLS = 26,           /* n_u or n_v is 0 */
     JP_BREAKS_MISMATCH = 27,    /* side: its breaks are not one more than its edges */
     JP_ROOT_UNDEFINED = 28,     /* root of a NaN or of a number below 0 */
+    JP_RANGE_REVERSED = 35,     /* edge: its least is above its most */
 
-    /* None of 01's, and of jp_NAME alone: a pointer is NULL beside a length above 0, or not aligned for its type; a list has 2^63
+    /* None of 01's or 02's, and of jp_NAME alone: a pointer is NULL beside a length above 0, or not aligned for its type; a list has 2^63
      * bytes or more, or runs past the last address; or a list or array that is written overlaps another one. Nothing was written. */
     JP_BAD_BUFFER = 100
 };
@@ -94,6 +104,11 @@ uint32_t juplatsk_solve_counts(const uint16_t *regions, size_t regions_len, cons
                                size_t counts_len, uint32_t answer[3]);
 uint32_t juplatsk_round(const uint16_t *regions, size_t regions_len, const double *ideals, size_t ideals_len, uint32_t *counts,
                         size_t counts_len, uint32_t limit, uint32_t answer[4], double cost[1]);
+uint32_t juplatsk_solve_counts_within(const uint16_t *regions, size_t regions_len, const double *least, size_t least_len,
+                                      const double *most, size_t most_len, uint32_t *counts, size_t counts_len, uint32_t answer[3]);
+uint32_t juplatsk_round_within(const uint16_t *regions, size_t regions_len, const double *least, size_t least_len, const double *most,
+                               size_t most_len, uint32_t *counts, size_t counts_len, uint32_t limit, uint32_t answer[4],
+                               double cost[1]);
 uint32_t juplatsk_energy(const uint32_t *counts, size_t counts_len, const double *ideals, size_t ideals_len, uint32_t answer[2],
                          double sum[1]);
 uint32_t juplatsk_constraints_hold(const uint16_t *regions, size_t regions_len, const uint32_t *counts, size_t counts_len,
@@ -227,7 +242,7 @@ static inline uint32_t jp_set_side(uint16_t record[JP_RECORD], unsigned side, co
 
 /* ---- counts */
 
-/* The counts of every edge, from zeros, by move after move until none costs less.
+/* The counts of every edge: from zeros, round after round with limit 100,000, until one finds no move.
  * Reads   regions, ideals (one for each edge).
  * Writes  counts: as many as there are ideals; answer: place, place, number of moves.
  * Refuses 1, 11, 2, 3 to 6, 7; 7 sets the needed counts to 0. */
@@ -241,10 +256,11 @@ static inline uint32_t jp_solve_counts(const uint16_t *regions, size_t regions_l
     return juplatsk_solve_counts(jp_u16(regions), regions_len, jp_f64(ideals), ideals_len, jp_u32_out(counts), counts_len, answer);
 }
 
-/* One round: the move that costs least, if any costs less than -1e-12, is made on the counts.
- * Reads   regions, ideals, limit: how many entries a search may make, at most 100,000.
+/* One round: the move found, if there is one, is made on the counts. Its cost is below -1e-12.
+ * Reads   regions, ideals (one for each edge), limit: how many entries to edges each search may make, at most 100,000.
  * Changes counts, as many as ideals.
- * Writes  answer: place, place, 1 if a move was made, 1 if a search was cut; cost: of the move made, +0.0 if none was.
+ * Writes  answer: place, place, 1 if a move was made, 1 if a search was cut, that is, an entry past the limit was turned back; cost: of
+ *         the move made, +0.0 if none was.
  * Refuses 1, 10, 8, 2, 9, 3 to 6. */
 static inline uint32_t jp_round(const uint16_t *regions, size_t regions_len, const double *ideals, size_t ideals_len, uint32_t *counts,
                                 size_t counts_len, uint32_t limit, uint32_t answer[4], double cost[1])
@@ -254,6 +270,53 @@ static inline uint32_t jp_round(const uint16_t *regions, size_t regions_len, con
         return JP_BAD_BUFFER;
     }
     return juplatsk_round(jp_u16(regions), regions_len, jp_f64(ideals), ideals_len, jp_u32_out(counts), counts_len, limit, answer, cost);
+}
+
+/* jp_solve_counts with a range for each edge in place of an ideal.
+ * Reads   regions, least and most (one of each for each edge).
+ * Writes  counts: as many as there are ranges; answer: place, place, number of moves.
+ * Refuses in this order 1, 8 (least and most are not equally long), 11, 2, 35, 3 to 5 by region and pair of sides, 6, 7. 2 is tested for
+ *         all edges, then 35, and each names the lowest edge. 7 sets the needed counts to 0, the others leave the counts as they were.
+ * A call, for a tile with the edges 0 to 3, one on each side; tile is its record:
+ *     double least[4] = {2, 1, 3, 1};
+ *     double most[4] = {5, 4, 4, 4};
+ *     uint32_t counts[4], answer[3];
+ *     jp_solve_counts_within(tile, JP_RECORD, least, 4, most, 4, counts, 4, answer);
+ * It returns 0; answer is 0, 0, 4 and counts 3, 1, 3, 1: with three pieces bottom and top are in their ranges, with two the top is not. */
+static inline uint32_t jp_solve_counts_within(const uint16_t *regions, size_t regions_len, const double *least, size_t least_len,
+                                              const double *most, size_t most_len, uint32_t *counts, size_t counts_len,
+                                              uint32_t answer[3])
+{
+    const jp_buffer lent[] = {JP_READ(regions), JP_READ(least), JP_READ(most), JP_WRITTEN(counts), JP_ARRAY(answer, 3)};
+    if (!JP_LENDABLE(lent)) {
+        return JP_BAD_BUFFER;
+    }
+    return juplatsk_solve_counts_within(jp_u16(regions), regions_len, jp_f64(least), least_len, jp_f64(most), most_len,
+                                        jp_u32_out(counts), counts_len, answer);
+}
+
+/* jp_round with a range for each edge in place of an ideal.
+ * Reads   regions, least and most (one of each for each edge), limit, as jp_round does.
+ * Changes counts, as many as ranges.
+ * Writes  answer and cost, as jp_round does.
+ * Refuses in this order 1, 10, 8 (least, most and counts are not equally long), 2, 35, 9, 3 to 5 by region and pair of sides, 6. 2 is
+ *         tested for all edges, then 35, then 9, and each names the lowest edge. Every refusal leaves the counts as they were.
+ * A call, on the tile and the ranges above:
+ *     uint32_t counts[4] = {2, 1, 2, 1}, answer[4];
+ *     double cost[1];
+ *     jp_round_within(tile, JP_RECORD, least, 4, most, 4, counts, 4, 100000, answer, cost);
+ * It returns 0; answer is 0, 0, 1, 0, counts are 3, 1, 3, 1, and cost[0] is about -1/9: only the top was outside its range. */
+static inline uint32_t jp_round_within(const uint16_t *regions, size_t regions_len, const double *least, size_t least_len,
+                                       const double *most, size_t most_len, uint32_t *counts, size_t counts_len, uint32_t limit,
+                                       uint32_t answer[4], double cost[1])
+{
+    const jp_buffer lent[] = {JP_READ(regions),   JP_READ(least),      JP_READ(most),
+                              JP_WRITTEN(counts), JP_ARRAY(answer, 4), JP_ARRAY(cost, 1)};
+    if (!JP_LENDABLE(lent)) {
+        return JP_BAD_BUFFER;
+    }
+    return juplatsk_round_within(jp_u16(regions), regions_len, jp_f64(least), least_len, jp_f64(most), most_len, jp_u32_out(counts),
+                                 counts_len, limit, answer, cost);
 }
 
 /* The energy of counts: the sum of (count/ideal - 1)^2 over the edges.

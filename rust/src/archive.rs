@@ -25,6 +25,30 @@ extern "C" {
         answer: *mut [u32; 4],
         cost: *mut [f64; 1],
     ) -> u32;
+    fn juplatsk_solve_counts_within(
+        regions: *const u16,
+        regions_len: usize,
+        least: *const f64,
+        least_len: usize,
+        most: *const f64,
+        most_len: usize,
+        counts: *mut u32,
+        counts_len: usize,
+        answer: *mut [u32; 3],
+    ) -> u32;
+    fn juplatsk_round_within(
+        regions: *const u16,
+        regions_len: usize,
+        least: *const f64,
+        least_len: usize,
+        most: *const f64,
+        most_len: usize,
+        counts: *mut u32,
+        counts_len: usize,
+        limit: u32,
+        answer: *mut [u32; 4],
+        cost: *mut [f64; 1],
+    ) -> u32;
     fn juplatsk_energy(
         counts: *const u32,
         counts_len: usize,
@@ -155,6 +179,47 @@ pub fn solve_counts(regions: &[u16], ideals: &[f64], counts: &mut [u32], answer:
 pub fn round(regions: &[u16], ideals: &[f64], counts: &mut [u32], limit: u32, answer: &mut [u32; 4], cost: &mut [f64; 1]) -> u32 {
     let (lent, length) = (counts.as_mut_ptr(), counts.len());
     unsafe { juplatsk_round(regions.as_ptr(), regions.len(), ideals.as_ptr(), ideals.len(), lent, length, limit, answer, cost) }
+}
+
+/// A least and a most for each edge.
+pub type Ends<'a> = [&'a [f64]; 2];
+
+pub fn solve_counts_within(regions: &[u16], ends: Ends, counts: &mut [u32], answer: Answer) -> u32 {
+    let [least, most] = ends;
+    let (lent, length) = (counts.as_mut_ptr(), counts.len());
+    unsafe {
+        juplatsk_solve_counts_within(
+            regions.as_ptr(),
+            regions.len(),
+            least.as_ptr(),
+            least.len(),
+            most.as_ptr(),
+            most.len(),
+            lent,
+            length,
+            answer,
+        )
+    }
+}
+
+pub fn round_within(regions: &[u16], ends: Ends, counts: &mut [u32], limit: u32, answer: &mut [u32; 4], cost: &mut [f64; 1]) -> u32 {
+    let [least, most] = ends;
+    let (lent, length) = (counts.as_mut_ptr(), counts.len());
+    unsafe {
+        juplatsk_round_within(
+            regions.as_ptr(),
+            regions.len(),
+            least.as_ptr(),
+            least.len(),
+            most.as_ptr(),
+            most.len(),
+            lent,
+            length,
+            limit,
+            answer,
+            cost,
+        )
+    }
 }
 
 pub fn energy(counts: &[u32], ideals: &[f64], answer: &mut [u32; 2], sum: &mut [f64; 1]) -> u32 {

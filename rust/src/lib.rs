@@ -33,6 +33,7 @@
 //! | `mesh.cells[i].nodes` is a `Vec`, beside a `kind` | an array of four, all cells are quads |
 //! | no limits | at most 128 regions, 16 edges a side, 256 edges, counts to 1,000,000; curves of 1,024 points, loops of 4,096, 1,024 cells along a side |
 //! | | new: [`round`], [`solve`] (with the number of moves), [`lay_region`], [`root`] |
+//! | | new: a range for each edge, as `2.0..=5.0`, in place of an ideal count: [`solve_counts_within`], [`solve_within`], [`round_within`] |
 //!
 //! # Linking
 //!
@@ -52,7 +53,9 @@ pub use geometry::{
     Point, Quad,
 };
 pub use refusal::Refusal;
-pub use solver::{constraints_hold, energy, round, solve, solve_counts, Region, Round, Solved};
+pub use solver::{
+    constraints_hold, energy, round, round_within, solve, solve_counts, solve_counts_within, solve_within, Region, Round, Solved,
+};
 
 /// The square root, correctly rounded; of -0 it is -0.
 ///

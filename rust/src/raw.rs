@@ -1,6 +1,6 @@
 //! The functions of the archive with a `Result`: what they tell, or the refusal.
 
-use crate::archive::{self, Answer, BySide};
+use crate::archive::{self, Answer, BySide, Ends};
 use crate::refusal::Refusal;
 
 /// The third of the numbers told, or the refusal.
@@ -16,12 +16,26 @@ pub fn solve_counts(regions: &[u16], ideals: &[f64], counts: &mut [u32]) -> Resu
     told(|answer| archive::solve_counts(regions, ideals, counts, answer))
 }
 
+pub fn solve_counts_within(regions: &[u16], ends: Ends, counts: &mut [u32]) -> Result<u32, Refusal> {
+    told(|answer| archive::solve_counts_within(regions, ends, counts, answer))
+}
+
 /// The cost of the move, if one was made, and whether a search was cut.
-pub fn round(regions: &[u16], ideals: &[f64], counts: &mut [u32], limit: u32) -> Result<(Option<f64>, bool), Refusal> {
+pub type Made = (Option<f64>, bool);
+
+fn made(call: impl FnOnce(&mut [u32; 4], &mut [f64; 1]) -> u32) -> Result<Made, Refusal> {
     let (mut answer, mut cost) = ([0; 4], [0.0]);
-    let number = archive::round(regions, ideals, counts, limit, &mut answer, &mut cost);
+    let number = call(&mut answer, &mut cost);
     Refusal::unless_accepted(number, answer[0], answer[1])?;
     Ok(((answer[2] == 1).then_some(cost[0]), answer[3] == 1))
+}
+
+pub fn round(regions: &[u16], ideals: &[f64], counts: &mut [u32], limit: u32) -> Result<Made, Refusal> {
+    made(|answer, cost| archive::round(regions, ideals, counts, limit, answer, cost))
+}
+
+pub fn round_within(regions: &[u16], ends: Ends, counts: &mut [u32], limit: u32) -> Result<Made, Refusal> {
+    made(|answer, cost| archive::round_within(regions, ends, counts, limit, answer, cost))
 }
 
 pub fn energy(counts: &[u32], ideals: &[f64]) -> Result<f64, Refusal> {

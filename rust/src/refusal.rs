@@ -3,7 +3,8 @@
 use std::error::Error;
 use std::fmt;
 
-/// Why a call was turned away: the number and the two places of the scope paper's table, and as `Display` a plain sentence.
+/// Why a call was turned away: the number and the two places, by the scope paper's table or by the change request that added the number,
+/// and as `Display` a plain sentence.
 ///
 /// A place is 0 where the number names none. Sides, curves and seams are numbered bottom 0, right 1, top 2, left 3.
 ///
@@ -12,7 +13,7 @@ use std::fmt;
 ///
 /// let refusal = solve_counts(&[], &[4.0, -1.0]).unwrap_err();
 /// assert_eq!(refusal, Refusal { number: 2, first: 1, second: 0 });
-/// assert_eq!(refusal.to_string(), "edge 1: its ideal count must be finite and above 0 (refusal 2)");
+/// assert_eq!(refusal.to_string(), "edge 1: its ideal count, or an end of its range, is not finite or not above 0 (refusal 2)");
 /// ```
 ///
 /// It turns into a `String`, so that `?` works in a function that answers `Result<_, String>`:
@@ -27,7 +28,7 @@ use std::fmt;
 /// ```
 #[derive(Clone, Copy, Debug, PartialEq, Eq, Hash)]
 pub struct Refusal {
-    /// 1 to 28, by the table.
+    /// 1 to 28, by the table, or 35: a range whose least is above its most.
     pub number: u32,
     /// The first place: a region, an edge, a curve, a corner, a seam, a pair, a side or a column, as the number has it.
     pub first: u32,
@@ -80,13 +81,13 @@ impl fmt::Display for Refusal {
         let (first, second) = (self.first, self.second);
         match self.number {
             1 => write!(f, "a limit is exceeded, or a list is broken")?,
-            2 => write!(f, "edge {first}: its ideal count must be finite and above 0")?,
+            2 => write!(f, "edge {first}: its ideal count, or an end of its range, is not finite or not above 0")?,
             3 => write!(f, "region {first}, {} side: an edge number is not below the number of edges", side(second))?,
             4 => write!(f, "region {first}, {} side: an edge is listed twice", side(second))?,
             5 => write!(f, "region {first}: an edge lies on the {} side and on the one opposite", side(second))?,
             6 => write!(f, "edge {first}: it lies on more than two sides")?,
             7 => write!(f, "a further move was found after 200,000 moves")?,
-            8 => write!(f, "there are not as many counts as ideal counts")?,
+            8 => write!(f, "there are not as many counts as ideal counts or ranges")?,
             9 => write!(f, "edge {first}: its count is above 1,000,000")?,
             10 => write!(f, "the search limit is above 100,000")?,
             11 => write!(f, "the output is too short")?,
@@ -107,6 +108,7 @@ impl fmt::Display for Refusal {
             26 => write!(f, "n_u and n_v must be at least 1")?,
             27 => write!(f, "{} side: its breaks must be one more than its edges", side(first))?,
             28 => write!(f, "a NaN or a number below 0 has no root")?,
+            35 => write!(f, "edge {first}: the least of its range is above the most")?,
             _ => write!(f, "turned away")?,
         }
         write!(f, " (refusal {})", self.number)

@@ -1,7 +1,8 @@
 //! Regions, and how many pieces each edge is cut into.
 
-use crate::raw;
+use crate::raw::{self, Made};
 use crate::refusal::{Refusal, MALFORMED};
+use std::ops::RangeInclusive;
 
 /// One tile: its four sides counter-clockwise (bottom, right, top, left), each a list of edge numbers.
 ///
@@ -81,7 +82,20 @@ pub struct Solved {
     pub moves: usize,
 }
 
-/// The counts of every edge: from zeros, move after move, until none lowers the energy. `edge_ideal` has an ideal count for each edge.
+/// A solve of so many edges, by a call that fills in their counts and tells the number of moves.
+fn solved(edges: usize, call: impl FnOnce(&mut [u32]) -> Result<u32, Refusal>) -> Result<Solved, Refusal> {
+    let mut counts = vec![0; edges];
+    let moves = call(&mut counts)?;
+    Ok(Solved { counts: plain_counts(&counts).collect(), moves: moves as usize })
+}
+
+/// The least and the most of each range.
+fn ends(ranges: &[RangeInclusive<f64>]) -> (Vec<f64>, Vec<f64>) {
+    ranges.iter().map(|range| (*range.start(), *range.end())).unzip()
+}
+
+/// The counts of every edge: from zeros, round after round with limit 100,000, until one finds no move. `edge_ideal` has an ideal count
+/// for each edge.
 ///
 /// ```
 /// use juplatsk::{solve_counts, Region};
@@ -109,22 +123,68 @@ pub fn solve_counts(regions: &[Region], edge_ideal: &[f64]) -> Result<Vec<usize>
 /// # Ok::<(), juplatsk::Refusal>(())
 /// ```
 pub fn solve(regions: &[Region], edge_ideal: &[f64]) -> Result<Solved, Refusal> {
-    let mut counts = vec![0; edge_ideal.len()];
-    let moves = raw::solve_counts(&records(regions), edge_ideal, &mut counts)?;
-    Ok(Solved { counts: plain_counts(&counts).collect(), moves: moves as usize })
+    solved(edge_ideal.len(), |counts| raw::solve_counts(&records(regions), edge_ideal, counts))
+}
+
+/// [`solve_counts`] with a range for each edge in place of an ideal count.
+///
+/// A range goes from the least to the most pieces that are wanted. A count in it, ends included, costs nothing; one below costs
+/// (count / least - 1)², one above (count / most - 1)². The ends must be finite and above 0, and the least not above the most. They need not
+/// be whole, and a range need not hold a whole number. Ranges `x..=x` give what ideal counts `x` give.
+///
+/// ```
+/// use juplatsk::{solve_counts_within, Region};
+///
+/// // 2 to 5 pieces at the bottom, 3 or 4 at the top
+/// let tile = [Region::new([vec![0], vec![1], vec![2], vec![3]])];
+/// let counts = solve_counts_within(&tile, &[2.0..=5.0, 1.0..=4.0, 3.0..=4.0, 1.0..=4.0])?;
+/// assert_eq!(counts, [3, 1, 3, 1]);
+///
+/// let reversed = solve_counts_within(&tile, &[2.0..=5.0, 4.0..=1.0, 3.0..=4.0, 1.0..=4.0]).unwrap_err();
+/// assert_eq!((reversed.number, reversed.first), (35, 1));
+/// # Ok::<(), juplatsk::Refusal>(())
+/// ```
+///
+/// Refused by 1, 2, 35 (a least above its most), 3 to 5 by region and pair of sides, 6, 7, in this order. 2 is tested for all edges, then 35,
+/// and each names the lowest edge. The ranges are one list, so least and most are always equally many.
+pub fn solve_counts_within(regions: &[Region], ranges: &[RangeInclusive<f64>]) -> Result<Vec<usize>, Refusal> {
+    solve_within(regions, ranges).map(|solved| solved.counts)
+}
+
+/// [`solve_counts_within`], with the number of moves.
+///
+/// ```
+/// // no whole number lies from 2.2 to 2.8
+/// let solved = juplatsk::solve_within(&[], &[2.0..=5.0, 2.2..=2.8])?;
+/// assert_eq!((solved.counts, solved.moves), (vec![2, 3], 5));
+/// # Ok::<(), juplatsk::Refusal>(())
+/// ```
+pub fn solve_within(regions: &[Region], ranges: &[RangeInclusive<f64>]) -> Result<Solved, Refusal> {
+    let (least, most) = ends(ranges);
+    solved(ranges.len(), |counts| raw::solve_counts_within(&records(regions), [&least, &most], counts))
 }
 
 /// What a round did.
 #[derive(Clone, Copy, Debug, PartialEq)]
 pub struct Round {
-    /// The cost of the move made, or None if none was: the energy changed by so much.
+    /// The cost of the move made, below -1e-12, or None if none was.
     pub cost: Option<f64>,
-    /// Whether a search met its limit. If not, and no move was made, no unit move lowers the energy.
+    /// Whether a search was turned back at its limit. If not, and no move was made, no unit move costs less than -2e-12.
     pub cut: bool,
 }
 
-/// One round of the solver: the move that costs least, if any lowers the energy, is made on the counts. A search from one edge
-/// enters at most `limit` edges, at most 100,000.
+/// A round on counts, by a call that changes them.
+fn round_on(counts: &mut [usize], call: impl FnOnce(&mut [u32]) -> Result<Made, Refusal>) -> Result<Round, Refusal> {
+    let mut numbers = wide_counts(counts);
+    let (cost, cut) = call(&mut numbers)?;
+    for (count, number) in counts.iter_mut().zip(plain_counts(&numbers)) {
+        *count = number;
+    }
+    Ok(Round { cost, cut })
+}
+
+/// One round of the solver: the move found, if there is one, is made on the counts. Each search makes at most `limit` entries to edges;
+/// `limit` is at most 100,000.
 ///
 /// ```
 /// use juplatsk::{round, Region};
@@ -139,12 +199,29 @@ pub struct Round {
 ///
 /// Refused by 1, 10, 8, 2, 9, 3 to 6, and then the counts are as they were.
 pub fn round(regions: &[Region], edge_ideal: &[f64], counts: &mut [usize], limit: usize) -> Result<Round, Refusal> {
-    let mut numbers = wide_counts(counts);
-    let (cost, cut) = raw::round(&records(regions), edge_ideal, &mut numbers, wide(limit))?;
-    for (count, number) in counts.iter_mut().zip(plain_counts(&numbers)) {
-        *count = number;
-    }
-    Ok(Round { cost, cut })
+    round_on(counts, |counts| raw::round(&records(regions), edge_ideal, counts, wide(limit)))
+}
+
+/// [`round`] with a range for each edge in place of an ideal count; [`solve_counts_within`] says what a range means.
+///
+/// ```
+/// use juplatsk::{round_within, Region};
+///
+/// // only the top is outside its range
+/// let tile = [Region::new([vec![0], vec![1], vec![2], vec![3]])];
+/// let ranges = [2.0..=5.0, 1.0..=4.0, 4.0..=4.0, 1.0..=4.0];
+/// let mut counts = [2, 1, 2, 1];
+/// let made = round_within(&tile, &ranges, &mut counts, 100_000)?;
+/// assert_eq!(made.cost, Some(0.0625 - 0.25));
+/// assert_eq!(counts, [3, 1, 3, 1]);
+/// # Ok::<(), juplatsk::Refusal>(())
+/// ```
+///
+/// Refused by 1, 10, 8 (more or fewer counts than ranges), 2, 35 (a least above its most), 9, 3 to 5 by region and pair of sides, 6, in this
+/// order, and then the counts are as they were. 2 is tested for all edges, then 35, then 9, and each names the lowest edge.
+pub fn round_within(regions: &[Region], ranges: &[RangeInclusive<f64>], counts: &mut [usize], limit: usize) -> Result<Round, Refusal> {
+    let (least, most) = ends(ranges);
+    round_on(counts, |counts| raw::round_within(&records(regions), [&least, &most], counts, wide(limit)))
 }
 
 /// The energy of counts: the sum of (count / ideal - 1)² over the edges.

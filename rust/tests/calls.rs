@@ -2,6 +2,7 @@
 //! own do not hold.
 
 use juplatsk::*;
+use std::ops::RangeInclusive;
 
 fn region(sides: [&[usize]; 4]) -> Region {
     Region::new(sides.map(<[usize]>::to_vec))
@@ -66,6 +67,74 @@ fn solver_refuses() {
     assert_eq!(refusal(energy(&[0, 1_000_001], &[1.0; 2])), (9, 1, 0));
 }
 
+/// In the order of the tests: 1, 10, 8, 2, 35, 9, 3 to 5, 6, 7.
+#[test]
+fn ranges_refuse() {
+    let (one, broken) = (|| 1.0..=1.0, || f64::NAN..=1.0);
+    let ones = |n| vec![one(); n];
+    assert_eq!(refusal(solve_counts_within(&[], &ones(257))), (1, 0, 0));
+    assert_eq!(refusal(solve_counts_within(&vec![Region::default(); 129], &[])), (1, 0, 0));
+    assert_eq!(refusal(solve_counts_within(&[region([&[0; 17], &[], &[], &[]])], &ones(1))), (1, 0, 0));
+    for bad in [broken(), 1.0..=f64::INFINITY, 0.0..=1.0, -1.0..=1.0, 1.0..=-1.0, 1.0..=-0.0] {
+        assert_eq!(refusal(solve_counts_within(&[], &[one(), bad.clone(), broken()])), (2, 1, 0), "{bad:?}");
+    }
+    assert_eq!(refusal(solve_counts_within(&[], &[3.0..=2.0, one(), broken()])), (2, 2, 0));
+    assert_eq!(refusal(solve_counts_within(&[], &[one(), 3.0..=2.0, 5.0..=1.0])), (35, 1, 0));
+    assert_eq!(refusal(solve_counts_within(&[tile()], &[one(), 3.0..=2.0])), (35, 1, 0));
+    assert_eq!(refusal(solve_counts_within(&[tile()], &ones(3))), (3, 0, 3));
+    assert_eq!(refusal(solve_counts_within(&[tile(), region([&[], &[1, 1], &[], &[]])], &ones(4))), (4, 1, 1));
+    assert_eq!(refusal(solve_counts_within(&[region([&[0], &[1], &[0], &[2]])], &ones(3))), (5, 0, 0));
+    assert_eq!(refusal(solve_within(&vec![region([&[], &[], &[0], &[1]]); 3], &ones(2))), (6, 0, 0));
+    assert_eq!(refusal(solve_within(&[], &[200_001.0..=300_000.0])), (7, 0, 0));
+    assert_eq!(solve_counts_within(&[], &[200_000.0..=300_000.0]), Ok(vec![200_000]));
+
+    let mut counts = [7, 1_000_001];
+    let on = |ranges: &[RangeInclusive<f64>], counts: &mut [usize], limit| refusal(round_within(&[tile()], ranges, counts, limit));
+    assert_eq!(on(&ones(257), &mut counts, 100_001), (1, 0, 0));
+    assert_eq!(refusal(round_within(&[], &ones(2), &mut [0; 257], 1)), (1, 0, 0));
+    assert_eq!(on(&[broken()], &mut counts, 100_001), (10, 0, 0));
+    assert_eq!(on(&[broken()], &mut counts, 1), (8, 0, 0));
+    assert_eq!(on(&[3.0..=2.0, broken()], &mut counts, 1), (2, 1, 0));
+    assert_eq!(on(&[one(), 3.0..=2.0], &mut counts, 1), (35, 1, 0));
+    assert_eq!(on(&ones(2), &mut counts, 1), (9, 1, 0));
+    counts[1] = 1_000_000;
+    assert_eq!(on(&ones(2), &mut counts, 1), (3, 0, 2));
+    assert_eq!(refusal(round_within(&[region([&[0, 0], &[], &[], &[]])], &ones(2), &mut counts, 1)), (4, 0, 0));
+    assert_eq!(refusal(round_within(&[region([&[], &[1], &[], &[1]])], &ones(2), &mut counts, 1)), (5, 0, 1));
+    assert_eq!(refusal(round_within(&vec![region([&[1], &[], &[], &[]]); 3], &ones(2), &mut counts, 1)), (6, 1, 0));
+    assert_eq!(counts, [7, 1_000_000]);
+}
+
+/// An edge costs nothing while its count lies in its range, ends included, and ends that are equal are an ideal.
+#[test]
+fn ranges() {
+    let ranges = vec![2.0..=5.0; 4];
+    let mut inside = [2, 5, 3, 4];
+    assert_eq!(round_within(&[], &ranges, &mut inside, 1), Ok(Round { cost: None, cut: false }));
+    assert_eq!(inside, [2, 5, 3, 4]);
+    let mut outside = [2, 6, 1, 0];
+    assert_eq!(round_within(&[], &ranges, &mut outside, 0), Ok(Round { cost: None, cut: true }));
+    assert_eq!(round_within(&[], &ranges, &mut outside, 1), Ok(Round { cost: Some(-0.75), cut: false }));
+    assert_eq!(outside, [2, 6, 1, 1]);
+    let mut between = [2];
+    assert!(round_within(&[], &[2.2..=2.8], &mut between, 1).unwrap().cost.is_some());
+    assert_eq!(between, [3]);
+    assert_eq!(round_within(&[], &[2.2..=2.8], &mut between, 1), Ok(Round { cost: None, cut: false }));
+    assert_eq!(solve_within(&[], &[]), Ok(Solved { counts: vec![], moves: 0 }));
+
+    let two = [tile(), region([&[4], &[5], &[6], &[1]])];
+    for k in 0..40 {
+        let ideals: Vec<f64> = (0..7).map(|e| 0.5 + f64::from((e * 7 + k * 3) % 11) / 2.0).collect();
+        let equal: Vec<_> = ideals.iter().map(|&x| x..=x).collect();
+        assert_eq!(solve_within(&two, &equal), solve(&two, &ideals));
+        let (mut by, mut within) = ([3; 7], [3; 7]);
+        assert_eq!(round_within(&two, &equal, &mut within, 20), round(&two, &ideals, &mut by, 20));
+        assert_eq!(within, by);
+        let wide: Vec<_> = ideals.iter().map(|&x| x..=2.0 * x).collect();
+        assert_eq!(constraints_hold(&two, &solve_counts_within(&two, &wide).unwrap()), Ok(true));
+    }
+}
+
 #[test]
 fn geometry_refuses() {
     assert_eq!(refusal(coons_checked(&[[0.0; 2]; 4097], 1, 1)), (1, 0, 0));
@@ -127,6 +196,9 @@ fn large_numbers() {
     assert_eq!(refusal(energy(&[1 << 40], &[1.0])), (9, 0, 0));
     assert_eq!(refusal(round(&[], &[1.0], &mut [1 << 40], 1)), (9, 0, 0));
     assert_eq!(refusal(round(&[], &[1.0], &mut [1], 1 << 40)), (10, 0, 0));
+    assert_eq!(refusal(solve_within(&far, &[1.0..=2.0])), (3, 0, 0));
+    assert_eq!(refusal(round_within(&[], &[1.0..=2.0], &mut [1 << 40], 1)), (9, 0, 0));
+    assert_eq!(refusal(round_within(&[], &[1.0..=2.0], &mut [1], 1 << 40)), (10, 0, 0));
     assert_eq!(refusal(constraints_hold(&[tile()], &[1 << 40, 0, 1 << 40, 0])), (1, 0, 0));
     assert_eq!(refusal(coons_curves(&square(), 1 << 40, 1)), (1, 0, 0));
     assert_eq!(refusal(mesh_tile_curves(&square(), 1, usize::MAX)), (1, 0, 0));
