@@ -1,6 +1,7 @@
 //! Cases and answers as text: one case a line, one answer a line (README.md has the format).
 
 use crate::geometry::{self, Flat, Grid, Seams, Tile};
+use crate::ranges::{self, Ends};
 use crate::refusal::Stop;
 use crate::solver::{self, Round};
 use crate::words::{hex, Words};
@@ -13,6 +14,8 @@ pub fn answer(line: &str) -> Result<String, String> {
         "round" => round(words),
         "rounds" => rounds(words),
         "solve" => solve(words),
+        "round_within" => round_within(words),
+        "solve_within" => solve_within(words),
         "energy" => energy(words),
         "hold" => hold(words),
         "root" => root(words),
@@ -106,6 +109,30 @@ fn solve(mut words: Words) -> Result<String, String> {
     let ideals = words.floats("ideals")?;
     words.end()?;
     told(solver::solve(&records, &ideals), |solved| format!("{} {}", solved.moves, numbers(&solved.counts)))
+}
+
+/// By the model: cost, cut mark, entries, counts after.
+fn round_within(mut words: Words) -> Result<String, String> {
+    let records = words.places("places of records")?;
+    let (least, most) = (words.floats("leasts")?, words.floats("mosts")?);
+    let mut counts = words.numbers("counts")?;
+    let limit = words.number("the limit")?;
+    words.end()?;
+    let answer = ranges::round(&records, Ends { least: &least, most: &most }, &mut counts, limit);
+    told(answer.map_err(Stop::Refused), |round| {
+        let cost = round.cost.map_or("none".to_string(), hex);
+        format!("{cost} {} {} {}", u8::from(round.cut), round.entries, numbers(&counts))
+    })
+}
+
+/// By the model, on counts for each least.
+fn solve_within(mut words: Words) -> Result<String, String> {
+    let records = words.places("places of records")?;
+    let (least, most) = (words.floats("leasts")?, words.floats("mosts")?);
+    words.end()?;
+    let mut counts = vec![0; least.len()];
+    let answer = ranges::solve(&records, Ends { least: &least, most: &most }, &mut counts);
+    told(answer.map_err(Stop::Refused), |moves| format!("{moves} {}", numbers(&counts)))
 }
 
 fn energy(mut words: Words) -> Result<String, String> {

@@ -5,10 +5,10 @@ use crate::dice::Dice;
 use crate::farm::{self, lists, record, Farm};
 use crate::limits;
 use crate::refusal::Refusal;
-use crate::stored::{self, Case};
+use crate::stored::{self, Case, Spacing};
 
 /// What a lent buffer of counts holds before a solve.
-const LENT: u32 = 0xA5A5_A5A5;
+pub const LENT: u32 = 0xA5A5_A5A5;
 
 pub type Cases = Result<Vec<Case>, String>;
 
@@ -35,7 +35,7 @@ pub fn all() -> Cases {
     Ok(cases)
 }
 
-fn lent(length: usize) -> Vec<u32> {
+pub fn lent(length: usize) -> Vec<u32> {
     vec![LENT; length]
 }
 
@@ -128,15 +128,20 @@ impl Fault {
 }
 
 /// Every fault of `order` alone and every two at once: the earlier one must be the answer.
-fn faults(order: &[Fault], count: u32, run: impl Fn(Input) -> Result<Case, String>) -> Cases {
+pub fn pairs<F: Copy>(order: &[F], refusal: impl Fn(F) -> Refusal, run: impl Fn(&[F]) -> Result<Case, String>) -> Cases {
     let mut cases = Vec::new();
     for (index, &first) in order.iter().enumerate() {
-        cases.push(expected(run(Input::good(count).with(first))?, first.refusal())?);
+        cases.push(expected(run(&[first])?, refusal(first))?);
         for &second in &order[index + 1..] {
-            cases.push(expected(run(Input::good(count).with(first).with(second))?, first.refusal())?);
+            cases.push(expected(run(&[first, second])?, refusal(first))?);
         }
     }
     Ok(cases)
+}
+
+fn faults(order: &[Fault], count: u32, run: impl Fn(Input) -> Result<Case, String>) -> Cases {
+    let with = |faults: &[Fault]| faults.iter().fold(Input::good(count), |input, &fault| input.with(fault));
+    pairs(order, Fault::refusal, |faults| run(with(faults)))
 }
 
 /// The case, if it is refused as it should be.
@@ -153,7 +158,8 @@ const REGION_FAULTS: [Fault; 4] = [Fault::EdgeOutOfRange, Fault::EdgeRepeated, F
 
 const MALFORMED: [Fault; 3] = [Fault::NotWhole, Fault::SideTooLong, Fault::TooManyEdges];
 
-const BAD_IDEALS: [f64; 6] = [f64::NAN, f64::INFINITY, f64::NEG_INFINITY, 0.0, -0.0, -1.0];
+/// Values that 2 refuses.
+pub const BAD_IDEALS: [f64; 6] = [f64::NAN, f64::INFINITY, f64::NEG_INFINITY, 0.0, -0.0, -1.0];
 
 fn ordered(parts: &[&[Fault]]) -> Vec<Fault> {
     parts.concat()
@@ -207,7 +213,7 @@ fn hold_faults() -> Cases {
 // ------------------------------------------------------------------------------------------------------------------------------------
 
 /// A row of regions, each crossed by the next one's left edge: region i has left edge i, right edge i + 1.
-fn row(regions: usize) -> Vec<u16> {
+pub fn row(regions: usize) -> Vec<u16> {
     (0..regions as u16).flat_map(|i| record([&[], &[i + 1], &[], &[i]])).collect()
 }
 
@@ -294,30 +300,34 @@ fn buffers() -> Cases {
 // ------------------------------------------------------------------------------------------------------------------------------------
 
 /// Small records of random edges, most of which break one of the rules 3 to 6.
+pub fn careless(dice: &mut Dice) -> Farm {
+    let edges = 3 + dice.below(9);
+    let mut regions = Vec::new();
+    for _ in 0..1 + dice.below(3) {
+        let mut side = || -> Vec<u16> { (0..dice.pick(&[0, 0, 1, 1, 2])).map(|_| dice.below(edges + 1) as u16).collect() };
+        let sides = [side(), side(), side(), side()];
+        regions.extend(record(lists(&sides)));
+    }
+    Farm { regions, edges: edges as usize }
+}
+
 fn random_records() -> Cases {
     let mut dice = Dice(0x5EED_0001);
     let mut cases = Vec::new();
     for _ in 0..150 {
-        let edges = 3 + dice.below(9);
-        let mut records = Vec::new();
-        for _ in 0..1 + dice.below(3) {
-            let mut side = || -> Vec<u16> { (0..dice.pick(&[0, 0, 1, 1, 2])).map(|_| dice.below(edges + 1) as u16).collect() };
-            let sides = [side(), side(), side(), side()];
-            records.extend(record(lists(&sides)));
-        }
-        let edges = edges as usize;
+        let Farm { regions, edges } = careless(&mut dice);
         let ideals = dice.ideals(edges);
         let counts = dice.counts(edges, 4);
         let limit = dice.pick(&[0, 1, 2, 3, 5, 100]);
-        cases.push(stored::round(records.clone(), ideals.clone(), counts.clone(), limit)?);
-        cases.push(stored::solve(records.clone(), ideals, lent(edges))?);
-        cases.push(stored::hold(records, counts)?);
+        cases.push(stored::round(regions.clone(), ideals.clone(), counts.clone(), limit)?);
+        cases.push(stored::solve(regions.clone(), ideals, lent(edges))?);
+        cases.push(stored::hold(regions, counts)?);
     }
     Ok(cases)
 }
 
 /// A field of rows, each cut into regions at its own places.
-fn field(dice: &mut Dice, rows: usize, columns: u32) -> Farm {
+pub fn field(dice: &mut Dice, rows: usize, columns: u32) -> Farm {
     farm::cut_rows(rows, columns, || dice.below(2) == 0)
 }
 
@@ -353,14 +363,14 @@ fn lists_of_rounds() -> Cases {
         cases.push(stored::rounds(field.regions, counts, calls)?);
     }
     // A free edge that a round takes to 1,000,001: from there on every round is refused with 9.
-    let calls = (0..5).map(|_| (vec![2e6, 0.5], 3)).collect();
+    let calls = (0..5).map(|_| (vec![2e6, 0.5].into(), 3)).collect();
     cases.push(stored::rounds(Vec::new(), vec![999_999, 1], calls)?);
-    cases.push(stored::rounds(Vec::new(), Vec::new(), vec![(Vec::new(), 0), (vec![1.0], 0), (Vec::new(), 100_001)])?);
+    cases.push(stored::rounds(Vec::new(), Vec::new(), vec![(vec![].into(), 0), (vec![1.0].into(), 0), (vec![].into(), 100_001)])?);
     cases.push(stored::rounds(row(3), vec![1; 4], Vec::new())?);
     Ok(cases)
 }
 
-fn call(dice: &mut Dice, edges: usize) -> (Vec<f64>, u32) {
+fn call(dice: &mut Dice, edges: usize) -> (Spacing, u32) {
     let mut ideals = dice.ideals(edges);
     match dice.below(12) {
         0 => ideals.push(1.0),
@@ -368,7 +378,7 @@ fn call(dice: &mut Dice, edges: usize) -> (Vec<f64>, u32) {
         2 => ideals[edges / 2] = 0.0,
         _ => {}
     }
-    (ideals, dice.pick(&[0, 3, 20, 500, 500, 100_000, 100_001]))
+    (ideals.into(), dice.pick(&[0, 3, 20, 500, 500, 100_000, 100_001]))
 }
 
 /// Ideals from the least to nearly the largest f64, on free edges and in a field.
@@ -397,12 +407,13 @@ fn extreme_ideals() -> Cases {
     Ok(cases)
 }
 
-/// Shapes that a search can get wrong: empty sides, one side alone, loops, an edge on neighbouring sides, edges of no region.
-fn shapes() -> Cases {
+/// Shapes that a search can get wrong, with their edges: empty sides, one side alone, loops, an edge on neighbouring sides, edges of no
+/// region.
+pub fn odd_shapes() -> Vec<(Vec<u16>, usize)> {
     let loop_of_two = [record([&[0], &[], &[1], &[]]), record([&[1], &[], &[0], &[]])].concat();
     let ring = (0..6u16).flat_map(|i| record([&[i], &[], &[(i + 1) % 6], &[]])).collect();
     let turned_ring = (0..5u16).flat_map(|i| record([&[i, (i + 1) % 5], &[], &[], &[]])).collect();
-    let shapes: Vec<(Vec<u16>, usize)> = vec![
+    vec![
         (record([&[], &[], &[], &[]]), 2),
         (record([&[0], &[], &[], &[]]), 1),
         (record([&[0, 1, 2], &[], &[], &[3]]), 5),
@@ -412,10 +423,13 @@ fn shapes() -> Cases {
         (ring, 6),
         (turned_ring, 5),
         (record([&[0, 1, 2, 3], &[], &[4, 5], &[]]), 6),
-    ];
+    ]
+}
+
+fn shapes() -> Cases {
     let mut dice = Dice(0x5EED_0005);
     let mut cases = Vec::new();
-    for (records, edges) in shapes {
+    for (records, edges) in odd_shapes() {
         for limit in [0, 1, 2, 3, 4, 6, 100] {
             let (ideals, counts) = (dice.ideals(edges), dice.counts(edges, 4));
             cases.push(stored::round(records.clone(), ideals.clone(), counts.clone(), limit)?);

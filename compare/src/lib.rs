@@ -8,6 +8,7 @@
 //! - `words`, `case`: cases and answers as text.
 //! - `farm`: records, and farms made of rows.
 //! - `lay`: 01's lay, which the Rust does not have.
+//! - `ranges`: a plain model of rounds and solves within ranges, which the Rust does not have.
 //! - `stored`, `grids`: stored cases of the solver and of geometry; `json`, `vector`: from the vectors; `dice`, `generate`,
 //!   `generate_geometry`: made here; `pack`: as bytes (src/bin/stored.rs).
 //! - `tool`: how a tool ends.
@@ -21,12 +22,14 @@ pub mod dice;
 pub mod farm;
 pub mod generate;
 pub mod generate_geometry;
+pub mod generate_ranges;
 pub mod geometry;
 pub mod grids;
 pub mod json;
 pub mod lay;
 pub mod limits;
 pub mod pack;
+pub mod ranges;
 pub mod refusal;
 pub mod solver;
 pub mod stored;

@@ -2,9 +2,12 @@
 
 use crate::grids::{Boundary, Source};
 use crate::refusal::Refusal;
-use crate::stored::{Case, Step};
+use crate::stored::{Case, Spacing, Step};
 
 const MARK: &[u8; 8] = b"replay 1";
+
+/// The operation of a list of rounds that says of each round which kind it is.
+const MIXED: u32 = 14;
 
 pub fn file(cases: &[Case]) -> Result<Vec<u8>, String> {
     let mut bytes = Bytes(MARK.to_vec());
@@ -22,21 +25,21 @@ pub fn one(case: &Case) -> Result<Vec<u8>, String> {
     let mut bytes = Bytes(Vec::new());
     match case {
         Case::Solve(c) => {
-            bytes.number(1);
+            bytes.number(if case.is_within() { 13 } else { 1 });
             bytes.places(&c.records)?;
-            bytes.floats(&c.ideals)?;
+            bytes.spacing(&c.spacing)?;
             bytes.numbers(&c.before)?;
             bytes.verdict(c.answer.err());
             bytes.number(c.answer.unwrap_or(0));
             bytes.numbers(&c.after)?;
         }
         Case::Round(c) => {
-            bytes.number(2);
-            bytes.rounds(&c.records, &c.before, std::slice::from_ref(&c.step))?;
+            bytes.number(if case.is_within() { MIXED } else { 2 });
+            bytes.rounds(&c.records, &c.before, std::slice::from_ref(&c.step), case.is_within())?;
         }
         Case::Rounds(c) => {
-            bytes.number(3);
-            bytes.rounds(&c.records, &c.before, &c.steps)?;
+            bytes.number(if case.is_within() { MIXED } else { 3 });
+            bytes.rounds(&c.records, &c.before, &c.steps, case.is_within())?;
         }
         Case::Energy(c) => {
             bytes.number(4);
@@ -122,14 +125,28 @@ impl Bytes {
         self.number(refusal.second);
     }
 
-    fn rounds(&mut self, records: &[u16], before: &[u32], steps: &[Step]) -> Result<(), String> {
+    fn spacing(&mut self, spacing: &Spacing) -> Result<(), String> {
+        match spacing {
+            Spacing::Ideals(ideals) => self.floats(ideals),
+            Spacing::Within { least, most } => {
+                self.floats(least)?;
+                self.floats(most)
+            }
+        }
+    }
+
+    /// With the kind of each round in front of it, where both may come.
+    fn rounds(&mut self, records: &[u16], before: &[u32], steps: &[Step], mixed: bool) -> Result<(), String> {
         self.places(records)?;
         self.numbers(before)?;
         self.length(steps.len())?;
         for step in steps {
             let made = step.answer.ok();
             let cost = made.and_then(|made| made.cost);
-            self.floats(&step.ideals)?;
+            if mixed {
+                self.number(u32::from(step.spacing.is_within()));
+            }
+            self.spacing(&step.spacing)?;
             self.number(step.limit);
             self.verdict(step.answer.err());
             self.number(u32::from(cost.is_some()));

@@ -1,7 +1,8 @@
-//! A stored case: what an operation is called with, and all that it must answer and leave. `confirm` holds it against the oracle.
+//! A stored case: what an operation is called with, and all that it must answer and leave, by the oracle, or by the model within ranges.
 
 use crate::grids;
 use crate::limits;
+use crate::ranges::{self, Ends};
 use crate::reach;
 use crate::refusal::{Refusal, Stop};
 use crate::solver;
@@ -18,17 +19,26 @@ pub enum Case {
     Tile(grids::Tile),
 }
 
+/// What is wanted of each edge.
+#[derive(Clone, Debug, PartialEq)]
+pub enum Spacing {
+    /// An ideal.
+    Ideals(Vec<f64>),
+    /// A least and a most.
+    Within { least: Vec<f64>, most: Vec<f64> },
+}
+
 #[derive(Clone, Debug)]
 pub struct Solve {
     pub records: Vec<u16>,
-    pub ideals: Vec<f64>,
+    pub spacing: Spacing,
     pub before: Vec<u32>,
     pub answer: Result<u32, Refusal>,
     pub after: Vec<u32>,
 }
 
 /// A round not refused: the cost of the move made, and the cut mark.
-#[derive(Clone, Copy, Debug)]
+#[derive(Clone, Copy, Debug, PartialEq)]
 pub struct Made {
     pub cost: Option<f64>,
     pub cut: bool,
@@ -37,7 +47,7 @@ pub struct Made {
 /// A call of the round on counts that lie outside it.
 #[derive(Clone, Debug)]
 pub struct Step {
-    pub ideals: Vec<f64>,
+    pub spacing: Spacing,
     pub limit: u32,
     pub answer: Result<Made, Refusal>,
     pub after: Vec<u32>,
@@ -71,10 +81,24 @@ pub struct Hold {
     pub answer: Result<bool, Refusal>,
 }
 
+impl From<Vec<f64>> for Spacing {
+    fn from(ideals: Vec<f64>) -> Spacing {
+        Spacing::Ideals(ideals)
+    }
+}
+
+impl Spacing {
+    pub fn is_within(&self) -> bool {
+        matches!(self, Spacing::Within { .. })
+    }
+}
+
 impl Case {
     pub fn operation(&self) -> &'static str {
         match self {
+            Case::Solve(_) if self.is_within() => "solve_within",
             Case::Solve(_) => "solve",
+            Case::Round(_) | Case::Rounds(_) if self.is_within() => "rounds_mixed",
             Case::Round(_) => "round",
             Case::Rounds(_) => "rounds",
             Case::Energy(_) => "energy",
@@ -82,6 +106,16 @@ impl Case {
             Case::Root(_) => "root",
             Case::Grid(case) => case.operation(),
             Case::Tile(case) => case.operation(),
+        }
+    }
+
+    /// Whether a range is wanted of the edges, in a list of rounds in any of them.
+    pub fn is_within(&self) -> bool {
+        match self {
+            Case::Solve(case) => case.spacing.is_within(),
+            Case::Round(case) => case.step.spacing.is_within(),
+            Case::Rounds(case) => case.steps.iter().any(|step| step.spacing.is_within()),
+            _ => false,
         }
     }
 
@@ -115,16 +149,36 @@ impl Case {
 }
 
 fn solve_effort(case: &Solve, most: usize) -> usize {
-    match solver::regions(&case.records) {
-        Ok(regions) => reach::solve_effort(&regions, &case.ideals, most),
-        Err(_) => 0,
+    match (solver::regions(&case.records), &case.spacing) {
+        (Ok(regions), Spacing::Ideals(ideals)) => reach::solve_effort(&regions, ideals, most),
+        (Ok(_), Spacing::Within { least, most: ends }) => solve_within_effort(&case.records, Ends { least, most: ends }, most),
+        (Err(_), _) => 0,
     }
 }
 
+/// Round after round, as a solve makes them.
+fn solve_within_effort(records: &[u16], ends: Ends, most: usize) -> usize {
+    let mut counts = vec![0; ends.least.len()];
+    let mut total = 0;
+    while total <= most {
+        match ranges::round(records, ends, &mut counts, limits::SEARCH) {
+            Ok(round) if round.cost.is_some() => total += round.entries,
+            Ok(round) => return total + round.entries,
+            Err(_) => break,
+        }
+    }
+    total
+}
+
 fn round_effort(records: &[u16], counts: &[u32], step: &Step, most: usize) -> usize {
-    match solver::regions(records) {
-        Ok(regions) => reach::round_effort(&regions, &solver::to_usize(counts), &step.ideals, step.limit as usize, most),
-        Err(_) => 0,
+    match (solver::regions(records), &step.spacing) {
+        (Ok(regions), Spacing::Ideals(ideals)) => {
+            reach::round_effort(&regions, &solver::to_usize(counts), ideals, step.limit as usize, most)
+        }
+        (Ok(_), Spacing::Within { least, most }) => {
+            ranges::round(records, Ends { least, most }, &mut counts.to_vec(), step.limit).map_or(0, |round| round.entries)
+        }
+        (Err(_), _) => 0,
     }
 }
 
@@ -157,11 +211,34 @@ pub fn settled<T>(answer: Result<T, Stop>, counts: &[u32]) -> Result<Result<T, R
     }
 }
 
-/// A solve with its answer. 11 is 01's: it comes behind 1 alone, and the Rust has no lent counts.
-pub fn solve(records: Vec<u16>, ideals: Vec<f64>, before: Vec<u32>) -> Result<Case, String> {
-    let answer = solver::solve(&records, &ideals);
+// ------------------------------------------------------------------------------------------------------------------------------------
+// Cases with their answers: by ideals the oracle's, within ranges the model's. Where both ends are the same in every bit, both are asked
+// ------------------------------------------------------------------------------------------------------------------------------------
+
+/// What is answered, and the counts after the call.
+type Told<T> = Result<(Result<T, Refusal>, Vec<u32>), String>;
+
+pub fn solve(records: Vec<u16>, spacing: impl Into<Spacing>, before: Vec<u32>) -> Result<Case, String> {
+    let spacing = spacing.into();
+    let (answer, after) = match &spacing {
+        Spacing::Ideals(ideals) => solve_by(&records, ideals, &before)?,
+        Spacing::Within { least, most } => {
+            let mut after = before.clone();
+            let answer = ranges::solve(&records, Ends { least, most }, &mut after);
+            if same_bits(least, most) && (answer, after.clone()) != solve_by(&records, least, &before)? {
+                return Err(apart(&spacing));
+            }
+            (answer, after)
+        }
+    };
+    Ok(Case::Solve(Solve { records, spacing, before, answer, after }))
+}
+
+/// 11 is 01's: it comes behind 1 alone, and the Rust has no lent counts.
+fn solve_by(records: &[u16], ideals: &[f64], before: &[u32]) -> Told<u32> {
+    let answer = solver::solve(records, ideals);
     let malformed = matches!(answer, Err(Stop::Undecided(1)));
-    let mut after = before.clone();
+    let mut after = before.to_vec();
     let answer = if !malformed && before.len() < ideals.len() {
         Err(by_01(11, &[]))
     } else {
@@ -173,26 +250,51 @@ pub fn solve(records: Vec<u16>, ideals: Vec<f64>, before: Vec<u32>) -> Result<Ca
     if matches!(answer, Err(refusal) if refusal.number == 7) {
         after[..ideals.len()].fill(0);
     }
-    Ok(Case::Solve(Solve { records, ideals, before, answer, after }))
+    Ok((answer, after))
 }
 
-fn step(answer: Result<solver::Round, Stop>, ideals: Vec<f64>, limit: u32, before: &[u32], after: Vec<u32>) -> Result<Step, String> {
+fn same_bits(one: &[f64], other: &[f64]) -> bool {
+    one.iter().map(|end| end.to_bits()).eq(other.iter().map(|end| end.to_bits()))
+}
+
+fn apart(spacing: &Spacing) -> String {
+    format!("on equal ends the model and the Rust differ: {spacing:?}")
+}
+
+fn step(records: &[u16], spacing: Spacing, before: &[u32], limit: u32) -> Result<Step, String> {
+    let (answer, after) = match &spacing {
+        Spacing::Ideals(ideals) => round_by(records, ideals, before, limit)?,
+        Spacing::Within { least, most } => {
+            let mut after = before.to_vec();
+            let answer = ranges::round(records, Ends { least, most }, &mut after, limit);
+            let answer = answer.map(|round| Made { cost: round.cost, cut: round.cut });
+            if same_bits(least, most) && (answer, after.clone()) != round_by(records, least, before, limit)? {
+                return Err(apart(&spacing));
+            }
+            (answer, after)
+        }
+    };
+    Ok(Step { spacing, limit, answer, after })
+}
+
+fn round_by(records: &[u16], ideals: &[f64], before: &[u32], limit: u32) -> Told<Made> {
+    let answer = solver::round(records, ideals, before, limit);
+    let after = answer.as_ref().map_or_else(|_| before.to_vec(), |round| round.counts.clone());
     let answer = settled(answer, before)?.map(|round| Made { cost: round.made.map(|(cost, _)| cost), cut: round.cut });
-    Ok(Step { ideals, limit, answer, after })
+    Ok((answer, after))
 }
 
-pub fn round(records: Vec<u16>, ideals: Vec<f64>, before: Vec<u32>, limit: u32) -> Result<Case, String> {
-    let answer = solver::round(&records, &ideals, &before, limit);
-    let after = answer.as_ref().map_or_else(|_| before.clone(), |round| round.counts.clone());
-    let step = step(answer, ideals, limit, &before, after)?;
+pub fn round(records: Vec<u16>, spacing: impl Into<Spacing>, before: Vec<u32>, limit: u32) -> Result<Case, String> {
+    let step = step(&records, spacing.into(), &before, limit)?;
     Ok(Case::Round(Round { records, before, step }))
 }
 
-pub fn rounds(records: Vec<u16>, before: Vec<u32>, calls: Vec<(Vec<f64>, u32)>) -> Result<Case, String> {
+/// A list of rounds on one buffer of counts; a refused round leaves it as it was.
+pub fn rounds(records: Vec<u16>, before: Vec<u32>, calls: Vec<(Spacing, u32)>) -> Result<Case, String> {
     let mut steps: Vec<Step> = Vec::new();
-    for (done, (ideals, limit)) in solver::rounds(&records, &before, &calls).into_iter().zip(calls) {
+    for (spacing, limit) in calls {
         let counts = steps.last().map_or(&before, |last| &last.after);
-        let next = step(done.answer, ideals, limit, counts, done.counts)?;
+        let next = step(&records, spacing, counts, limit)?;
         steps.push(next);
     }
     Ok(Case::Rounds(Rounds { records, before, steps }))
@@ -208,12 +310,12 @@ pub fn hold(records: Vec<u16>, counts: Vec<u32>) -> Result<Case, String> {
     Ok(Case::Hold(Hold { records, counts, answer }))
 }
 
-/// The case as the oracle answers it.
+/// The case as the oracle or the model answers it.
 pub fn asked_again(case: &Case) -> Result<Case, String> {
     match case.clone() {
-        Case::Solve(c) => solve(c.records, c.ideals, c.before),
-        Case::Round(c) => round(c.records, c.step.ideals, c.before, c.step.limit),
-        Case::Rounds(c) => rounds(c.records, c.before, c.steps.into_iter().map(|s| (s.ideals, s.limit)).collect()),
+        Case::Solve(c) => solve(c.records, c.spacing, c.before),
+        Case::Round(c) => round(c.records, c.step.spacing, c.before, c.step.limit),
+        Case::Rounds(c) => rounds(c.records, c.before, c.steps.into_iter().map(|s| (s.spacing, s.limit)).collect()),
         Case::Energy(c) => energy(c.counts, c.ideals),
         Case::Hold(c) => hold(c.records, c.counts),
         Case::Root(c) => grids::root(c.x),

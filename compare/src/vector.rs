@@ -4,18 +4,23 @@ use crate::geometry::Seams;
 use crate::grids::{zeroes, Boundary, Grid, Root, Source, Tile, Written};
 use crate::json::{parse, Json};
 use crate::lay::Region;
+use crate::limits;
 use crate::refusal::Refusal;
-use crate::stored::{Case, Energy, Hold, Made, Round, Rounds, Solve, Step};
+use crate::stored::{Case, Energy, Hold, Made, Round, Rounds, Solve, Spacing, Step};
 use crate::words;
 
-/// The case of a line; none if its operation is an inner one.
+/// The case of a line; none if its operation is an inner one, or if it waits for a later request.
 pub fn case(line: &str) -> Result<Option<Case>, String> {
     let vector = parse(line)?;
     let given = vector.field("in")?;
     let out = vector.field("out")?;
-    Ok(Some(match vector.field("fn")?.text()? {
-        "solve" => Case::Solve(solve(given, out)?),
-        "round" => Case::Round(Round { records: places(given)?, before: numbers(given)?, step: step(given, out)? }),
+    let function = vector.field("fn")?.text()?;
+    if waits(function, given, out)? {
+        return Ok(None);
+    }
+    Ok(Some(match function {
+        "solve" | "solve_range" => Case::Solve(solve(given, out)?),
+        "round" | "round_range" => Case::Round(Round { records: places(given)?, before: numbers(given)?, step: step(given, out)? }),
         "rounds" => Case::Rounds(rounds(given, out)?),
         "energy" => Case::Energy(energy(given, out)?),
         "constraints_hold" => Case::Hold(hold(given, out)?),
@@ -30,10 +35,22 @@ pub fn case(line: &str) -> Result<Option<Case>, String> {
     }))
 }
 
+/// Whether a case waits for 02's item 5: a round without a limit; a solve by another limit than it has now, unless it is refused for
+/// something else.
+pub fn waits(function: &str, given: &Json, out: &Json) -> Result<bool, String> {
+    let limit = |call: &Json| call.field("limit").cloned();
+    Ok(match function {
+        "round_range" => limit(given)? == Json::Null,
+        "rounds" => given.field("steps")?.list()?.iter().any(|step| limit(step) == Ok(Json::Null)),
+        "solve_range" => limit(given)? != Json::Number(limits::SEARCH.into()) && matches!(whole(out.field("refusal")?)?, 0 | 10),
+        _ => false,
+    })
+}
+
 fn solve(given: &Json, out: &Json) -> Result<Solve, String> {
     Ok(Solve {
         records: places(given)?,
-        ideals: floats(given)?,
+        spacing: spacing(given)?,
         before: numbers(given)?,
         answer: answer(out, |out| whole(out.field("moves")?))?,
         after: numbers(out)?,
@@ -57,7 +74,7 @@ fn step(given: &Json, out: &Json) -> Result<Step, String> {
         };
         Ok(Made { cost, cut: flag(out.field("cut")?)? })
     };
-    Ok(Step { ideals: floats(given)?, limit: whole(given.field("limit")?)?, answer: answer(out, made)?, after: numbers(out)? })
+    Ok(Step { spacing: spacing(given)?, limit: whole(given.field("limit")?)?, answer: answer(out, made)?, after: numbers(out)? })
 }
 
 fn energy(given: &Json, out: &Json) -> Result<Energy, String> {
@@ -166,6 +183,14 @@ fn numbers(given: &Json) -> Result<Vec<u32>, String> {
 
 fn floats(given: &Json) -> Result<Vec<f64>, String> {
     named(given, "ideals")
+}
+
+/// Ideals, or least and most where a call has a least.
+pub fn spacing(given: &Json) -> Result<Spacing, String> {
+    match given.field("least") {
+        Ok(_) => Ok(Spacing::Within { least: named(given, "least")?, most: named(given, "most")? }),
+        Err(_) => floats(given).map(Spacing::Ideals),
+    }
 }
 
 /// The f64 list of that name.

@@ -32,6 +32,16 @@ fn answers_up_to_end() {
 }
 
 #[test]
+fn answers_within_ranges() {
+    let cases = b"round_within 0 1 4000000000000000 1 4014000000000000 1 1 1\nsolve_within 0 1 4000000000000000 1 4014000000000000\n\
+        solve_within 0 1 4014000000000000 1 4000000000000000\nend\n";
+    let output = oracle(cases);
+    assert_eq!(output.status.code(), Some(0));
+    assert_eq!(output.stdout, b"ok bfd0000000000000 0 2 1 2\nok 2 1 2\nrefused 35 0 0\n");
+    complains(&oracle(b"round_within 0 1 4000000000000000\n"), "line 1: the case is cut off: word 5 should be the number of mosts");
+}
+
+#[test]
 fn cut_off() {
     complains(&oracle(b""), "line 1: the input is cut off");
     complains(&oracle(b"root 4010000000000000\n"), "line 2: the input is cut off");

@@ -1,6 +1,10 @@
 //! The tools that link this library: differences are found, and bad input gets a clear error and a non-zero exit.
 #![cfg(feature = "library")]
 
+use compare::generate_ranges;
+use compare::stored::Case;
+use compare::together::call::{difference, Call, Step};
+use compare::together::expected;
 use std::process::{Command, Output};
 
 fn replay(arguments: &[&str]) -> Output {
@@ -107,5 +111,23 @@ fn bad_farms() {
         let output = Command::new(env!("CARGO_BIN_EXE_speed")).arg(&path).output().expect("speed starts");
         std::fs::remove_file(&path).expect("the temporary file");
         complains(&output, words);
+    }
+}
+
+/// The generated cases within ranges, which `scale` does not make.
+#[test]
+fn generated_ranges() {
+    for case in generate_ranges::all().expect("the model answers") {
+        let call = match case {
+            Case::Solve(c) => Call::Solve { regions: c.records, spacing: c.spacing, counts: c.before },
+            Case::Round(c) => Call::Round { regions: c.records, counts: c.before, step: Step::new(c.step.spacing, c.step.limit) },
+            Case::Rounds(c) => {
+                let steps = c.steps.into_iter().map(|step| Step::new(step.spacing, step.limit)).collect();
+                Call::Rounds { regions: c.records, counts: c.before, steps }
+            }
+            other => panic!("{} has no ranges", other.operation()),
+        };
+        let effects = expected::effects(&call).expect("the model answers");
+        assert_eq!(difference(&effects, &call.made()), None, "{call:?}");
     }
 }

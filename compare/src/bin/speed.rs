@@ -1,7 +1,7 @@
-//! speed [all] [FARMS]: the speed list through the Rust and through this library, as tables of ratios. `all`: also the whole solves that
-//! take the Rust minutes.
+//! speed [all] [FARMS]: the speed list through the Rust and through this library, as tables of ratios, and rounds and solves within ranges
+//! beside those by ideals. `all`: also the whole solves that take the Rust minutes.
 
-use compare::together::{farms, speed};
+use compare::together::{farms, speed, speed_ranges};
 use compare::tool::ended;
 use std::env;
 use std::process::ExitCode;
@@ -26,5 +26,7 @@ fn run() -> Result<(), String> {
     speed::roots()?;
     speed::grids()?;
     speed::searches(&farms)?;
-    speed::solves(&farms, all)
+    speed::solves(&farms, all)?;
+    speed_ranges::searches(&farms)?;
+    speed_ranges::solves(&farms, all)
 }

@@ -1,11 +1,11 @@
-//! stored FOLDER VECTORS..: writes the replay's data files to the folder, from vectors and generated cases: solver.cases and
-//! geometry.cases.
+//! stored FOLDER VECTORS..: writes the replay's data files to the folder, from vectors and generated cases: solver.cases, geometry.cases
+//! and ranges.cases.
 //!
-//! Each vector is put to the oracle again, and must be answered as it says. README.md has the command.
+//! Each vector is put to the oracle again, or to the model, and must be answered as it says. README.md has the command.
 
 use compare::stored::{self, Case};
 use compare::tool::ended;
-use compare::{generate, generate_geometry, pack, vector};
+use compare::{generate, generate_geometry, generate_ranges, pack, vector};
 use std::collections::HashSet;
 use std::process::ExitCode;
 use std::{env, fs};
@@ -24,11 +24,14 @@ fn run() -> Result<(), String> {
     for path in arguments {
         cases.extend(vectors(&path)?);
     }
-    cases.extend(affordable(generate::all()?));
+    cases.extend(affordable("the solver", generate::all()?));
+    cases.extend(affordable("ranges", generate_ranges::all()?));
     let generated = generate_geometry::all()?;
     println!("generated: {} of geometry", generated.len());
     cases.extend(generated);
-    let (solver, geometry) = cases.into_iter().partition(Case::is_solver);
+    let (ranges, others): (Vec<Case>, Vec<Case>) = cases.into_iter().partition(Case::is_within);
+    let (solver, geometry) = others.into_iter().partition(Case::is_solver);
+    write(&format!("{folder}/ranges.cases"), distinct(ranges)?)?;
     write(&format!("{folder}/solver.cases"), distinct(solver)?)?;
     write(&format!("{folder}/geometry.cases"), distinct(geometry)?)
 }
@@ -68,7 +71,8 @@ fn vectors(path: &str) -> Result<Vec<Case>, String> {
     }
     let found = cases.len();
     cases.retain(|(_, case)| case.effort(EFFORT) <= EFFORT);
-    println!("{path}: {found} vectors, {} left out as too slow", found - cases.len());
+    let passed_over = text.lines().count() - found;
+    println!("{path}: {found} vectors, {} left out as too slow; {passed_over} of inner functions or later requests", found - cases.len());
     for (number, case) in &cases {
         confirm(case).map_err(|problem| format!("{path}, line {number}: {problem}"))?;
     }
@@ -84,10 +88,10 @@ fn confirm(case: &Case) -> Result<(), String> {
     }
 }
 
-fn affordable(cases: Vec<Case>) -> Vec<Case> {
+fn affordable(what: &str, cases: Vec<Case>) -> Vec<Case> {
     let all = cases.len();
     let kept: Vec<Case> = cases.into_iter().filter(|case| case.effort(EFFORT) <= EFFORT).collect();
-    println!("generated: {all} of the solver, {} left out as too slow", all - kept.len());
+    println!("generated: {all} of {what}, {} left out as too slow", all - kept.len());
     kept
 }
 

@@ -4,6 +4,8 @@ use super::library;
 use crate::farm::lists;
 use std::fmt::Debug;
 
+pub use crate::stored::Spacing;
+
 /// What f64 output holds before a call.
 pub const LENT_FLOAT: f64 = std::f64::consts::PI;
 /// What output of 32 bits holds before a call.
@@ -15,9 +17,10 @@ pub type Sides = [Vec<f64>; 4];
 /// A call. Output is lent by its length.
 #[derive(Clone, Debug, PartialEq)]
 pub enum Call {
+    /// A solve, by ideals or within ranges.
     Solve {
         regions: Vec<u16>,
-        ideals: Vec<f64>,
+        spacing: Spacing,
         counts: Vec<u32>,
     },
     /// One public round.
@@ -26,7 +29,7 @@ pub enum Call {
         counts: Vec<u32>,
         step: Step,
     },
-    /// A list of rounds on one buffer of counts.
+    /// A list of rounds of either kind on one buffer of counts.
     Rounds {
         regions: Vec<u16>,
         counts: Vec<u32>,
@@ -82,8 +85,14 @@ pub enum Call {
 /// What a round has of its own.
 #[derive(Clone, Debug, PartialEq)]
 pub struct Step {
-    pub ideals: Vec<f64>,
+    pub spacing: Spacing,
     pub limit: u32,
+}
+
+impl Step {
+    pub fn new(spacing: impl Into<Spacing>, limit: u32) -> Step {
+        Step { spacing: spacing.into(), limit }
+    }
 }
 
 /// Answer and buffers after a call. What a function does not have is empty or 0.
@@ -104,37 +113,24 @@ pub struct Effect {
 }
 
 impl Call {
-    pub const FUNCTIONS: [&'static str; 12] = [
-        "solve",
-        "round",
-        "rounds",
-        "energy",
-        "constraints_hold",
-        "root",
-        "coons_from_parameters",
-        "coons_curves",
-        "lay",
-        "coons_checked",
-        "mesh_tile_curves",
-        "mesh_tile",
-    ];
-
     /// The name that the vectors have for the function.
     pub fn function(&self) -> &'static str {
-        Call::FUNCTIONS[match self {
-            Call::Solve { .. } => 0,
-            Call::Round { .. } => 1,
-            Call::Rounds { .. } => 2,
-            Call::Energy { .. } => 3,
-            Call::Hold { .. } => 4,
-            Call::Root { .. } => 5,
-            Call::FromParameters { .. } => 6,
-            Call::Curves { .. } => 7,
-            Call::Lay { .. } => 8,
-            Call::Checked { .. } => 9,
-            Call::MeshCurves { .. } => 10,
-            Call::Mesh { .. } => 11,
-        }]
+        match self {
+            Call::Solve { spacing: Spacing::Within { .. }, .. } => "solve_range",
+            Call::Solve { .. } => "solve",
+            Call::Round { step: Step { spacing: Spacing::Within { .. }, .. }, .. } => "round_range",
+            Call::Round { .. } => "round",
+            Call::Rounds { .. } => "rounds",
+            Call::Energy { .. } => "energy",
+            Call::Hold { .. } => "constraints_hold",
+            Call::Root { .. } => "root",
+            Call::FromParameters { .. } => "coons_from_parameters",
+            Call::Curves { .. } => "coons_curves",
+            Call::Lay { .. } => "lay",
+            Call::Checked { .. } => "coons_checked",
+            Call::MeshCurves { .. } => "mesh_tile_curves",
+            Call::Mesh { .. } => "mesh_tile",
+        }
     }
 
     /// Makes the call: one effect for each round of a list, else just one.
@@ -148,10 +144,13 @@ impl Call {
 
     fn made_once(&self) -> Effect {
         match self {
-            Call::Solve { regions, ideals, counts } => {
+            Call::Solve { regions, spacing, counts } => {
                 let mut lent = Lent::new(counts);
                 let mut answer = [LENT_NUMBER; 3];
-                let refusal = library::solve_counts(regions, ideals, lent.buffer(), &mut answer);
+                let refusal = match spacing {
+                    Spacing::Ideals(ideals) => library::solve_counts(regions, ideals, lent.buffer(), &mut answer),
+                    Spacing::Within { least, most } => library::solve_counts_within(regions, [least, most], lent.buffer(), &mut answer),
+                };
                 Effect { numbers: lent.after(), ..told(refusal, answer) }
             }
             Call::Energy { counts, ideals } => {
@@ -198,7 +197,11 @@ fn rounds(regions: &[u16], counts: &[u32], steps: &[Step]) -> Vec<Effect> {
     let mut done = Vec::new();
     for step in steps {
         let (mut answer, mut cost) = ([LENT_NUMBER; 4], [LENT_FLOAT]);
-        let refusal = library::round(regions, &step.ideals, lent.buffer(), step.limit, &mut answer, &mut cost);
+        let counts = lent.buffer();
+        let refusal = match &step.spacing {
+            Spacing::Ideals(ideals) => library::round(regions, ideals, counts, step.limit, &mut answer, &mut cost),
+            Spacing::Within { least, most } => library::round_within(regions, [least, most], counts, step.limit, &mut answer, &mut cost),
+        };
         let [first, second, made, cut] = answer;
         done.push(Effect { cut, value: cost[0], numbers: lent.after(), ..told(refusal, [first, second, made]) });
     }

@@ -1,14 +1,22 @@
 //! A call and its effect as a line of the vectors' format (the README of the vectors has it), read and written.
 
-use super::call::{Call, Effect, Sides, Step, LENT_FLOAT, LENT_NUMBER};
+use super::call::{Call, Effect, Sides, Spacing, Step, LENT_FLOAT, LENT_NUMBER};
 use crate::json::{parse, Json};
-use crate::vector::{flag, float, whole};
+use crate::limits;
+use crate::vector::{flag, float, spacing, waits, whole};
 
-/// A line: its name, and the call with its effects; none for an inner function, which is not exported.
+/// A line: its name, and the call with its effects, or why it is passed over.
 pub struct Line {
     pub id: String,
     pub function: String,
-    pub case: Option<(Call, Vec<Effect>)>,
+    pub case: Result<(Call, Vec<Effect>), Passed>,
+}
+
+pub enum Passed {
+    /// An inner function is not exported.
+    Inner,
+    /// The case waits for a later request.
+    Later,
 }
 
 const INNER: [&str; 3] = ["edge_delta", "at", "logical_intersection"];
@@ -23,19 +31,25 @@ pub fn read(text: &str) -> Result<Line, String> {
         Json::Text(id) => id.clone(),
         other => other.number()?.to_string(),
     };
-    let case = if INNER.contains(&function.as_str()) { None } else { Some(case(&function, line.field("in")?, line.field("out")?)?) };
+    let (given, out) = (line.field("in")?, line.field("out")?);
+    let case = if INNER.contains(&function.as_str()) {
+        Err(Passed::Inner)
+    } else if waits(&function, given, out)? {
+        Err(Passed::Later)
+    } else {
+        Ok(case(&function, given, out)?)
+    };
     Ok(Line { id, function, case })
 }
 
 fn case(function: &str, given: &Json, out: &Json) -> Result<(Call, Vec<Effect>), String> {
     let one = |call: Call, effect: Effect| Ok((call, vec![effect]));
     match function {
-        "solve" => {
-            let call =
-                Call::Solve { regions: places(given, "regions")?, ideals: floats(given, "ideals")?, counts: numbers(given, "counts")? };
+        "solve" | "solve_range" => {
+            let call = Call::Solve { regions: places(given, "regions")?, spacing: spacing(given)?, counts: numbers(given, "counts")? };
             one(call, Effect { numbers: numbers(out, "counts")?, ..answer(out, "moves")? })
         }
-        "round" => {
+        "round" | "round_range" => {
             let call = Call::Round { regions: places(given, "regions")?, counts: numbers(given, "counts")?, step: step(given)? };
             one(call, round(out)?)
         }
@@ -117,7 +131,7 @@ fn length(given: &Json, name: &str) -> Result<usize, String> {
 }
 
 fn step(given: &Json) -> Result<Step, String> {
-    Ok(Step { ideals: floats(given, "ideals")?, limit: whole(given.field("limit")?)? })
+    Ok(Step { spacing: spacing(given)?, limit: whole(given.field("limit")?)? })
 }
 
 /// Refusal and places, and the number that the field has where the call is accepted.
@@ -229,14 +243,21 @@ fn in_text(call: &Call) -> String {
     let regions = |regions: &[u16]| format!("\"regions\":{}", items(regions, u16::to_string));
     let counts = |counts: &[u32]| format!("\"counts\":{}", items(counts, u32::to_string));
     let ideals = |ideals: &[f64]| format!("\"ideals\":{}", floats_text(ideals));
-    let step = |step: &Step| format!("{},\"limit\":{}", ideals(&step.ideals), step.limit);
+    let wanted = |spacing: &Spacing| match spacing {
+        Spacing::Ideals(list) => ideals(list),
+        Spacing::Within { least, most } => format!("\"least\":{},\"most\":{}", floats_text(least), floats_text(most)),
+    };
+    let step = |step: &Step| format!("{},\"limit\":{}", wanted(&step.spacing), step.limit);
     let curves = |curves: &Sides| format!("\"curves\":{}", sides_text(curves));
     let closed = |boundary: &[f64]| format!("\"loop\":{}", floats_text(boundary));
     let size = |cells: &[u32; 2]| format!("\"n_u\":{},\"n_v\":{}", cells[0], cells[1]);
     let lent = |out: &usize| format!("\"out_len\":{out}");
     let lent_mesh = |points: &usize, indices: &usize| format!("\"points_len\":{points},\"cells_len\":{indices}");
     let parts = match call {
-        Call::Solve { regions: r, ideals: i, counts: c } => vec![regions(r), ideals(i), counts(c)],
+        Call::Solve { regions: r, spacing: s, counts: c } if s.is_within() => {
+            vec![regions(r), wanted(s), format!("\"limit\":{}", limits::SEARCH), counts(c)]
+        }
+        Call::Solve { regions: r, spacing: s, counts: c } => vec![regions(r), wanted(s), counts(c)],
         Call::Round { regions: r, counts: c, step: s } => vec![regions(r), counts(c), step(s)],
         Call::Rounds { regions: r, counts: c, steps } => {
             vec![regions(r), counts(c), format!("\"steps\":{}", items(steps, |s| format!("{{{}}}", step(s))))]

@@ -4,7 +4,7 @@
 //! - `call`: a call with all that it is lent, and its effect.
 //! - `line`: a call and its effect as a line of the vectors' format.
 //! - `expected`: the effect that the oracle and 01 give.
-//! - `clock`, `farms`, `speed`, `growth`, `plot`: both timed in turn.
+//! - `clock`, `farms`, `speed`, `growth`, `plot`: both timed in turn; `speed_ranges`: within ranges beside by ideals, and beside the model.
 //! - `scale`: both on many calls; `random`: numbers from a seed.
 
 // Links the archive.
@@ -22,3 +22,4 @@ pub mod plot;
 pub mod random;
 pub mod scale;
 pub mod speed;
+pub mod speed_ranges;

@@ -12,15 +12,15 @@ use crate::reach::{self, BoundaryCurves};
 use crate::{geometry, simons_qgp, solver};
 use std::hint::black_box;
 
-const SHORT: Effort = Effort { turn: 0.02, seconds: 0.6, turns: 5 };
+pub const SHORT: Effort = Effort { turn: 0.02, seconds: 0.6, turns: 5 };
 /// A grid is one call a turn.
 const GRID: Effort = Effort { turn: 0.0, seconds: 0.0, turns: 7 };
 /// For a round or solve that takes the Rust seconds.
-const LONG: Effort = Effort { turn: 0.0, seconds: 3.0, turns: 3 };
-const ONCE: Effort = Effort { turn: 0.0, seconds: 0.0, turns: 1 };
+pub const LONG: Effort = Effort { turn: 0.0, seconds: 3.0, turns: 3 };
+pub const ONCE: Effort = Effort { turn: 0.0, seconds: 0.0, turns: 1 };
 
 /// Solves with more entries than this take the Rust minutes.
-const LARGEST: u64 = 1_000_000_000;
+pub const LARGEST: u64 = 1_000_000_000;
 
 /// Cells along each side of the grids.
 pub const CELLS: usize = 1024;
@@ -34,7 +34,7 @@ pub fn seconds(time: f64) -> String {
     }
 }
 
-fn times(pair: Pair) -> String {
+pub fn times(pair: Pair) -> String {
     format!("{} | {} | **{:.1}**", seconds(pair.rust), seconds(pair.here), pair.ratio())
 }
 
@@ -71,10 +71,11 @@ pub fn searches(farms: &[Farm]) -> Result<(), String> {
 }
 
 /// A round: what it leaves, and its cost if it made a move.
-struct Made {
-    counts: Vec<u32>,
-    cost: Option<u64>,
-    cut: bool,
+#[derive(PartialEq)]
+pub struct Made {
+    pub counts: Vec<u32>,
+    pub cost: Option<u64>,
+    pub cut: bool,
 }
 
 fn search(farm: &Farm) -> Result<(Pair, usize, bool), String> {
@@ -101,10 +102,15 @@ fn search(farm: &Farm) -> Result<(Pair, usize, bool), String> {
     Ok((pair, entries, here()?.cut))
 }
 
-fn round(farm: &Farm, limit: u32) -> Result<Made, String> {
+pub fn round(farm: &Farm, limit: u32) -> Result<Made, String> {
+    made(farm, |counts, answer, cost| library::round(&farm.records, &farm.ideals, counts, limit, answer, cost))
+}
+
+/// What a round of this library makes of the farm's counts.
+pub fn made(farm: &Farm, round: impl FnOnce(&mut [u32], &mut [u32; 4], &mut [f64; 1]) -> u32) -> Result<Made, String> {
     let mut counts = farm.underway.clone();
     let (mut answer, mut cost) = ([0; 4], [0.0]);
-    match library::round(&farm.records, &farm.ideals, &mut counts, limit, &mut answer, &mut cost) {
+    match round(&mut counts, &mut answer, &mut cost) {
         0 => Ok(Made { counts, cost: (answer[2] == 1).then_some(cost[0].to_bits()), cut: answer[3] == 1 }),
         refusal => Err(format!("the round is refused with {refusal}")),
     }
@@ -127,7 +133,7 @@ pub fn solves(farms: &[Farm], all: bool) -> Result<(), String> {
 }
 
 /// No region: a farm of very many moves with nothing to search.
-fn free_edges() -> Farm {
+pub fn free_edges() -> Farm {
     let (edges, ideal) = (256u32, 100u32);
     let ideals = vec![f64::from(ideal); edges as usize];
     let entries = reach::solve_effort(&[], &ideals, usize::MAX - 1) as u64;

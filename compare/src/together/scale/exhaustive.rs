@@ -3,12 +3,14 @@
 use super::Sink;
 use crate::farm::record;
 use crate::grids::needed;
-use crate::together::call::{Call, Sides, Step, LENT_NUMBER};
+use crate::together::call::{Call, Sides, Spacing, Step, LENT_NUMBER};
 
 pub fn all(sink: Sink) -> Result<(), String> {
     one_region(sink)?;
     two_regions(sink)?;
     energies(sink)?;
+    ranges_of_free_edges(sink)?;
+    ranges_of_one_side(sink)?;
     lattice_loops(sink)?;
     lattice_curves(sink)?;
     middle_values(sink)?;
@@ -34,6 +36,9 @@ fn tuples<T: Copy>(values: &[T], length: usize) -> Vec<Vec<T>> {
 }
 
 const IDEALS: [[f64; 3]; 2] = [[1.0, 1.0, 1.0], [2.0, 0.75, 1.5]];
+
+/// Above the ideals, for ranges from them up: one edge with equal ends, one with a range in which no whole number lies.
+const MOSTS: [[f64; 3]; 2] = [[3.0, 1.0, 1.25], [2.25, 0.875, 4.0]];
 
 /// One region, each side with up to two of three edges (and an edge that there is not): solve, a round, hold.
 fn one_region(sink: Sink) -> Result<(), String> {
@@ -68,11 +73,17 @@ fn two_regions(sink: Sink) -> Result<(), String> {
     Ok(())
 }
 
-fn farm(sink: Sink, regions: &[u16], ideals: usize) -> Result<(), String> {
-    let ideals = IDEALS[ideals].to_vec();
-    sink(Call::Solve { regions: regions.to_vec(), ideals: ideals.clone(), counts: vec![LENT_NUMBER; 3] })?;
-    let steps = [2, 100].map(|limit| Step { ideals: ideals.clone(), limit }).to_vec();
-    sink(Call::Rounds { regions: regions.to_vec(), counts: vec![1, 0, 2], steps })?;
+/// Solve, a list of rounds of both kinds, hold.
+fn farm(sink: Sink, regions: &[u16], kind: usize) -> Result<(), String> {
+    let (ideals, most) = (IDEALS[kind].to_vec(), MOSTS[kind].to_vec());
+    let spacings = [Spacing::Ideals(ideals.clone()), Spacing::Within { least: ideals, most }];
+    for spacing in &spacings {
+        sink(Call::Solve { regions: regions.to_vec(), spacing: spacing.clone(), counts: vec![LENT_NUMBER; 3] })?;
+        let steps = [2, 100].map(|limit| Step::new(spacing.clone(), limit)).to_vec();
+        sink(Call::Rounds { regions: regions.to_vec(), counts: vec![1, 0, 2], steps })?;
+    }
+    let mixed = [1, 0, 1].map(|kind: usize| Step::new(spacings[kind].clone(), 4)).to_vec();
+    sink(Call::Rounds { regions: regions.to_vec(), counts: vec![3, 1, 0], steps: mixed })?;
     sink(Call::Hold { regions: regions.to_vec(), counts: vec![1, 2, 1] })
 }
 
@@ -84,7 +95,51 @@ fn energies(sink: Sink) -> Result<(), String> {
         for ideals in &ideals {
             sink(Call::Energy { counts: counts.clone(), ideals: ideals.clone() })?;
             for limit in [0, 1, 100_001] {
-                sink(Call::Round { regions: vec![], counts: counts.clone(), step: Step { ideals: ideals.clone(), limit } })?;
+                sink(Call::Round { regions: vec![], counts: counts.clone(), step: Step::new(ideals.clone(), limit) })?;
+            }
+        }
+    }
+    Ok(())
+}
+
+/// Every choice of both ends: of one free edge from many values, of up to two (also of unequal length) from few.
+fn ranges_of_free_edges(sink: Sink) -> Result<(), String> {
+    let values = [5e-324, 1e-154, 0.5, 1.0, 1.0f64.next_up(), 2.2, 2.8, 3.0, 1e17, f64::MAX, 0.0, -0.0, -1.0, f64::NAN, f64::INFINITY];
+    for ends in tuples(&values, 2) {
+        let spacing = Spacing::Within { least: vec![ends[0]], most: vec![ends[1]] };
+        for count in [0, 1, 2, 3, 4, 999_999, 1_000_000, 1_000_001] {
+            for limit in [0, 1, 100_001] {
+                sink(Call::Round { regions: vec![], counts: vec![count], step: Step::new(spacing.clone(), limit) })?;
+            }
+        }
+    }
+    let few = lists(&[0.5, 1.0, 2.2, 5e-324, 0.0, f64::NAN], 2);
+    let counts = lists(&[0, 2, 1_000_001], 2);
+    for least in &few {
+        for most in &few {
+            let spacing = Spacing::Within { least: least.clone(), most: most.clone() };
+            for counts in &counts {
+                sink(Call::Round { regions: vec![], counts: counts.clone(), step: Step::new(spacing.clone(), 1) })?;
+            }
+            for length in 0..4 {
+                sink(Call::Solve { regions: vec![], spacing: spacing.clone(), counts: vec![LENT_NUMBER; length] })?;
+            }
+        }
+    }
+    Ok(())
+}
+
+/// Two edges on one side against one: every choice of six ends from a few, all counts up to 2.
+fn ranges_of_one_side(sink: Sink) -> Result<(), String> {
+    let regions = record([&[0, 1], &[], &[2], &[]]);
+    let ends = [(1.0, 1.0), (0.75, 2.0), (1.5, 1.75), (2.0, 5.0)];
+    for three in tuples(&ends, 3) {
+        let (least, most): (Vec<f64>, Vec<f64>) = three.into_iter().unzip();
+        let spacing = Spacing::Within { least, most };
+        sink(Call::Solve { regions: regions.clone(), spacing: spacing.clone(), counts: vec![LENT_NUMBER; 3] })?;
+        for counts in tuples(&[0, 1, 2], 3) {
+            for limit in [2, 3, 4] {
+                sink(Call::Round { regions: regions.clone(), counts: counts.clone(), step: Step::new(spacing.clone(), limit) })?;
             }
         }
     }

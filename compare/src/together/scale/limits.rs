@@ -4,7 +4,7 @@ use super::Sink;
 use crate::farm::{grid, record, rows};
 use crate::grids::needed;
 use crate::limits::SIDE;
-use crate::together::call::{Call, Sides, Step, LENT_NUMBER};
+use crate::together::call::{Call, Sides, Spacing, Step, LENT_NUMBER};
 use crate::together::speed::{bent, even, seams, straight};
 
 pub fn all(sink: Sink) -> Result<(), String> {
@@ -24,12 +24,20 @@ fn lent(length: usize) -> Vec<u32> {
     vec![LENT_NUMBER; length]
 }
 
+/// These ideals, and ranges from them up.
+fn both_kinds(ideals: Vec<f64>, factor: f64) -> [Spacing; 2] {
+    let most = ideals.iter().map(|ideal| factor * ideal).collect();
+    [Spacing::Ideals(ideals.clone()), Spacing::Within { least: ideals, most }]
+}
+
 /// All functions of the solver on a farm.
 fn solver_calls(sink: Sink, regions: &[u16], edges: usize) -> Result<(), String> {
     let ideals: Vec<f64> = (0..edges).map(|edge| 0.6 + (edge % 5) as f64 * 0.5).collect();
     let (regions, counts) = (regions.to_vec(), vec![2; edges]);
-    sink(Call::Solve { regions: regions.clone(), ideals: ideals.clone(), counts: lent(edges) })?;
-    sink(Call::Round { regions: regions.clone(), counts: counts.clone(), step: Step { ideals: ideals.clone(), limit: 50 } })?;
+    for spacing in both_kinds(ideals.clone(), 1.2) {
+        sink(Call::Solve { regions: regions.clone(), spacing: spacing.clone(), counts: lent(edges) })?;
+        sink(Call::Round { regions: regions.clone(), counts: counts.clone(), step: Step::new(spacing, 50) })?;
+    }
     sink(Call::Hold { regions, counts: counts.clone() })?;
     sink(Call::Energy { counts, ideals })
 }
@@ -43,9 +51,15 @@ fn regions_and_edges(sink: Sink) -> Result<(), String> {
     for edges in [254, 255, 256, 257, 258, 1000] {
         solver_calls(sink, &grid(3, 2).regions, edges)?;
         sink(Call::Energy { counts: vec![1; edges], ideals: vec![1.0; 3] })?;
-        sink(Call::Round { regions: vec![], counts: vec![1; edges], step: Step { ideals: vec![1.0; 3], limit: 9 } })?;
-        sink(Call::Round { regions: vec![], counts: vec![1; 3], step: Step { ideals: vec![1.0; edges], limit: 9 } })?;
-        sink(Call::Solve { regions: vec![], ideals: vec![1.0; 3], counts: lent(edges) })?;
+        sink(Call::Round { regions: vec![], counts: vec![1; edges], step: Step::new(vec![1.0; 3], 9) })?;
+        sink(Call::Round { regions: vec![], counts: vec![1; 3], step: Step::new(vec![1.0; edges], 9) })?;
+        sink(Call::Solve { regions: vec![], spacing: vec![1.0; 3].into(), counts: lent(edges) })?;
+        // Each of the three lists by itself.
+        for [least, most, counts] in [[edges, 3, 3], [3, edges, 3], [3, 3, edges], [edges, edges, 3], [3, edges, edges]] {
+            let spacing = Spacing::Within { least: vec![1.0; least], most: vec![2.0; most] };
+            sink(Call::Round { regions: vec![], counts: vec![1; counts], step: Step::new(spacing.clone(), 9) })?;
+            sink(Call::Solve { regions: vec![], spacing, counts: lent(counts) })?;
+        }
     }
     Ok(())
 }
@@ -69,14 +83,19 @@ fn sides(sink: Sink) -> Result<(), String> {
 fn counts_and_moves(sink: Sink) -> Result<(), String> {
     for count in [999_998, 999_999, 1_000_000, 1_000_001, u32::MAX] {
         for ideal in [1.0, 999_999.5, 2e6, 1e300] {
-            let steps = vec![Step { ideals: vec![ideal; 2], limit: 3 }; 4];
-            sink(Call::Rounds { regions: vec![], counts: vec![1, count], steps })?;
+            let steps = both_kinds(vec![ideal; 2], 2.0).map(|spacing| Step::new(spacing, 3));
+            for order in [[0, 0, 0, 0], [1, 1, 1, 1], [0, 1, 1, 0]] {
+                let steps = order.map(|kind: usize| steps[kind].clone()).to_vec();
+                sink(Call::Rounds { regions: vec![], counts: vec![1, count], steps })?;
+            }
             sink(Call::Energy { counts: vec![count, 1], ideals: vec![ideal; 2] })?;
             sink(Call::Hold { regions: record([&[0], &[], &[1], &[]]), counts: vec![count; 2] })?;
         }
     }
     for ideal in [199_999.0, 200_000.0, 200_001.0] {
-        sink(Call::Solve { regions: vec![], ideals: vec![ideal], counts: lent(3) })?;
+        for spacing in both_kinds(vec![ideal], 1.5) {
+            sink(Call::Solve { regions: vec![], spacing, counts: lent(3) })?;
+        }
     }
     Ok(())
 }
@@ -85,17 +104,22 @@ fn counts_and_moves(sink: Sink) -> Result<(), String> {
 fn search(sink: Sink) -> Result<(), String> {
     let chain = grid(12, 1);
     for limit in (0..30).chain([99_998, 99_999, 100_000, 100_001, u32::MAX]) {
-        let step = Step { ideals: vec![1.5; chain.edges], limit };
-        for count in [0, 1, 3] {
-            sink(Call::Round { regions: chain.regions.clone(), counts: vec![count; chain.edges], step: step.clone() })?;
+        for step in both_kinds(vec![1.5; chain.edges], 1.25).map(|spacing| Step::new(spacing, limit)) {
+            for count in [0, 1, 3] {
+                sink(Call::Round { regions: chain.regions.clone(), counts: vec![count; chain.edges], step: step.clone() })?;
+            }
         }
-        sink(Call::Round { regions: vec![], counts: vec![], step: Step { ideals: vec![], limit } })?;
+        for spacing in both_kinds(vec![], 1.0) {
+            sink(Call::Round { regions: vec![], counts: vec![], step: Step::new(spacing, limit) })?;
+        }
     }
     // Two regions with 16 edges on each side between them: searches of many entries, limits on both sides of their number.
     let wide = rows(&[vec![0, 16], (0..=16).collect(), vec![0, 16]]);
     for limit in [200, 271, 272, 273, 274, 289, 290, 1000, 5000] {
-        let step = Step { ideals: (0..wide.edges).map(|edge| 1.0 + (edge % 7) as f64 * 0.3).collect(), limit };
-        sink(Call::Round { regions: wide.regions.clone(), counts: vec![1; wide.edges], step })?;
+        let ideals = (0..wide.edges).map(|edge| 1.0 + (edge % 7) as f64 * 0.3).collect();
+        for step in both_kinds(ideals, 1.1).map(|spacing| Step::new(spacing, limit)) {
+            sink(Call::Round { regions: wide.regions.clone(), counts: vec![1; wide.edges], step })?;
+        }
     }
     Ok(())
 }

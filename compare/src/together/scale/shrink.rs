@@ -1,7 +1,7 @@
 //! The smallest form of a call that differs: as long as a simpler call differs too, that one is taken.
 
 use crate::limits::{RECORD, SIDE};
-use crate::together::call::{difference, Call, Step};
+use crate::together::call::{difference, Call, Spacing, Step};
 use crate::together::expected;
 
 /// Calls that are tried at most.
@@ -111,12 +111,20 @@ fn regions(call: &Call, found: &mut Vec<Call>) {
     }
 }
 
+fn spacing_lists(spacing: &mut Spacing) -> Vec<&mut Vec<f64>> {
+    match spacing {
+        Spacing::Ideals(ideals) => vec![ideals],
+        Spacing::Within { least, most } => vec![least, most],
+    }
+}
+
 /// Lists with a value for each edge.
 fn edge_lists(call: &mut Call) -> (Vec<&mut Vec<u32>>, Vec<&mut Vec<f64>>) {
     match call {
-        Call::Solve { counts, ideals, .. } | Call::Energy { counts, ideals } => (vec![counts], vec![ideals]),
-        Call::Round { counts, step, .. } => (vec![counts], vec![&mut step.ideals]),
-        Call::Rounds { counts, steps, .. } => (vec![counts], steps.iter_mut().map(|step| &mut step.ideals).collect()),
+        Call::Energy { counts, ideals } => (vec![counts], vec![ideals]),
+        Call::Solve { counts, spacing, .. } => (vec![counts], spacing_lists(spacing)),
+        Call::Round { counts, step, .. } => (vec![counts], spacing_lists(&mut step.spacing)),
+        Call::Rounds { counts, steps, .. } => (vec![counts], steps.iter_mut().flat_map(|step| spacing_lists(&mut step.spacing)).collect()),
         Call::Hold { counts, .. } | Call::Lay { counts, .. } => (vec![counts], vec![]),
         _ => (vec![], vec![]),
     }
@@ -350,14 +358,16 @@ mod tests {
     #[test]
     fn farm() {
         let farm = grid(4, 3);
-        let ideals = (0..farm.edges).map(|edge| 1.3 + edge as f64).collect();
-        let call = Call::Solve { regions: farm.regions, ideals, counts: vec![7; farm.edges] };
+        let ideals: Vec<f64> = (0..farm.edges).map(|edge| 1.3 + edge as f64).collect();
+        let call = Call::Solve { regions: farm.regions, spacing: ideals.into(), counts: vec![7; farm.edges] };
         let has = |call: &Call| match call {
-            Call::Solve { regions, ideals, .. } => regions.chunks_exact(RECORD).any(|r| r[2 * SIDE] > 0) && ideals.iter().any(|&x| x > 9.0),
+            Call::Solve { regions, spacing: Spacing::Ideals(ideals), .. } => {
+                regions.chunks_exact(RECORD).any(|r| r[2 * SIDE] > 0) && ideals.iter().any(|&x| x > 9.0)
+            }
             _ => false,
         };
         let smallest = smallest(call, has);
-        let expected = Call::Solve { regions: record([&[], &[], &[0], &[]]), ideals: vec![0.0, 10.0], counts: vec![] };
+        let expected = Call::Solve { regions: record([&[], &[], &[0], &[]]), spacing: vec![0.0, 10.0].into(), counts: vec![] };
         assert_eq!(
             with_records(&smallest, |list| list.retain(|&place| place == 1)),
             with_records(&expected, |list| list.retain(|&place| place == 1))
@@ -366,14 +376,31 @@ mod tests {
 
     #[test]
     fn rounds() {
-        let step = Step { ideals: vec![1.25, 3.5], limit: 77 };
+        let step = Step::new(vec![1.25, 3.5], 77);
         let call = Call::Rounds { regions: vec![], counts: vec![5, 900], steps: vec![step; 5] };
         let has = |call: &Call| match call {
             Call::Round { counts, step, .. } => counts.iter().any(|&count| count > 20) && step.limit >= 3,
             Call::Rounds { steps, .. } => !steps.is_empty(),
             _ => false,
         };
-        assert_eq!(smallest(call, has), Call::Round { regions: vec![], counts: vec![21], step: Step { ideals: vec![], limit: 3 } });
+        assert_eq!(smallest(call, has), Call::Round { regions: vec![], counts: vec![21], step: Step::new(vec![], 3) });
+    }
+
+    #[test]
+    fn ranges() {
+        let within = Spacing::Within { least: vec![1.25, 3.5, 2.0], most: vec![2.5, 7.75, 2.0] };
+        let steps = vec![Step::new(vec![1.5; 3], 9), Step::new(within, 9)];
+        let call = Call::Rounds { regions: vec![], counts: vec![5, 9, 1], steps };
+        let has = |call: &Call| match call {
+            Call::Round { counts, step: Step { spacing: Spacing::Within { most, .. }, .. }, .. } => {
+                counts.iter().any(|&count| count > 2) && most.iter().any(|&end| end > 7.0)
+            }
+            Call::Rounds { .. } => true,
+            _ => false,
+        };
+        let smaller = Spacing::Within { least: vec![], most: vec![8.0] };
+        let smallest = smallest(call, |call| !matches!(call, Call::Rounds { steps, .. } if steps.is_empty()) && has(call));
+        assert_eq!(smallest, Call::Round { regions: vec![], counts: vec![3], step: Step::new(smaller, 0) });
     }
 
     #[test]

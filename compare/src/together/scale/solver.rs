@@ -1,8 +1,8 @@
-//! Random calls of the solver: farms of rows with T-junctions, regions put together at random, damaged ones.
+//! Random calls of the solver: farms of rows with T-junctions, regions put together at random, damaged ones; by ideals and within ranges.
 
 use crate::farm::{cut_rows, lists, record, rows, Farm};
 use crate::limits::{RECORD, SIDE};
-use crate::together::call::{Call, Step, LENT_NUMBER};
+use crate::together::call::{Call, Spacing, Step, LENT_NUMBER};
 use crate::together::random::Random;
 
 pub fn call(random: &mut Random) -> Call {
@@ -15,7 +15,7 @@ pub fn call(random: &mut Random) -> Call {
     match random.below(16) {
         0..=4 => {
             let mode = random.pick(&[Ideals::Steps, Ideals::Steps, Ideals::Any, Ideals::Near, Ideals::Tiny]);
-            Call::Solve { regions, ideals: ideals(random, mode, edges), counts: lent(random, edges) }
+            Call::Solve { regions, spacing: spacing(random, mode, edges), counts: lent(random, edges) }
         }
         5..=9 => {
             let counts = counts(random, edges);
@@ -193,9 +193,52 @@ fn ideals(random: &mut Random, mode: Ideals, edges: usize) -> Vec<f64> {
     list
 }
 
+fn any_mode(random: &mut Random) -> Ideals {
+    random.pick(&[Ideals::Steps, Ideals::Steps, Ideals::Any, Ideals::Near, Ideals::Tiny, Ideals::Huge])
+}
+
 fn any_ideals(random: &mut Random, edges: usize) -> Vec<f64> {
-    let mode = random.pick(&[Ideals::Steps, Ideals::Steps, Ideals::Any, Ideals::Near, Ideals::Tiny, Ideals::Huge]);
+    let mode = any_mode(random);
     ideals(random, mode, edges)
+}
+
+/// One in two is within ranges.
+fn spacing(random: &mut Random, mode: Ideals, edges: usize) -> Spacing {
+    if random.chance(2) {
+        return Spacing::Ideals(ideals(random, mode, edges));
+    }
+    let least = ideals(random, mode, edges);
+    let kind = random.below(6);
+    let mut most: Vec<f64> = least.iter().map(|&least| upper(random, kind, least)).collect();
+    if random.chance(12) && !most.is_empty() {
+        damage_most(random, &least, &mut most);
+    }
+    Spacing::Within { least, most }
+}
+
+/// A most for this least: equal, the next f64, a bit or much higher, anything, of one kind or each of its own.
+fn upper(random: &mut Random, kind: u32, least: f64) -> f64 {
+    let kind = if kind == 5 { random.below(5) } else { kind };
+    match kind {
+        0 => least,
+        1 => least.next_up().min(f64::MAX),
+        2 => least + f64::from(random.below(9)) * 0.25,
+        3 => (least * (1.0 + random.unit())).min(f64::MAX),
+        _ => least.max(random.pick(&[0.5, 1.0, 2.8, 1e9, f64::MAX])),
+    }
+}
+
+/// A most that is refused, by itself or as one below its least; or one more or less in the list.
+fn damage_most(random: &mut Random, least: &[f64], most: &mut Vec<f64>) {
+    let edge = random.below(most.len() as u32) as usize;
+    match random.below(6) {
+        0 => drop(most.pop()),
+        1 => most.push(1.0),
+        2 => most[edge] = random.pick(&[f64::NAN, f64::INFINITY, 0.0, -0.0, -1.0]),
+        3 => most[edge] = least[edge].next_down(),
+        4 => most[edge] = 0.5 * least[edge],
+        _ => most.iter_mut().zip(least).for_each(|(most, least)| *most = least - (*most - least)),
+    }
 }
 
 fn counts(random: &mut Random, edges: usize) -> Vec<u32> {
@@ -240,5 +283,6 @@ fn step(random: &mut Random, edges: usize) -> Step {
         6 => 100_000,
         _ => random.pick(&[0, 1, 99_999, 100_000, 100_001, u32::MAX]),
     };
-    Step { ideals: any_ideals(random, edges), limit }
+    let mode = any_mode(random);
+    Step::new(spacing(random, mode, edges), limit)
 }
