@@ -45,8 +45,8 @@ fn range_deviation(s: f64, least: f64, most: f64) -> f64
     0.0
 }
 
-// What an edge costs at a count s: the square of its deviation.
-fn edge_cost(s: f64, least: f64, most: f64) -> f64
+// The square of the deviation: what an edge costs at the count s.
+fn squared_deviation(s: f64, least: f64, most: f64) -> f64
     ensures { λ r. ⌜ r ≡ square (range-deviation s least most) ⌝ }
 {
     square(range_deviation(s, least, most))
@@ -57,7 +57,7 @@ fn edge_delta(s: f64, before: f64, least: f64, most: f64, plus: bool) -> f64
     ensures { λ r. ⌜ r ≡ sub binary64 (square (range-deviation (add binary64 s (step plus)) least most)) before ⌝ }
 {
     let to = s + step(plus);
-    edge_cost(to, least, most) - before
+    squared_deviation(to, least, most) - before
 }
 
 // The entries of edge e, whose count is s: what +1 and -1 cost, and whether each is allowed, at 2e + 1 and at 2e.
@@ -75,7 +75,7 @@ pub(crate) fn set_costs(
     let down = e * 2;
     let up = down + 1;
     let count = s as f64;
-    let before = edge_cost(count, least, most);
+    let before = squared_deviation(count, least, most);
     costs[up] = edge_delta(count, before, least, most, true);
     costs[down] = edge_delta(count, before, least, most, false);
     allowed[up] = true;

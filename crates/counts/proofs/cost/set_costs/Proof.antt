@@ -7,7 +7,7 @@ use Rattle.counts.proofs.cost.set_costs.Tie as tie
 
 returns : tie.Need-returns
 unfolding range-delta
-returns c = (rw (c .before .edge-delta .ensures, c .edge-delta2 .ensures, c .before .before .edge-cost .ensures), refl)
+returns c = (rw (c .before .edge-delta .ensures, c .edge-delta2 .ensures, c .before .before .squared-deviation .ensures), refl)
 
 pub set-costs-spec : {M : Type 1} → statement M
 set-costs-spec =
