@@ -69,7 +69,7 @@ fn print_answer(answer: SolveAnswer, counts: &[u32]) {
             print_counts(counts);
         }
         SolveAnswer::Refused(refusal) => {
-            let verdict = verdict::verdict_of(refusal);
+            let verdict = base::verdict::verdict_of(refusal);
             print_number(verdict.number);
             print(b" -");
         }

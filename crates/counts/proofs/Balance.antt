@@ -9,11 +9,12 @@ use lib.ListN.{length, getD, set, length-set}
 use lib.Seq.{getD-set-same, getD-set-other}
 use lib.Dec.{T, leb, ltb, eqb, eqb→eq, not-T, ltb→lt}
 use lib.Ieee.Fits.{and-i, and-l, and-r}
-use Rattle.counts.specs.Lists.{member, Distinct, In}
+use Rattle.base.specs.Lists.{member, Distinct, In}
 use Rattle.counts.specs.Move.{Change, select, edges, balances, Settled, allowed, changed, apply-changes, UnitMove}
 use Rattle.counts.specs.Region.{Constraint, constraint, holds, side-sum}
-use Rattle.counts.proofs.BoolLaws.{T-or-not, clash, eq→eqb, or-left, or-right}
-use Rattle.counts.proofs.ListLaws.{in→member, every-in, edges-in}
+use Rattle.base.proofs.BoolLaws.{T-or-not, clash, eq→eqb, or-left, or-right}
+use Rattle.base.proofs.ListLaws.{in→member, every-in}
+use Rattle.counts.proofs.MoveLaws.{edges-in}
 
 abbrev pub one-if : Bool → ℕ
 one-if true = 1

@@ -10,13 +10,16 @@ use lib.Seq.{append-snoc}
 use lib.Dec.{T, leb, eqb}
 use lib.Ieee.{Float, inf, add, sub, lt, neg, binary64}
 use lib.Ieee.Fits.{and-i, and-l, and-r}
-use Rattle.counts.specs.Lists.{any, all, Distinct, In}
+use Rattle.base.specs.Lists.{any, all, Distinct, In, differs}
 use Rattle.counts.specs.Move.{Change, select, edges, balances, Settled, Linked, cost-from, cost}
 use Rattle.counts.specs.Region.{Constraint, constraint, holds, incidence}
-use Rattle.counts.specs.Search.{partners, others-changed, differs, Act, skip, turned-back, entered, record-path, Go, try-step, visit-by, visit, enter-by, enter, unused, dfs, may-step, is-used, two-eps, free}
-use Rattle.counts.proofs.Acts.{by-test, Low, Hits, KeepsGo, hits-each, hits-record-path, keeps-try-step, keeps-visit, keeps-dfs}
-use Rattle.counts.proofs.BoolLaws.{T-or-not, clash, eq→eqb, ne→differs, differs→ne}
-use Rattle.counts.proofs.ListLaws.{in-right, in-split, in-filter, filter-in, not-any, every, select-yes, select-no, select-append, select-in, nothing-in, select-none, settled-mid, holds→incidence, incidence→holds, link, set-used, still-used, used-before, free-set, apart, in-partners}
+use Rattle.counts.specs.Search.{partners, others-changed, Act, skip, turned-back, entered, record-path, Go, try-step, visit-by, visit, enter-by, enter, unused, dfs, may-step, is-used, two-eps, free}
+use Rattle.counts.proofs.search.Acts.{by-test, Low, Hits, KeepsGo, hits-each, hits-record-path, keeps-try-step, keeps-visit, keeps-dfs}
+use Rattle.base.proofs.BoolLaws.{T-or-not, clash, eq→eqb, ne→differs, differs→ne}
+use Rattle.base.proofs.ListLaws.{in-right, in-split, in-filter, filter-in, not-any, every, nothing-in}
+use Rattle.counts.proofs.MoveLaws.{select-yes, select-no, select-append, select-in, select-none, settled-mid, earlier-differs, in-partners}
+use Rattle.counts.proofs.region.Constraints.{holds→incidence, incidence→holds, link}
+use Rattle.counts.proofs.search.Used.{set-used, still-used, used-before, free-set}
 
 -- no edge is in three constraints
 abbrev pub Thin : List Constraint → Type 0
@@ -86,7 +89,7 @@ module _ (g : List Constraint) (edge-cost : ℕ → Bool → Float) (allowed : �
       → T (may-step g edge-cost allowed limit x0 s0 (set used i true) path i z)
   steps used path z rest i d u c =
       and-i (not (any (λ (w : Change). eqb (w .0) (z .0)) path)) _
-      (not-any (λ (w : Change). eqb (w .0) (z .0)) path (λ w m e. apart path z rest d w m (lib.Dec.eqb→eq (w .0) (z .0) e)))
+      (not-any (λ (w : Change). eqb (w .0) (z .0)) path (λ w m e. earlier-differs path z rest d w m (lib.Dec.eqb→eq (w .0) (z .0) e)))
       (and-i (not (any (λ (j : ℕ). differs i j && is-used (set used i true) j) (incidence g (z .0)))) (allowed (z .0) (z .1))
       (not-any (λ (j : ℕ). differs i j && is-used (set used i true) j) (incidence g (z .0)) (λ j m e.
       nothing-in z (select (holds (constraint g j)) (z ∷ rest))
@@ -219,7 +222,7 @@ module _ (g : List Constraint) (edge-cost : ℕ → Bool → Float) (allowed : �
             (hits-enter (dfs g edge-cost allowed limit x0 s0 k) (keeps-dfs g edge-cost allowed limit x0 s0 k) used (((x0, s0) ∷ mid) ++ x ∷ []) (x .0) (x .1) t i hx (q .1)
             (hits-close (dfs g edge-cost allowed limit x0 s0 k) used (((x0, s0) ∷ mid) ++ x ∷ []) x t i
             (select-yes (λ (y : ℕ). differs (x .0) y && holds (constraint g i) y) (x0, s0) (mid ++ x ∷ [])
-            (and-i (differs (x .0) x0) (holds (constraint g i) x0) (ne→differs (x .0) x0 (apart ((x0, s0) ∷ mid) x [] (h .distinct) (x0, s0) (inl refl))) (cl .0))
+            (and-i (differs (x .0) x0) (holds (constraint g i) x0) (ne→differs (x .0) x0 (earlier-differs ((x0, s0) ∷ mid) x [] (h .distinct) (x0, s0) (inl refl))) (cl .0))
             ∙ ap {B = List Change} (λ l. (x0, s0) ∷ l) (alone i mid x (h .behind i (q .1))))
             (cl .1)
             (hits-record-path g (set used i true) (((x0, s0) ∷ mid) ++ x ∷ []) t
@@ -251,7 +254,7 @@ module _ (g : List Constraint) (edge-cost : ℕ → Bool → Float) (allowed : �
         (hits-visit (dfs g edge-cost allowed limit x0 s0 (suc k)) (keeps-dfs g edge-cost allowed limit x0 s0 (suc k)) used (((x0, s0) ∷ mid) ++ x ∷ []) x z t i
         (alone i ((x0, s0) ∷ mid) x (p .0))
         (steps used (((x0, s0) ∷ mid) ++ x ∷ []) z suf i (d k used mid x z suf h) (h .ahead) (h .cans z (inl refl)))
-        (in-partners (constraint g i) x z (l .2) (l .1) (λ q. apart (((x0, s0) ∷ mid) ++ x ∷ []) z suf (d k used mid x z suf h) x (in-right x ((x0, s0) ∷ mid) (x ∷ []) (inl refl)) (sym q)) (p .2))
+        (in-partners (constraint g i) x z (l .2) (l .1) (λ q. earlier-differs (((x0, s0) ∷ mid) ++ x ∷ []) z suf (d k used mid x z suf h) x (in-right x ((x0, s0) ∷ mid) (x ∷ []) (inl refl)) (sym q)) (p .2))
         (hits-dfs k (set used i true) (mid ++ x ∷ []) z suf (add binary64 t (edge-cost (z .0) (z .1))) (next used mid x z suf i h (l .1) (l .2)) (omega arith) c)))
 
 -- ---- from the start
@@ -295,7 +298,7 @@ module _ (g : List Constraint) (edge-cost : ℕ → Bool → Float) (allowed : �
       (hits-visit g edge-cost allowed limit x0 s0 (dfs g edge-cost allowed limit x0 s0 (length g)) (keeps-dfs g edge-cost allowed limit x0 s0 (length g)) used ((x0, s0) ∷ []) (x0, s0) z (edge-cost x0 s0) i
       (alone g edge-cost allowed limit x0 s0 i [] (x0, s0) refl)
       (steps g edge-cost allowed limit x0 s0 used ((x0, s0) ∷ []) z suf i dd ah (cs z (inl refl)))
-      (in-partners (constraint g i) (x0, s0) z (l .2) (l .1) (λ q. apart ((x0, s0) ∷ []) z suf dd (x0, s0) (inl refl) (sym q)) (p .2))
+      (in-partners (constraint g i) (x0, s0) z (l .2) (l .1) (λ q. earlier-differs ((x0, s0) ∷ []) z suf dd (x0, s0) (inl refl) (sym q)) (p .2))
       (subst (λ (n : ℕ). Hits (dfs g edge-cost allowed limit x0 s0 n (set used i true) (((x0, s0) ∷ []) ++ z ∷ []) (z .0) (z .1) (add binary64 (edge-cost x0 s0) (edge-cost (z .0) (z .1))))) (e ∙ ff)
       (hits-dfs g edge-cost allowed limit x0 s0 thin (free (set used i true)) (set used i true) [] z suf (add binary64 (edge-cost x0 s0) (edge-cost (z .0) (z .1)))
       (record {

@@ -8,28 +8,30 @@ use native.Mathlib.Omega.{arith}
 use lib.ListN.{length, getD, take, drop, replicate, length-take, length-replicate}
 use lib.Dec.{T, eqb, leb, leb→le}
 use lib.Ieee.{Float}
-use Rattle.counts.specs.Refusal.{Verdict, passed, refused, is-passed, then-test, outcome, verdict-of}
+use Rattle.base.specs.declared.verdict.Verdict.{Verdict}
+use Rattle.base.specs.Refusal.{passed, refused, is-passed, then-test, outcome, verdict-of}
 use Rattle.counts.specs.Region.{Constraint, places, region-count, graph}
 use Rattle.counts.specs.Cost.{CostModel, Spacing, within, costs-of, edges-of}
 use Rattle.counts.specs.Round.{find-move, Solved, solve-from, solve-zeros, max-moves}
 use Rattle.counts.specs.Accept.{limits-test, spacing-lengths, counts-test, count-ok, first-bad, pairs-test, overused-test, regions-test}
-use Rattle.counts.specs.Solver.{Round, round-of, round-by, round-refused, round-with, round, round-test, round-head, Solve, solve-of, solve-part, with-rest, solve-refused, solve-with, solve, solve-test, solve-head, max-limit}
-use Rattle.counts.specs.Tables.{Tables, the-graph}
-use Rattle.counts.specs.Graph.{Built}
-use Rattle.counts.specs.RoundContract.{RoundInput, solved-of}
+use Rattle.counts.specs.Solver.{Round, round-of, round-by, round-refused, round-with, round, round-test, Solve, solve-of, solve-part, with-rest, solve-refused, solve-with, solve, solve-test, max-limit}
+use Rattle.counts.specs.inner.Checks.{round-head, solve-head}
+use Rattle.counts.specs.inner.Tables.{Tables, the-graph}
+use Rattle.counts.specs.inner.Graph.{Built}
+use Rattle.counts.specs.inner.RoundContract.{RoundInput, solved-of}
 use Rattle.counts.specs.declared.answer.RoundAnswer.{RoundAnswer}
 use Rattle.counts.specs.declared.answer.RoundAnswer.the-variants as round-answer
 use Rattle.counts.specs.declared.answer.SolveAnswer.{SolveAnswer}
 use Rattle.counts.specs.declared.answer.SolveAnswer.the-variants as solve-answer
-use Rattle.counts.specs.declared.refusal.Check.{Check}
-use Rattle.counts.specs.declared.refusal.Check.the-variants.{Passed, Refused}
-use Rattle.counts.specs.declared.refusal.Refusal.{Refusal}
-use Rattle.counts.specs.declared.refusal.Refusal.the-variants.{TooManyMoves}
+use Rattle.base.specs.declared.refusal.Check.{Check}
+use Rattle.base.specs.declared.refusal.Check.the-variants.{Passed, Refused}
+use Rattle.base.specs.declared.refusal.Refusal.{Refusal}
+use Rattle.base.specs.declared.refusal.Refusal.the-variants.{TooManyMoves}
 use Rattle.counts.specs.declared.solve.MovesMade.{MovesMade}
-use Rattle.counts.proofs.BoolLaws.{true-T}
-use Rattle.counts.proofs.RefusalLaws.{then-both, was-refused, was-passed}
+use Rattle.base.proofs.BoolLaws.{true-T}
+use Rattle.base.proofs.TestLaws.{then-both, was-refused, was-passed}
 use Rattle.counts.proofs.Solving.{getD-zeros}
-use Rattle.counts.proofs.AcceptLaws.{limits-passed}
+use Rattle.counts.proofs.check.Laws.{limits-passed}
 use Rattle.counts.proofs.SolverLaws.{round-test-chain, solve-test-chain, same-lengths, RoundPassed, round-passed, SolvePassed, solve-passed}
 
 -- ---- a chain that ends with test 6

@@ -11,14 +11,16 @@ use lib.ListN.{length}
 use lib.Dec.{T, ltb, eqb, eqb-refl}
 use lib.Ieee.{Float, nan, inf, fin, up, down, lt, ofBits}
 use lib.Ieee.Bits.{is-true}
-use Rattle.counts.specs.Refusal.{Verdict, passed, refused, is-passed, then-test, refuse-if}
+use Rattle.base.specs.declared.verdict.Verdict.{Verdict}
+use Rattle.base.specs.Refusal.{passed, refused, is-passed, then-test, refuse-if}
 use Rattle.counts.specs.Region.{places, graph}
-use Rattle.counts.specs.Cost.{CostModel, one, by-ideals, by-ranges, by, within}
+use Rattle.counts.specs.Cost.{CostModel, by-ideals, by-ranges, by, within}
+use Rattle.floats.specs.Scalar.{one}
 use Rattle.counts.specs.Round.{find-move, solve-zeros}
 use Rattle.counts.specs.Accept.{limits-test, first-bad, ideal-ok, ideals-test, counts-test, ranges, ends-ok, in-order, ranges-test, spacing-limits, lengths-test, spacing-lengths, values-test, regions-test}
 use Rattle.counts.specs.Solver.{max-limit, Round, round-by, round-refused, round-with, round, round-order, round-test, Solve, solve-part, with-rest, solve-refused, solve-with, solve, solve-order, solve-test}
 use Rattle.counts.proofs.Entry.{none-bad}
-use Rattle.counts.proofs.RangeLaws.{models-same}
+use Rattle.counts.proofs.cost.Ranges.{models-same}
 use Rattle.counts.proofs.SolverLaws.{round-passed, solve-passed}
 
 -- ---- the tests

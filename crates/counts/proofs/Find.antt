@@ -9,15 +9,16 @@ use native.Mathlib.Nat.{suc-add, add-suc}
 use native.Mathlib.Omega.{arith}
 use lib.ListN.{length, getD, set, replicate}
 use lib.Dec.{T, leb, ltb, eqb, eqb→eq, not-T, ltb→lt, lt→ltb}
-use lib.Ieee.{Float, nan, fin, inf, add, sub, lt, neg, binary64}
+use lib.Ieee.{Float, nan, fin, inf, add, sub, lt, neg, ofBits, binary64}
 use lib.Ieee.Fits.{and-i, and-l, and-r}
-use Rattle.counts.specs.Lists.{each, In}
+use Rattle.base.specs.Lists.{each, In}
 use Rattle.counts.specs.Move.{Change, Settled, allowed, cost, Reading}
 use Rattle.counts.specs.Region.{Constraint, constraint, holds}
 use Rattle.counts.specs.Round.{Found, weigh, starts, nothing-found, try-start, find-augmentation}
 use Rattle.counts.specs.Search.{eps, State, fresh, run, two-eps}
 use Rattle.counts.proofs.Complete.{Thin, hits-run, fresh-used}
-use Rattle.counts.proofs.ListLaws.{every-in, select-none}
+use Rattle.base.proofs.ListLaws.{every-in}
+use Rattle.counts.proofs.MoveLaws.{select-none}
 use Rattle.counts.proofs.Sound.{OneSided, Inside, Good, empty, reading, sound-dfs}
 
 -- the starts
@@ -34,11 +35,11 @@ starts-in i (suc n) zero false h = inr (inl (ap (λ (m : ℕ). (m, false)) (nati
 starts-in i (suc n) (suc d) s h = inr (inr (subst (λ (m : ℕ). In (m, s) (starts (suc i) n)) (suc-add i d ∙ sym (add-suc i d)) (starts-in (suc i) n d s (omega arith))))
 
 no-inf : T (lt (inf false) (neg eps)) → ⊥
-unfolding lt neg
+unfolding lt neg ofBits
 no-inf t = t
 
 under-inf : (c : Float) → T (lt c (neg eps)) → T (lt c (sub binary64 (inf false) eps))
-unfolding lt neg sub add
+unfolding lt neg sub add ofBits
 under-inf nan t = absurd t
 under-inf (inf true) t = tt
 under-inf (inf false) t = absurd t

@@ -1,39 +1,16 @@
--- Laws of the definitions. Assumes nothing.
-pub mod AcceptLaws
-pub mod Accepted
-pub mod Acts
-pub mod Applying
-pub mod Balance
-pub mod BoolLaws
-pub mod BuiltTables
-pub mod Complete
-pub mod CostLaws
-pub mod Endings
-pub mod Entry
-pub mod EqualEnds
-pub mod Find
-pub mod Finding
-pub mod FloatLaws
-pub mod Keeping
-pub mod ListLaws
-pub mod Makes
-pub mod Marks
-pub mod PartLaws
-pub mod Places
-pub mod Placing
-pub mod RangeLaws
-pub mod RefusalLaws
-pub mod RoundLaws
-pub mod Rounds
-pub mod Same
-pub mod Scan
-pub mod SearchLaws
-pub mod Sides
-pub mod SolveLoop
-pub mod SolverLaws
-pub mod Solving
+-- The theorems, and the laws that belong to no one module of the code; the others stand by the modules. Assumes nothing.
+-- the search: what it keeps is a unit move, and it meets every reading
+pub mod MoveLaws
 pub mod Sound
-pub mod Start
-pub mod Steps
-pub mod Turns
-pub mod TwoSides
+pub mod Complete
+pub mod Find
+-- a move made, and balance
+pub mod Makes
+pub mod Balance
+-- the public functions, by the outcomes of their tests
+pub mod SolverLaws
+pub mod Entry
+-- demand 3's solver half; solve's counts balance; equal ends
+pub mod Rounds
+pub mod Solving
+pub mod EqualEnds

@@ -8,11 +8,12 @@ use native.Mathlib.Omega.{arith}
 use lib.ListN.{length, getD, set, length-set}
 use lib.Seq.{getD-set-same, getD-set-other}
 use lib.Dec.{T, ltb, eqb, not-T, ltb→lt}
-use Rattle.counts.specs.Lists.{In, member, Distinct}
+use Rattle.base.specs.Lists.{In, member, Distinct}
 use Rattle.counts.specs.Region.{Constraint}
 use Rattle.counts.specs.Move.{Change, edges, allowed, changed, apply-changes, UnitMove, Makes}
-use Rattle.counts.proofs.BoolLaws.{clash, or-left, or-right, eq→eqb}
-use Rattle.counts.proofs.ListLaws.{in→member, edges-in, every-in}
+use Rattle.base.proofs.BoolLaws.{clash, or-left, or-right, eq→eqb}
+use Rattle.base.proofs.ListLaws.{in→member, every-in}
+use Rattle.counts.proofs.MoveLaws.{edges-in}
 
 makes-cons : (z : Change) (r : List Change) (counts : List ℕ) → Distinct (edges (z ∷ r)) → z .0 < length counts → T (allowed counts (z .0) (z .1))
     → Makes (set counts (z .0) (changed (z .1) (getD counts (z .0) 0))) r (apply-changes r (set counts (z .0) (changed (z .1) (getD counts (z .0) 0)))) → Makes counts (z ∷ r) (apply-changes (z ∷ r) counts)

@@ -12,7 +12,8 @@ use lib.ListN.{length, drop}
 use lib.Seq.{drop-drop}
 use lib.Dec.{T}
 use lib.Ieee.{Float, lt, neg}
-use Rattle.counts.specs.Refusal.{Verdict, is-passed}
+use Rattle.base.specs.declared.verdict.Verdict.{Verdict}
+use Rattle.base.specs.Refusal.{is-passed}
 use Rattle.counts.specs.Region.{Constraint, constraint, constraints, places, graph, record-size, region-count, side, side-sum}
 use Rattle.counts.specs.Move.{Change, apply-changes, cost, Reading, Makes}
 use Rattle.counts.specs.Cost.{CostModel}
@@ -21,9 +22,9 @@ use Rattle.counts.specs.Round.{Found, find-move}
 use Rattle.counts.specs.Accept.{accepted}
 use Rattle.counts.specs.Solver.{Round, round-made, round-by, round-refused, round-with, round, round-test}
 use Rattle.counts.specs.Demand.{left, left-by-all, Told, Told-all, Demand, Ask, asked, asked-costs, sum-of}
-use Rattle.counts.proofs.Accepted.{Accepted, accepted-ok}
+use Rattle.counts.proofs.check.Accepted.{Accepted, accepted-ok}
 use Rattle.counts.proofs.Balance.{move-balance}
-use Rattle.counts.proofs.BoolLaws.{by-cases}
+use Rattle.base.proofs.BoolLaws.{by-cases}
 use Rattle.counts.proofs.Find.{Best, none, some, sound-find, complete-find}
 use Rattle.counts.proofs.Makes.{makes-move, move-differs}
 

@@ -8,22 +8,23 @@ use borrow.Author.Tests.{eqb-true, ltb-false}
 use lib.ListN.{length, getD, drop, length-take}
 use lib.Dec.{T, ltb, eqb}
 use lib.Ieee.{Float, binary64, ofBits}
-use Rattle.counts.specs.Lists.{all}
+use Rattle.base.specs.Lists.{all}
 use Rattle.counts.specs.Region.{Constraint, places, region-count, side, constraints, graph, side-sum}
-use Rattle.counts.specs.Refusal.{Verdict, passed, refused, outcome, is-passed, then-test, refuse-if}
+use Rattle.base.specs.declared.verdict.Verdict.{Verdict}
+use Rattle.base.specs.Refusal.{passed, refused, outcome, is-passed, then-test, refuse-if}
 use Rattle.counts.specs.Cost.{Spacing, by, within, edges-of, energy-from}
 use Rattle.counts.specs.Accept.{limits-test, counts-test, spacing-limits, lengths-test, spacing-lengths, spacing-test, values-test, pairs-test, overused-test, regions-test}
-use Rattle.counts.specs.Solver.{max-limit, round-order, round-test, round-head, solve-order, solve-test, solve-head}
-use Rattle.counts.specs.Solver.{Energy, energy-of, energy-test, energy, Hold, hold-of, side-in-range, sum-of-side, constraint-holds, constraints-hold}
+use Rattle.counts.specs.Solver.{max-limit, round-order, round-test, solve-order, solve-test, Energy, energy-of, energy-test, energy, Hold, hold-of, side-in-range, constraint-holds, constraints-hold}
+use Rattle.counts.specs.inner.Checks.{round-head, solve-head, sum-of-side}
 use Rattle.counts.specs.declared.answer.EnergyAnswer.the-variants as energy-answer
 use Rattle.counts.specs.declared.answer.HoldAnswer.the-variants as hold-answer
-use Rattle.counts.specs.declared.measure.SideSum.{SideSum}
-use Rattle.counts.specs.declared.measure.SideSum.the-variants as side-total
-use Rattle.counts.specs.declared.refusal.Check.{Check}
-use Rattle.counts.specs.declared.refusal.Check.the-variants.{Passed, Refused}
-use Rattle.counts.specs.declared.refusal.Refusal.{Refusal}
-use Rattle.counts.proofs.AcceptLaws.{limits-passed, count-down, next-record}
-use Rattle.counts.proofs.RefusalLaws.{was-refused, was-passed, then-passed, then-test-assoc}
+use Rattle.counts.specs.declared.constraint.SideSum.{SideSum}
+use Rattle.counts.specs.declared.constraint.SideSum.the-variants as side-total
+use Rattle.base.specs.declared.refusal.Check.{Check}
+use Rattle.base.specs.declared.refusal.Check.the-variants.{Passed, Refused}
+use Rattle.base.specs.declared.refusal.Refusal.{Refusal}
+use Rattle.counts.proofs.check.Laws.{limits-passed, count-down, next-record}
+use Rattle.base.proofs.TestLaws.{was-refused, was-passed, then-passed, then-test-assoc}
 
 -- ---- round and solve: the code makes 6 on its tables, after the rest
 onto : (a : Verdict) {x : Verdict} (y h : Verdict) → x ≡ then-test y h → then-test a x ≡ then-test (then-test a y) h

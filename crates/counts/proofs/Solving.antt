@@ -9,8 +9,9 @@ use lib.ListN.{length, getD, set, drop, replicate, length-replicate, List·getD-
 use lib.Seq.{getD-set-same, getD-set-other}
 use lib.Dec.{T, ltb, eqb, eqb→eq, ltb→lt}
 use lib.Ieee.{Float}
-use Rattle.counts.specs.Lists.{In, member}
-use Rattle.counts.specs.Refusal.{Verdict, passed, is-passed, refused, refuse-if, then-test}
+use Rattle.base.specs.Lists.{In, member}
+use Rattle.base.specs.declared.verdict.Verdict.{Verdict}
+use Rattle.base.specs.Refusal.{passed, is-passed, refused, refuse-if, then-test}
 use Rattle.counts.specs.Region.{Constraint, constraint, graph, holds, places, region-count, side, side-sum}
 use Rattle.counts.specs.Move.{Change, apply-changes}
 use Rattle.counts.specs.Cost.{CostModel, Spacing, costs-of, edges-of}
@@ -18,10 +19,10 @@ use Rattle.counts.specs.Round.{find-move, Solved, solve-by, solve-from, 
 use Rattle.counts.specs.Accept.{accepted, limits-test, regions-test}
 use Rattle.counts.specs.Solver.{Solve, solve, solve-test, solve-with, solve-part, with-rest, solve-refused, max-limit}
 use Rattle.counts.specs.Demand.{Balanced, sum-of}
-use Rattle.counts.proofs.Accepted.{Accepted, accepted-ok}
-use Rattle.counts.proofs.BoolLaws.{by-cases, clash, eq→eqb, or-left, or-right, true-T, T-true}
-use Rattle.counts.proofs.ListLaws.{in→member}
-use Rattle.counts.proofs.RefusalLaws.{then-both}
+use Rattle.counts.proofs.check.Accepted.{Accepted, accepted-ok}
+use Rattle.base.proofs.BoolLaws.{by-cases, clash, eq→eqb, or-left, or-right, true-T, T-true}
+use Rattle.base.proofs.ListLaws.{in→member}
+use Rattle.base.proofs.TestLaws.{then-both}
 use Rattle.counts.proofs.SolverLaws.{solve-passed}
 use Rattle.counts.proofs.Rounds.{Steady, steady-found, found, constraint-at}
 

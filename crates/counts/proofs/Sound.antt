@@ -10,13 +10,16 @@ use lib.Seq.{append-snoc}
 use lib.Dec.{T, leb, ltb, eqb, eqb→eq, not-T}
 use lib.Ieee.{Float, inf, add, sub, lt, neg, binary64}
 use lib.Ieee.Fits.{and-i, and-l, and-r}
-use Rattle.counts.specs.Lists.{member, any, all, filter, each, Distinct, In}
+use Rattle.base.specs.Lists.{member, any, all, filter, each, Distinct, In, differs}
 use Rattle.counts.specs.Move.{Change, select, edges, balances, Settled, share, Linked, cost-from, cost, allowed, Joined, same, next, Reading}
 use Rattle.counts.specs.Region.{Constraint, constraint, holds, incidence}
-use Rattle.counts.specs.Search.{signed, partners, others-changed, differs, eps, State, Act, skip, turned-back, entered, record-path, keep-reading, path-is-complete, Go, try-step, visit-by, visit, enter-by, enter, unused, dfs, may-step, is-used}
-use Rattle.counts.proofs.Acts.{by-test}
-use Rattle.counts.proofs.BoolLaws.{T-or-not, clash, eq→eqb, ne→differs, differs→ne, or-split, or-left, or-right}
-use Rattle.counts.proofs.ListLaws.{member→in, in→member, in-left, in-split, filter-in, every, every-in, select-yes, select-no, select-append, select-none, holds→incidence, incidence→holds, unlink, used-before, edges-in, apart}
+use Rattle.counts.specs.Search.{signed, partners, others-changed, eps, State, Act, skip, turned-back, entered, record-path, keep-reading, path-is-complete, Go, try-step, visit-by, visit, enter-by, enter, unused, dfs, may-step, is-used}
+use Rattle.counts.proofs.search.Acts.{by-test}
+use Rattle.base.proofs.BoolLaws.{T-or-not, clash, eq→eqb, ne→differs, differs→ne, or-split, or-left, or-right}
+use Rattle.base.proofs.ListLaws.{member→in, in→member, in-left, in-split, filter-in, every, every-in}
+use Rattle.counts.proofs.MoveLaws.{select-yes, select-no, select-append, select-none, edges-in, earlier-differs}
+use Rattle.counts.proofs.region.Constraints.{holds→incidence, incidence→holds, unlink}
+use Rattle.counts.proofs.search.Used.{used-before}
 
 -- ---- what the accepted regions give
 -- no edge on both sides of a constraint
@@ -292,7 +295,7 @@ module _ (g : List Constraint) (edge-cost : ℕ → Bool → Float) (counts : Li
       both : (k : ℕ) → select (holds (constraint g i)) ((pre ++ x ∷ []) ++ z ∷ []) ≡ x ∷ z ∷ []
       both k =
           select-append (holds (constraint g i)) (pre ++ x ∷ []) (z ∷ [])
-          ∙ ap (λ (l : List Change). l ++ select (holds (constraint g i)) (z ∷ [])) (others-are (constraint g i) pre x (apart pre x [] (w .distinct)) hx ∙ ap (λ (l : List Change). l ++ x ∷ []) o)
+          ∙ ap (λ (l : List Change). l ++ select (holds (constraint g i)) (z ∷ [])) (others-are (constraint g i) pre x (earlier-differs pre x [] (w .distinct)) hx ∙ ap (λ (l : List Change). l ++ x ∷ []) o)
           ∙ ap {B = List Change} (λ l. x ∷ l) (select-yes (holds (constraint g i)) z [] (po .0))
 
       as-before : (j : ℕ) → j ≢ i → T (is-used (set used i true) j) → select (holds (constraint g j)) ((pre ++ x ∷ []) ++ z ∷ []) ≡ select (holds (constraint g j)) (pre ++ x ∷ [])
@@ -324,7 +327,7 @@ module _ (g : List Constraint) (edge-cost : ℕ → Bool → Float) (counts : Li
         linked = w .linked;
         fair = λ j u. elim (T-or-not (eqb j i)) [
           | inl q ↦ subst (λ (n : ℕ). Settled (constraint g n) (select (holds (constraint g n)) (pre ++ x ∷ []))) (sym (eqb→eq j i q))
-              (subst (λ (l : List Change). Settled (constraint g i) l) (sym (others-are (constraint g i) pre x (apart pre x [] (w .distinct)) hx ∙ ap (λ (l : List Change). l ++ x ∷ []) (o ∙ ap {B = List Change} (λ k. k ∷ []) is-first))) b)
+              (subst (λ (l : List Change). Settled (constraint g i) l) (sym (others-are (constraint g i) pre x (earlier-differs pre x [] (w .distinct)) hx ∙ ap (λ (l : List Change). l ++ x ∷ []) (o ∙ ap {B = List Change} (λ k. k ∷ []) is-first))) b)
           | inr q ↦ w .fair j (used-before used i j (differs→ne i j q) u)
         ];
         priced = w .priced;

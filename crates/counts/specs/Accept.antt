@@ -5,8 +5,9 @@ use Prim.Native.Nat.{ℕ, zero, suc, _*_, _%_}
 use lib.ListN.{length, getD, drop}
 use lib.Dec.{leb, ltb, eqb}
 use lib.Ieee.{Float, nan, fin, inf, lt}
-use Rattle.counts.specs.Lists.{member, any}
-use Rattle.counts.specs.Refusal.{Verdict, passed, refused, then-test, refuse-if, is-passed}
+use Rattle.base.specs.Lists.{member, any}
+use Rattle.base.specs.declared.verdict.Verdict.{Verdict}
+use Rattle.base.specs.Refusal.{passed, refused, then-test, refuse-if, is-passed}
 use Rattle.counts.specs.Region.{Constraint, record-size, region-count, side, graph, incidence}
 use Rattle.counts.specs.Cost.{Spacing, by, within, edges-of}
 

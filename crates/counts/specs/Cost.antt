@@ -7,11 +7,8 @@ use Prim.Native.Nat.{ℕ, _+_, _*_}
 use lib.ListN.{length, getD, set}
 use lib.IntN.{pos}
 use lib.Ieee.{Float, nan, add, sub, mul, div, neg, lt, ofBits, ofInt, binary64}
-use Rattle.counts.specs.Move.{EdgeCost, allowed}
-
--- 1.0
-abbrev pub one : Float
-one = ofBits binary64 0x3ff0_0000_0000_0000
+use Rattle.floats.specs.Scalar.{one}
+use Rattle.counts.specs.Move.{EdgeCost}
 
 -- a count as an f64, which it is exactly
 abbrev pub real : ℕ → Float
@@ -92,16 +89,3 @@ unfolding add square deviation
 energy-from t [] ideals = t
 energy-from t (s ∷ counts) [] = t
 energy-from t (s ∷ counts) (ideal ∷ ideals) = energy-from (add binary64 t (square (deviation (real s) ideal))) counts ideals
-
--- ---- the tables of a round (inner contracts)
-
--- the two entries of edge e, for +1 and for -1, at 2 * e + 1 and at 2 * e
-abbrev pub set-both : {A : Type 0} → List A → ℕ → A → A → List A
-set-both l e plus minus = set (set l (e * 2 + 1) plus) (e * 2) minus
-
--- the entries of edge x in a round's tables: what +1 and -1 cost, and whether each is allowed, at 2 * x + 1 and at 2 * x
-pub record Entries (counts : List ℕ) (model : CostModel) (costs : List Float) (may : List Bool) (x : ℕ) : Type 0 where
-  pub plus-cost : getD costs (x * 2 + 1) nan ≡ model counts x true
-  pub minus-cost : getD costs (x * 2) nan ≡ model counts x false
-  pub plus-may : getD may (x * 2 + 1) false ≡ allowed counts x true
-  pub minus-may : getD may (x * 2) false ≡ allowed counts x false

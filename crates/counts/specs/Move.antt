@@ -6,7 +6,7 @@ use Prim.Native.Nat.{ℕ, zero, suc, _-_, _<_}
 use lib.ListN.{length, getD, set}
 use lib.Dec.{T, ltb}
 use lib.Ieee.{Float, nan, add, binary64}
-use Rattle.counts.specs.Lists.{In, member, Distinct, any, all}
+use Rattle.base.specs.Lists.{In, member, Distinct, any, all}
 use Rattle.counts.specs.Region.{Constraint, constraint, holds}
 
 -- "distinct edges, each with +1 or -1": an edge, and true for +1

@@ -4,7 +4,7 @@ use mathlib.Core.List.{List, [], _∷_}
 use Prim.Native.Nat.{ℕ, zero, suc, _+_, _*_, _/_}
 use lib.Dec.{eqb}
 use lib.ListN.{length, getD, take, drop}
-use Rattle.counts.specs.Lists.{member}
+use Rattle.base.specs.Lists.{member}
 
 -- "then 16 places"
 abbrev pub places : ℕ

@@ -4,7 +4,7 @@ use mathlib.Core.List.{List, [], _∷_}
 use Prim.Native.Nat.{ℕ, zero, suc}
 use lib.ListN.{length, replicate}
 use lib.Ieee.{Float, inf, sub, lt, neg, binary64}
-use Rattle.counts.specs.Lists.{each}
+use Rattle.base.specs.Lists.{each}
 use Rattle.counts.specs.Region.{Constraint}
 use Rattle.counts.specs.Move.{Change, EdgeCost, allowed, apply-changes}
 use Rattle.counts.specs.Cost.{CostModel}

@@ -6,19 +6,19 @@ use mathlib.Core.List.{List, [], _∷_, _++_}
 use Prim.Native.Nat.{ℕ, zero, suc}
 use lib.ListN.{length, getD, set, replicate}
 use lib.Dec.{leb, eqb}
-use lib.IntN.{negsuc}
-use lib.Ieee.{Float, fin, inf, add, sub, lt, binary64}
-use Rattle.counts.specs.Lists.{any, all, filter, each}
+use lib.Ieee.{Float, inf, add, sub, lt, binary64}
+use Rattle.base.specs.Lists.{differs, any, all, filter, each}
+use Rattle.floats.specs.Scalar.{e-12, two-e-12}
 use Rattle.counts.specs.Region.{Constraint, constraint, holds, own-side, opposite-side, incidence}
 use Rattle.counts.specs.Move.{Change, EdgeCost, select, balances}
 
 -- 01's E, 1e-12: `EPS_IMPROVEMENT`
 abbrev pub eps : Float
-eps = fin false 0x119799812DEA11 (negsuc 91)
+eps = e-12
 
 -- 2e-12
 abbrev pub two-eps : Float
-two-eps = fin false 0x119799812DEA11 (negsuc 90)
+two-eps = two-e-12
 
 -- expansions so far, whether an entry was turned back, the kept cost, the kept reading (empty: none)
 pub record State : Type 0 where
@@ -57,9 +57,6 @@ unfoldable pub record-path : List Constraint → List Bool → List Change → F
 unfolding lt sub
 record-path g used path t st =
     cond (lt t (sub binary64 (st .kept) eps) && path-is-complete g used path) (keep-reading t path) skip st
-
-abbrev pub differs : ℕ → ℕ → Bool
-differs x y = not (eqb y x)
 
 abbrev pub signed : Bool → List ℕ → List Change
 signed s [] = []

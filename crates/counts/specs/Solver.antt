@@ -5,8 +5,9 @@ use Prim.Native.Nat.{ℕ, zero, suc}
 use lib.ListN.{length, drop, replicate}
 use lib.Dec.{leb, ltb, eqb}
 use lib.Ieee.{Float, ofBits, binary64}
-use Rattle.counts.specs.Lists.{all}
-use Rattle.counts.specs.Refusal.{Verdict, passed, refused, then-test, refuse-if, is-passed, verdict-of}
+use Rattle.base.specs.Lists.{all}
+use Rattle.base.specs.declared.verdict.Verdict.{Verdict}
+use Rattle.base.specs.Refusal.{passed, refused, then-test, refuse-if, is-passed, verdict-of}
 use Rattle.counts.specs.Region.{Constraint, places, region-count, graph, side-sum}
 use Rattle.counts.specs.Move.{Change, apply-changes}
 use Rattle.counts.specs.Cost.{CostModel, Spacing, by, costs-of, edges-of, energy-from}
@@ -20,8 +21,6 @@ use Rattle.counts.specs.declared.answer.EnergyAnswer.{EnergyAnswer}
 use Rattle.counts.specs.declared.answer.EnergyAnswer.the-variants as energy-answer
 use Rattle.counts.specs.declared.answer.HoldAnswer.{HoldAnswer}
 use Rattle.counts.specs.declared.answer.HoldAnswer.the-variants as hold-answer
-use Rattle.counts.specs.declared.measure.SideSum.{SideSum}
-use Rattle.counts.specs.declared.measure.SideSum.the-variants as side-total
 
 -- ---- a round
 
@@ -59,12 +58,6 @@ round-order p regions spacing counts limit last =
 unfoldable pub round-test : ℕ → List ℕ → Spacing → List ℕ → ℕ → Verdict
 unfolding round-order regions-test
 round-test p regions spacing counts limit = round-order p regions spacing counts limit (regions-test p (edges-of spacing) regions)
-
--- the same up to 6, which the code makes on its tables (an inner contract)
-unfoldable pub round-head : ℕ → List ℕ → Spacing → List ℕ → ℕ → Verdict
-unfolding round-order pairs-test
-round-head p regions spacing counts limit =
-    round-order p regions spacing counts limit (pairs-test p (edges-of spacing) 0 (region-count p regions) regions)
 
 -- "A public round (added) applies the result to the lent counts"
 abbrev pub round-made : Bool → List Change → Float → List ℕ → Round
@@ -114,11 +107,6 @@ solve-order p regions spacing room last =
 unfoldable pub solve-test : ℕ → List ℕ → Spacing → ℕ → Verdict
 unfolding solve-order regions-test
 solve-test p regions spacing room = solve-order p regions spacing room (regions-test p (edges-of spacing) regions)
-
--- the same up to 6 (an inner contract)
-unfoldable pub solve-head : ℕ → List ℕ → Spacing → ℕ → Verdict
-unfolding solve-order pairs-test
-solve-head p regions spacing room = solve-order p regions spacing room (pairs-test p (edges-of spacing) 0 (region-count p regions) regions)
 
 abbrev pub solve-refused : Verdict → List ℕ → Solve
 solve-refused v lent = record { verdict = v; moves = 0; counts = lent }
@@ -182,10 +170,6 @@ hold-of (hold-answer.Refused r) = record { verdict = verdict-of r; holds = false
 -- "(edge out of range: no)"
 abbrev pub side-in-range : List ℕ → List ℕ → Bool
 side-in-range counts side = all (λ (e : ℕ). ltb e (length counts)) side
-
--- `side_sum`: "Sum the integer counts on one side", unless an edge is out of range
-abbrev pub sum-of-side : List ℕ → List ℕ → SideSum
-sum-of-side counts side = cond (side-in-range counts side) (side-total.Total (side-sum counts side)) side-total.OutOfRange
 
 abbrev pub constraint-holds : List ℕ → Constraint → Bool
 constraint-holds counts c =

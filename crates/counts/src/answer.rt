@@ -1,5 +1,5 @@
 // The answers of the public functions: what stands in the good case, or the refusal. specs/Solver.antt gives each its number and values.
-use crate::refusal::Refusal;
+use base::refusal::Refusal;
 
 pub enum SolveAnswer {
     Moves(u32),

@@ -13,8 +13,8 @@ ghost use lib.ListN.{length, replicate};
 ghost use Rattle.counts.specs.Cost.{by-ranges};
 ghost use Rattle.counts.specs.Move.{changed, apply-changes as changed-counts};
 ghost use Rattle.counts.specs.Round.{improves as improves-on};
-ghost use Rattle.counts.specs.Tables.{Tables, path-of};
-ghost use Rattle.counts.specs.RoundContract.{Buffers, SearchedFrom, Remembered, Recalled, AllKnown, FoundIn, Priced, CanApply, start-at, weighed as weighed-of, chosen};
+ghost use Rattle.counts.specs.inner.Tables.{Tables, path-of};
+ghost use Rattle.counts.specs.inner.RoundContract.{Buffers, SearchedFrom, Remembered, Recalled, AllKnown, FoundIn, Priced, CanApply, start-at, weighed as weighed-of, chosen};
 
 const NO_START: usize = 512;
 

@@ -1,22 +1,22 @@
 // The tests that turn input away before any work is done, one function each, in the order of specs/Accept.antt.
-use crate::refusal::Check;
-use crate::refusal::Refusal;
 use crate::region::PLACES;
 use crate::region::RECORD_SIZE;
 use crate::region::SIDE_SIZE;
 use crate::region::side;
+use base::refusal::Check;
+use base::refusal::Refusal;
 ghost use mathlib.Core.Path.{_≡_};
 ghost use mathlib.Core.List.{[]};
 ghost use Prim.Native.Nat.{_+_, _%_, _≤_, _<_};
 ghost use lib.ListN.{length};
 ghost use lib.Dec.{T};
-ghost use Rattle.counts.specs.Lists.{member};
+ghost use Rattle.base.specs.Lists.{member};
 ghost use Rattle.counts.specs.Region.{places, region-count};
-ghost use Rattle.counts.specs.Refusal.{outcome};
+ghost use Rattle.base.specs.Refusal.{outcome};
 ghost use Rattle.counts.specs.Cost.{within};
-ghost use Rattle.counts.specs.Accept.{sides-fit, records-whole, limits-test, shared-edge, side-test, pair-test, region-test, pairs-test};
-ghost use Rattle.counts.specs.Accept.{ideal-ok, first-bad, ranges, ends-ok, in-order, ranges-test, counts-test, spacing-limits, values-test};
-ghost use Rattle.counts.specs.Solver.{round-head, solve-head, energy-test};
+ghost use Rattle.counts.specs.Accept.{sides-fit, records-whole, limits-test, shared-edge, side-test, pair-test, region-test, pairs-test, ideal-ok, first-bad, ranges, ends-ok, in-order, ranges-test, counts-test, spacing-limits, values-test};
+ghost use Rattle.counts.specs.inner.Checks.{round-head, solve-head};
+ghost use Rattle.counts.specs.Solver.{energy-test};
 
 const MAX_REGIONS: usize = 128;
 

@@ -6,7 +6,8 @@ ghost use lib.ListN.{length};
 ghost use lib.Dec.{ltb};
 ghost use lib.Ieee.{ofBits, add, sub, binary64};
 ghost use Rattle.counts.specs.Move.{allowed};
-ghost use Rattle.counts.specs.Cost.{deviation, square, step, range-deviation, range-delta, by-ranges, set-both, Entries, energy-from};
+ghost use Rattle.counts.specs.Cost.{deviation, square, step, range-deviation, range-delta, by-ranges, energy-from};
+ghost use Rattle.counts.specs.inner.Tables.{set-both, Entries};
 
 // s/ideal - 1
 fn deviation(s: f64, ideal: f64) -> f64

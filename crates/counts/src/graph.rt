@@ -3,20 +3,20 @@
 // At place 2 * e + k, k being 0 or 1, `incident` has the number of the k-th constraint that holds edge e, 256 if there is none, and `own` the
 // side on which e stands in it. Sides are counted over all records: side s starts at s * 17, with its number of edges, and constraint ci has
 // the sides ci / 2 * 4 + ci % 2 and, two further on, the opposite one.
-use crate::refusal::Check;
-use crate::refusal::Refusal;
 use crate::region::RECORD_SIZE;
 use crate::region::SIDE_SIZE;
+use base::refusal::Check;
+use base::refusal::Refusal;
 ghost use mathlib.Core.Path.{_≡_};
 ghost use mathlib.Core.List.{List, [], _∷_};
 ghost use Prim.Native.Nat.{ℕ, _≤_, _<_};
 ghost use lib.ListN.{length, getD, replicate};
 ghost use lib.Dec.{T};
-ghost use Rattle.counts.specs.Refusal.{is-passed, outcome};
+ghost use Rattle.base.specs.Refusal.{is-passed, outcome};
 ghost use Rattle.counts.specs.Region.{Constraint, places, region-count, incidence};
 ghost use Rattle.counts.specs.Accept.{limits-test, pairs-test, overused-test};
-ghost use Rattle.counts.specs.Tables.{the-graph, edges-of, none};
-ghost use Rattle.counts.specs.Graph.{SideTested, Tested, Sized, Placed, Filled, Built};
+ghost use Rattle.counts.specs.inner.Tables.{the-graph, edges-of, none};
+ghost use Rattle.counts.specs.inner.Graph.{SideTested, Tested, Sized, Placed, Filled, Built};
 
 // Edge e stands on side s of constraint ci: both go to its next place. An edge in over two constraints is only counted, for test 6.
 fn place_edge(

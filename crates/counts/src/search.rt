@@ -13,12 +13,12 @@ ghost use Prim.Native.Nat.{_/_, _%_, _≤_, _<_};
 ghost use lib.ListN.{length, take, getD};
 ghost use lib.Dec.{T, eqb};
 ghost use lib.Ieee.{nan, inf};
-ghost use Rattle.counts.specs.Lists.{member};
+ghost use Rattle.base.specs.Lists.{member};
 ghost use Rattle.counts.specs.Region.{constraint, holds};
 ghost use Rattle.counts.specs.Move.{balances};
 ghost use Rattle.counts.specs.Search.{is-used, others-changed};
-ghost use Rattle.counts.specs.Tables.{decoded, path-of, the-graph, across, Other, Tables};
-ghost use Rattle.counts.specs.SearchContract.{both-sides, both-signed, changed-by, SidesAt, MayCross, MayStep, Crossed, Stepped, Ended, no-marks, fresh-state, Entered, CrossedAll, Searched};
+ghost use Rattle.counts.specs.inner.Tables.{decoded, path-of, the-graph, across, Other, Tables};
+ghost use Rattle.counts.specs.inner.SearchContract.{both-sides, both-signed, changed-by, SidesAt, MayCross, MayStep, Crossed, Stepped, Ended, no-marks, fresh-state, Entered, CrossedAll, Searched};
 
 // The kept cost and the length of the kept reading, how many entries there were, and whether one was turned back.
 pub struct SearchState {

@@ -4,24 +4,24 @@ use crate::answer::SolveAnswer;
 use crate::augment::apply_changes;
 use crate::augment::find_augmentation;
 use crate::augment::start_tables;
-use crate::parts::label_edges;
-use crate::parts::refresh_part;
-use crate::refusal::Refusal;
+use crate::components::label_edges;
+use crate::components::refresh_part;
 use crate::search::wide;
+use base::refusal::Refusal;
 ghost use mathlib.Core.Path.{_≡_};
 ghost use Prim.Native.Nat.{_/_, _≤_, _<_};
 ghost use lib.Dec.{T};
 ghost use lib.ListN.{length, getD, replicate};
-ghost use Rattle.counts.specs.Refusal.{is-passed};
+ghost use Rattle.base.specs.Refusal.{is-passed};
 ghost use Rattle.counts.specs.Region.{places};
 ghost use Rattle.counts.specs.Accept.{regions-test};
 ghost use Rattle.counts.specs.Move.{apply-changes as changed-counts};
 ghost use Rattle.counts.specs.Cost.{by-ranges};
 ghost use Rattle.counts.specs.Round.{find-move, solve-from, solve-zeros, max-moves};
 ghost use Rattle.counts.specs.Solver.{round-of, round-by, solve-of, solve-part};
-ghost use Rattle.counts.specs.Tables.{Tables, the-graph, path-of};
-ghost use Rattle.counts.specs.Parts.{Labels, Refreshed};
-ghost use Rattle.counts.specs.RoundContract.{Buffers, TableSizes, RoundInput, CanApply, solved-of};
+ghost use Rattle.counts.specs.inner.Tables.{Tables, the-graph, path-of};
+ghost use Rattle.counts.specs.inner.Components.{Labels, Refreshed};
+ghost use Rattle.counts.specs.inner.RoundContract.{Buffers, TableSizes, RoundInput, CanApply, solved-of};
 
 fn wide_len(x: u32) -> usize
     ensures { λ r. ⌜ r ≡ x ⌝ }

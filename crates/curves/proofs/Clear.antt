@@ -6,15 +6,16 @@ use Prim.Native.Nat.{ℕ, zero, suc, _+_, _-_, _*_, _%_}
 use lib.ListN.{length, getD}
 use lib.Dec.{T, leb, ltb, eqb}
 use lib.Ieee.{Float, nan, binary64, sub, lt, le}
-use Rattle.counts.specs.Refusal.{Verdict, passed, refused, is-passed, then-test, refuse-if}
+use Rattle.base.specs.declared.verdict.Verdict.{Verdict}
+use Rattle.base.specs.Refusal.{passed, refused, is-passed, then-test, refuse-if}
 use Rattle.counts.specs.Region.{places, record-size, side}
 use Rattle.counts.specs.Accept.{records-whole, max-edges}
-use Rattle.counts.specs.Lists.{all}
-use Rattle.counts.proofs.BoolLaws.{eq→eqb}
-use Rattle.curves.specs.Answers.{Answer, good, turned-away, verdict}
-use Rattle.curves.specs.Tests.{first-of}
-use Rattle.curves.specs.Scalar.{nought, one, e-9, e-12, float-abs, in-unit, clamp-unit, is-positive}
-use Rattle.curves.specs.Lists.{splice}
+use Rattle.base.specs.Lists.{all}
+use Rattle.base.proofs.BoolLaws.{eq→eqb}
+use Rattle.base.specs.Answers.{Answer, good, turned-away, verdict}
+use Rattle.base.specs.Tests.{first-of}
+use Rattle.floats.specs.Scalar.{nought, one, e-9, e-12, float-abs, in-unit, clamp-unit, is-positive}
+use Rattle.base.specs.Buffers.{splice}
 use Rattle.curves.specs.Point.{point, signed-area}
 use Rattle.curves.specs.Curve.{point-count, point-at, all-finite, total-length, curve-test}
 use Rattle.curves.specs.Boundary.{BoundaryCurves, boundary-of, boundary-ends, tolerance, apart, corner-test, winding-test, ends-test, checked-curves}

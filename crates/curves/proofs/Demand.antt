@@ -10,19 +10,19 @@ use lib.ListN.{length, getD, take, drop, length-take}
 use lib.Seq.{getD-take, take-take, take-at, drop-drop}
 use lib.Dec.{T, eqb, lt→ltb, ltb→lt}
 use lib.Ieee.{Float}
-use Rattle.counts.specs.Refusal.{is-passed}
-use Rattle.counts.specs.Lists.{In, member}
+use Rattle.base.specs.Refusal.{is-passed}
+use Rattle.base.specs.Lists.{In, member}
 use Rattle.counts.specs.Region.{Constraint, constraint, places, region-count, from-region, graph, side, side-sum}
 use Rattle.counts.specs.Round.{solve-zeros}
 use Rattle.counts.specs.Cost.{Spacing, costs-of, edges-of}
 use Rattle.counts.specs.Accept.{accepted, sides-fit, limits-test, regions-test}
 use Rattle.counts.specs.Solver.{max-limit, solve}
 use Rattle.counts.specs.Demand.{Ask, asked, asked-costs, left-by-all, Balanced, sum-of}
-use Rattle.counts.proofs.Accepted.{Accepted, accepted-ok}
-use Rattle.counts.proofs.BoolLaws.{clash, eq→eqb, or-left, or-right, T-true}
-use Rattle.counts.proofs.RefusalLaws.{then-left}
-use Rattle.counts.proofs.AcceptLaws.{sides-first, sides-rest, side-few, limits-passed, whole-sides}
-use Rattle.counts.proofs.ListLaws.{in→member}
+use Rattle.counts.proofs.check.Accepted.{Accepted, accepted-ok}
+use Rattle.base.proofs.BoolLaws.{clash, eq→eqb, or-left, or-right, T-true}
+use Rattle.base.proofs.TestLaws.{then-left}
+use Rattle.counts.proofs.check.Laws.{sides-first, sides-rest, side-few, limits-passed, whole-sides}
+use Rattle.base.proofs.ListLaws.{in→member}
 use Rattle.counts.proofs.Rounds.{Steady, steady-all, constraint-at, demand-3-rounds, test-of, limit-of, asked-is}
 use Rattle.counts.proofs.Solving.{SolveIs, solve-is, solve-balanced, level-solved}
 use Rattle.curves.specs.Lay.{Field, seams-of, seam-of, lay}

@@ -1,5 +1,3 @@
--- The laws that belong to no one module of the code. Assumes nothing.
-pub mod ListLaws
-pub mod TestLaws
+-- Demand 3, whole. The other laws stand by the modules of the code. Assumes nothing.
 pub mod Clear
 pub mod Demand

@@ -1,12 +1,13 @@
--- 000's `BoundaryCurves` and `checked_curves`, "the reference for joining and winding", each operation rounded once. Definitions only.
+-- 000's `BoundaryCurves` and `checked_curves`, "the reference for joining and winding", each operation rounded once. Assumes nothing.
 use mathlib.Core.Bool.{Bool, _||_}
 use mathlib.Core.List.{List}
 use Prim.Native.Nat.{ℕ}
 use lib.Ieee.{Float, binary64, sub, mul, neg, lt, le, ofBits}
-use Rattle.counts.specs.Refusal.{Verdict, refused, verdict-of, then-test, refuse-if}
-use Rattle.curves.specs.Answers.{Answer, good, turned-away}
-use Rattle.curves.specs.Tests.{if-passed}
-use Rattle.curves.specs.Scalar.{nought, one, e-9, float-abs, float-min, float-max}
+use Rattle.base.specs.declared.verdict.Verdict.{Verdict}
+use Rattle.base.specs.Refusal.{refused, verdict-of, then-test, refuse-if}
+use Rattle.base.specs.Answers.{Answer, good, turned-away}
+use Rattle.base.specs.Tests.{if-passed}
+use Rattle.floats.specs.Scalar.{nought, one, e-9, float-abs, float-min, float-max}
 use Rattle.curves.specs.Point.{signed-area}
 use Rattle.curves.specs.Curve.{ArcCurve, arc-curve, curve-at, curve-test}
 use Rattle.curves.specs.declared.point.Point.{Point}

@@ -1,13 +1,14 @@
--- What the public functions of the grid answer, and what they leave in the lent output, refused calls included: a chain of tests in 01's order, then the grid. Definitions only.
+-- What the public functions of the grid answer, and what they leave in the lent output, refused calls included: a chain of tests in 01's order, then the grid. Assumes nothing.
 use mathlib.Core.Bool.{not, _||_}
 use mathlib.Core.List.{List}
 use Prim.Native.Nat.{ℕ, _*_, _%_}
 use lib.ListN.{length}
 use lib.Dec.{ltb, eqb}
 use lib.Ieee.{Float}
-use Rattle.counts.specs.Refusal.{Verdict, passed, refused, verdict-of, then-test, refuse-if}
-use Rattle.curves.specs.Lists.{splice}
-use Rattle.curves.specs.Tests.{if-passed}
+use Rattle.base.specs.declared.verdict.Verdict.{Verdict}
+use Rattle.base.specs.Refusal.{passed, refused, verdict-of, then-test, refuse-if}
+use Rattle.base.specs.Buffers.{splice}
+use Rattle.base.specs.Tests.{if-passed}
 use Rattle.curves.specs.Boundary.{BoundaryCurves, boundary-of, checked-curves}
 use Rattle.curves.specs.Seam.{uniform-parameters, seams-test}
 use Rattle.curves.specs.Quad.{zeros}

@@ -1,10 +1,10 @@
--- 000's `logical_intersection`, each operation rounded once: where the line from (0, a) to (1, b) and the line from (c, 0) to (d, 1) cross. Definitions only.
+-- 000's `logical_intersection`, each operation rounded once: where the line from (0, a) to (1, b) and the line from (c, 0) to (d, 1) cross. Assumes nothing.
 use mathlib.Core.Bool.{_&&_, cond}
 use Prim.Native.Nat.{ℕ}
 use lib.Ieee.{Float, binary64, add, sub, mul, div, lt}
-use Rattle.counts.specs.Refusal.{refused}
-use Rattle.curves.specs.Answers.{Answer, good, turned-away}
-use Rattle.curves.specs.Scalar.{one, e-12, float-abs, clamp-unit, in-unit}
+use Rattle.base.specs.Refusal.{refused}
+use Rattle.base.specs.Answers.{Answer, good, turned-away}
+use Rattle.floats.specs.Scalar.{one, e-12, float-abs, clamp-unit, in-unit}
 use Rattle.curves.specs.Point.{point}
 use Rattle.curves.specs.declared.point.Point.{Point}
 

@@ -1,5 +1,5 @@
 -- 000's `ArcCurve`: "`ArcCurve::new` holds each point with the length run so far", "`at` clamps, halves down to a segment (equal goes right) and blends as in 000", each operation
--- rounded once; and what is refused of one curve. Definitions only.
+-- rounded once; and what is refused of one curve. Assumes nothing.
 use mathlib.Core.Path.{_≡_}
 use mathlib.Core.Bool.{Bool, true, false, not, _&&_, cond}
 use mathlib.Core.List.{List, [], _∷_}
@@ -7,11 +7,12 @@ use Prim.Native.Nat.{ℕ, zero, suc, _+_, _-_, _*_, _/_, _<_, _≤_}
 use lib.ListN.{length, getD}
 use lib.Dec.{ltb}
 use lib.Ieee.{Float, nan, binary64, add, sub, mul, div, lt, le}
-use Rattle.counts.specs.Refusal.{Verdict, refused, then-test, refuse-if}
-use Rattle.curves.specs.Scalar.{nought, is-finite, is-positive, clamp-unit}
-use Rattle.curves.specs.Root.{root}
+use Rattle.base.specs.declared.verdict.Verdict.{Verdict}
+use Rattle.base.specs.Refusal.{refused, then-test, refuse-if}
+use Rattle.floats.specs.Scalar.{nought, is-finite, is-positive, clamp-unit}
+use Rattle.floats.specs.Root.{root}
 use Rattle.curves.specs.Point.{point}
-use Rattle.curves.specs.Lists.{tab}
+use Rattle.base.specs.Buffers.{tab}
 use Rattle.curves.specs.declared.point.Point.{Point}
 use Rattle.curves.specs.declared.curve.Knot.{Knot}
 use Rattle.curves.specs.declared.curve.Segment.{Segment}

@@ -1,4 +1,4 @@
--- Demand 3, whole: one claim about a list of regions, every list of rounds on it, and every tile of it. Definitions only.
+-- Demand 3, whole: one claim about a list of regions, every list of rounds on it, and every tile of it. Assumes nothing.
 -- The rounds of both parts are the same: `asked regions`, what the contract of the public round says that it answers and leaves. The tiles are laid by `lay`, which the contract of
 -- the public lay cites.
 use mathlib.Core.Logic.{_≢_}
@@ -8,7 +8,7 @@ use Prim.Native.Nat.{ℕ, _<_}
 use lib.ListN.{length, take}
 use lib.Dec.{T}
 use lib.Ieee.{Float}
-use Rattle.counts.specs.Refusal.{is-passed}
+use Rattle.base.specs.Refusal.{is-passed}
 use Rattle.counts.specs.Region.{places, record-size, region-count, from-region}
 use Rattle.counts.specs.Cost.{Spacing, edges-of}
 use Rattle.counts.specs.Accept.{accepted}

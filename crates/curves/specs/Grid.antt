@@ -1,13 +1,14 @@
--- 000's `coons_grid` after its tests of the seams: the points of a grid row by row, the tests of its points and quads, and what an output holds of it. Definitions only.
+-- 000's `coons_grid` after its tests of the seams: the points of a grid row by row, the tests of its points and quads, and what an output holds of it. Assumes nothing.
 use mathlib.Core.List.{List, [], _∷_}
 use Prim.Native.Nat.{ℕ, zero, suc, _+_, _-_, _*_}
 use lib.ListN.{length, getD}
 use lib.Ieee.{Float, nan}
-use Rattle.counts.specs.Refusal.{Verdict, passed, then-test}
-use Rattle.curves.specs.Answers.{Answer, good, turned-away, verdict}
-use Rattle.curves.specs.Scalar.{nought}
-use Rattle.curves.specs.Lists.{cat}
-use Rattle.curves.specs.Tests.{first-of}
+use Rattle.base.specs.declared.verdict.Verdict.{Verdict}
+use Rattle.base.specs.Refusal.{passed, then-test}
+use Rattle.base.specs.Answers.{Answer, good, turned-away, verdict}
+use Rattle.floats.specs.Scalar.{nought}
+use Rattle.base.specs.Buffers.{cat}
+use Rattle.base.specs.Tests.{first-of}
 use Rattle.curves.specs.Point.{values}
 use Rattle.curves.specs.Curve.{point-at}
 use Rattle.curves.specs.Crossing.{logical-intersection}

@@ -1,13 +1,14 @@
--- Lay, which "grids one region, given as just one record, from counts, breaks and curves, and answers and writes what `coons_from_parameters` does on its seams". Definitions only.
+-- Lay, which "grids one region, given as just one record, from counts, breaks and curves, and answers and writes what `coons_from_parameters` does on its seams". Assumes nothing.
 use mathlib.Core.Bool.{not}
 use mathlib.Core.List.{List, [], _∷_}
 use Prim.Native.Nat.{ℕ, suc}
 use lib.ListN.{length, getD}
 use lib.Dec.{ltb, eqb}
 use lib.Ieee.{Float}
-use Rattle.counts.specs.Refusal.{Verdict, refused, then-test, refuse-if}
+use Rattle.base.specs.declared.verdict.Verdict.{Verdict}
+use Rattle.base.specs.Refusal.{refused, then-test, refuse-if}
 use Rattle.counts.specs.Region.{places, record-size, side}
-use Rattle.counts.specs.Lists.{all}
+use Rattle.base.specs.Lists.{all}
 use Rattle.counts.specs.Accept.{limits-test}
 use Rattle.curves.specs.Seam.{side-seam}
 use Rattle.curves.specs.Grid.{Seams, seams}

@@ -1,21 +1,13 @@
--- The definitions of the crate. Assumes nothing.
-pub mod Root
-pub mod RootSteps
-pub mod Answers
-pub mod Scalar
+-- The definitions of the crate: what a reader holds against 01. Those below `inner` only the code needs. Assumes nothing.
 pub mod Point
-pub mod Crossing
-pub mod Lists
 pub mod Curve
-pub mod Tests
 pub mod Boundary
 pub mod Seam
+pub mod Crossing
 pub mod Patch
-pub mod Columns
-pub mod Level
 pub mod Quad
 pub mod Grid
-pub mod Rows
 pub mod Coons
 pub mod Lay
 pub mod Demand
+pub mod inner

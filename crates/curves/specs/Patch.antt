@@ -1,6 +1,6 @@
--- 000's `lerp2` and `coons_point`: "the patch is Coons' formula: the two ruled patches added, the bilinear one taken off, rounded in 000's order". Definitions only.
+-- 000's `lerp2` and `coons_point`: "the patch is Coons' formula: the two ruled patches added, the bilinear one taken off, rounded in 000's order". Assumes nothing.
 use lib.Ieee.{Float, binary64, add, sub, mul}
-use Rattle.curves.specs.Scalar.{one}
+use Rattle.floats.specs.Scalar.{one}
 use Rattle.curves.specs.Point.{point}
 use Rattle.curves.specs.Curve.{ArcCurve, curve-at}
 use Rattle.curves.specs.Boundary.{BoundaryCurves, curve-ends}

@@ -1,9 +1,9 @@
--- Points of the plane: 000's `signed_area`, each operation rounded once, and the answer that carries a point. Definitions only.
+-- Points of the plane: 000's `signed_area`, each operation rounded once, and the answer that carries a point. Assumes nothing.
 use mathlib.Core.List.{List, [], _∷_}
 use lib.Ieee.{Float, binary64, add, sub, mul}
-use Rattle.counts.specs.Refusal.{verdict-of}
-use Rattle.curves.specs.Answers.{Answer, good, turned-away}
-use Rattle.curves.specs.Scalar.{nought, half}
+use Rattle.base.specs.Refusal.{verdict-of}
+use Rattle.base.specs.Answers.{Answer, good, turned-away}
+use Rattle.floats.specs.Scalar.{nought, half}
 use Rattle.curves.specs.declared.point.Point.{Point}
 use Rattle.curves.specs.declared.point.PointAnswer.{PointAnswer}
 use Rattle.curves.specs.declared.point.PointAnswer.the-variants.{At, Refused}

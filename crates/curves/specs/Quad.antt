@@ -1,11 +1,12 @@
--- The quads of a grid: their test, and what an output holds in their place once one is refused. Definitions only.
+-- The quads of a grid: their test, and what an output holds in their place once one is refused. Assumes nothing.
 use mathlib.Core.Bool.{not}
 use mathlib.Core.List.{List}
 use Prim.Native.Nat.{ℕ}
 use lib.Ieee.{Float}
-use Rattle.counts.specs.Refusal.{Verdict, refused, refuse-if}
-use Rattle.curves.specs.Scalar.{nought, is-positive}
-use Rattle.curves.specs.Lists.{tab}
+use Rattle.base.specs.declared.verdict.Verdict.{Verdict}
+use Rattle.base.specs.Refusal.{refused, refuse-if}
+use Rattle.floats.specs.Scalar.{nought, is-positive}
+use Rattle.base.specs.Buffers.{tab}
 use Rattle.curves.specs.Point.{signed-area}
 use Rattle.curves.specs.declared.point.Point.{Point}
 

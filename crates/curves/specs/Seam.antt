@@ -1,4 +1,4 @@
--- Parameter seams: how they are made, evenly or from counts and breaks, and what is refused of them. Definitions only.
+-- Parameter seams: how they are made, evenly or from counts and breaks, and what is refused of them. Assumes nothing.
 use mathlib.Core.Bool.{Bool, not, _&&_, _||_}
 use mathlib.Core.List.{List, [], _∷_, _++_}
 use Prim.Native.Nat.{ℕ, suc, _+_, _-_}
@@ -6,10 +6,11 @@ use lib.ListN.{length, getD}
 use lib.Dec.{ltb, eqb}
 use lib.IntN.{pos}
 use lib.Ieee.{Float, nan, binary64, add, sub, mul, div, lt, ofInt}
-use Rattle.counts.specs.Refusal.{Verdict, refused, then-test, refuse-if}
-use Rattle.curves.specs.Scalar.{one, e-9, e-12, float-abs, in-unit}
-use Rattle.curves.specs.Lists.{tab}
-use Rattle.curves.specs.Tests.{first-of}
+use Rattle.base.specs.declared.verdict.Verdict.{Verdict}
+use Rattle.base.specs.Refusal.{refused, then-test, refuse-if}
+use Rattle.floats.specs.Scalar.{one, e-9, e-12, float-abs, in-unit}
+use Rattle.base.specs.Buffers.{tab}
+use Rattle.base.specs.Tests.{first-of}
 
 -- ---- how seams are made
 

@@ -4,20 +4,19 @@ ghost use mathlib.Core.Path.{_≡_};
 ghost use Prim.Native.Nat.{_≤_};
 ghost use lib.ListN.{length};
 ghost use lib.Dec.{T};
-ghost use Rattle.counts.specs.Refusal.{outcome, is-passed};
-ghost use Rattle.curves.specs.Lists.{splice};
+ghost use Rattle.base.specs.Refusal.{outcome, is-passed};
+ghost use Rattle.base.specs.Buffers.{splice};
 ghost use Rattle.curves.specs.Curve.{point-count, curve, cumulative-of, Sampled};
 ghost use Rattle.curves.specs.Boundary.{boundary, curve-ends, boundary-ends, lowest, highest, tolerance, corner-test, winding-test, ends-test, checked-curves, joined-of, joined-curves};
-use crate::check::first_refused;
 use crate::curve::curve_at;
 use crate::curve::new_curve;
 use crate::point::Point;
 use crate::point::signed_area;
-use crate::scalar::abs;
-use crate::scalar::max;
-use crate::scalar::min;
-use counts::refusal::Check;
-use counts::refusal::Refusal;
+use base::refusal::Check;
+use base::refusal::Refusal;
+use floats::scalar::abs;
+use floats::scalar::max;
+use floats::scalar::min;
 
 // Where a curve begins and ends.
 pub(crate) struct Ends {
@@ -103,11 +102,11 @@ fn check_ends(e: BoundaryEnds) -> Check
     let corner3 = check_corner(allowed, e.left.start, tl, 3);
     let corner4 = check_corner(allowed, e.left.end, bl, 4);
     let winding = check_winding(bl, br, tr, tl);
-    let from4 = first_refused(corner4, winding);
-    let from3 = first_refused(corner3, from4);
-    let from2 = first_refused(corner2, from3);
-    let from1 = first_refused(corner1, from2);
-    first_refused(corner0, from1)
+    let from4 = corner4.and(winding);
+    let from3 = corner3.and(from4);
+    let from2 = corner2.and(from3);
+    let from1 = corner1.and(from2);
+    corner0.and(from1)
 }
 
 fn curve_ends(points: &[f64], lengths: &[f64]) -> Ends
@@ -167,9 +166,9 @@ pub(crate) fn checked_curves(
     let of_right = new_curve(right, 1, lengths1);
     let of_top = new_curve(top, 2, lengths2);
     let of_left = new_curve(left, 3, lengths3);
-    let from_top = first_refused(of_top, of_left);
-    let from_right = first_refused(of_right, from_top);
-    let from_bottom = first_refused(of_bottom, from_right);
+    let from_top = of_top.and(of_left);
+    let from_right = of_right.and(from_top);
+    let from_bottom = of_bottom.and(from_right);
     if let Check::Refused(cause) = from_bottom {
         return BoundaryAnswer::Refused(cause);
     }

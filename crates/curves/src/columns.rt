@@ -2,16 +2,16 @@
 ghost use mathlib.Core.Path.{_≡_};
 ghost use Prim.Native.Nat.{_+_, _*_, _≤_};
 ghost use lib.ListN.{length};
-ghost use Rattle.curves.specs.Lists.{splice};
+ghost use Rattle.base.specs.Buffers.{splice};
 ghost use Rattle.curves.specs.Curve.{curve, Sampled};
-ghost use Rattle.curves.specs.Columns.{column-values, stored-column, Table, level-points};
+ghost use Rattle.curves.specs.inner.Columns.{column-values, stored-column, Table, level-points};
 use crate::boundary::Ends;
 use crate::patch::Column;
 use crate::patch::Row;
 use crate::patch::column_at;
 use crate::patch::patch_point;
 use crate::point::Point;
-use crate::scalar::clamp_unit;
+use floats::scalar::clamp_unit;
 
 // The column of a table whose nine values, its parameter first, begin at the index `from`.
 fn stored_column(table: &[f64], from: usize) -> Column

@@ -3,7 +3,7 @@ ghost use mathlib.Core.Path.{_≡_};
 ghost use mathlib.Core.Bool.{true};
 ghost use Prim.Native.Nat.{_*_, _≤_, _<_};
 ghost use lib.ListN.{length};
-ghost use Rattle.counts.specs.Refusal.{outcome};
+ghost use Rattle.base.specs.Refusal.{outcome};
 ghost use Rattle.curves.specs.Curve.{curve, Sampled};
 ghost use Rattle.curves.specs.Boundary.{boundary, curve-ends};
 ghost use Rattle.curves.specs.Grid.{seams};
@@ -11,14 +11,13 @@ ghost use Rattle.curves.specs.Coons.{outcome-of, grid-stage, patch, seam
 use crate::boundary::BoundaryAnswer;
 use crate::boundary::Ends;
 use crate::boundary::checked_curves;
-use crate::check::first_refused;
 use crate::grid::Layout;
 use crate::grid::coons_grid;
 use crate::rows::needed;
 use crate::seam::check_seams;
 use crate::seam::uniform_parameters;
-use counts::refusal::Check;
-use counts::refusal::Refusal;
+use base::refusal::Check;
+use base::refusal::Refusal;
 
 // 1,024 points.
 const MAX_CURVE: usize = 2048;
@@ -58,9 +57,9 @@ pub(crate) fn check_curve_limits(bottom: &[f64], right: &[f64], top: &[f64], lef
     let of_right = check_curve_limit(right);
     let of_top = check_curve_limit(top);
     let of_left = check_curve_limit(left);
-    let from_top = first_refused(of_top, of_left);
-    let from_right = first_refused(of_right, from_top);
-    first_refused(of_bottom, from_right)
+    let from_top = of_top.and(of_left);
+    let from_right = of_right.and(from_top);
+    of_bottom.and(from_right)
 }
 
 // 1, of a seam.
@@ -80,9 +79,9 @@ fn check_seam_limits(bottom: &[f64], top: &[f64], left: &[f64], right: &[f64]) -
     let of_top = check_seam_limit(top);
     let of_left = check_seam_limit(left);
     let of_right = check_seam_limit(right);
-    let from_left = first_refused(of_left, of_right);
-    let from_top = first_refused(of_top, from_left);
-    first_refused(of_bottom, from_top)
+    let from_left = of_left.and(of_right);
+    let from_top = of_top.and(from_left);
+    of_bottom.and(from_top)
 }
 
 // 1 and 26, of the numbers of cells.
@@ -407,7 +406,7 @@ fn from_parameters(
 {
     let of_curves = check_curve_limits(bottom, right, top, left);
     let of_seams = check_seam_limits(bottom_u, top_u, left_v, right_v);
-    if let Check::Refused(cause) = first_refused(of_curves, of_seams) {
+    if let Check::Refused(cause) = of_curves.and(of_seams) {
         return GridAnswer::Refused(cause);
     }
     make_patch(
@@ -455,7 +454,7 @@ fn from_cells(
 {
     let of_curves = check_curve_limits(bottom, right, top, left);
     let of_cells = check_cell_limits(n_u, n_v);
-    if let Check::Refused(cause) = first_refused(of_curves, of_cells) {
+    if let Check::Refused(cause) = of_curves.and(of_cells) {
         return GridAnswer::Refused(cause);
     }
     let mut us = [0.0; 1025];

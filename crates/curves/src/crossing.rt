@@ -3,10 +3,10 @@ ghost use mathlib.Core.Path.{_≡_};
 ghost use Rattle.curves.specs.Crossing.{logical-intersection};
 ghost use Rattle.curves.specs.Point.{point-of};
 use crate::point::PointAnswer;
-use crate::scalar::abs;
-use crate::scalar::clamp_unit;
-use crate::scalar::in_unit;
-use counts::refusal::Refusal;
+use base::refusal::Refusal;
+use floats::scalar::abs;
+use floats::scalar::clamp_unit;
+use floats::scalar::in_unit;
 
 // The line from (0, a) to (1, b) and the line from (c, 0) to (d, 1), which are those of the grid point i, j.
 pub(crate) fn logical_intersection(a: f64, b: f64, c: f64, d: f64, i: u32, j: u32) -> PointAnswer

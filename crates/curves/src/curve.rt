@@ -5,16 +5,16 @@ ghost use mathlib.Core.Bool.{true};
 ghost use Prim.Native.Nat.{_+_, _*_, _<_, _≤_};
 ghost use lib.ListN.{length};
 ghost use lib.Dec.{T};
-ghost use Rattle.counts.specs.Refusal.{outcome, is-passed};
-ghost use Rattle.curves.specs.Lists.{splice};
+ghost use Rattle.base.specs.Refusal.{outcome, is-passed};
+ghost use Rattle.base.specs.Buffers.{splice};
 ghost use Rattle.curves.specs.Curve.{point-count, point-at, distance, total-length, curve, cumulative-of, Sampled, knot, toward, span, fraction, blend, segment-at, Rising, InSegment, curve-at, all-finite, total-test, curve-test};
 use crate::point::Point;
-use crate::root::sqrt;
-use crate::scalar::clamp_unit;
-use crate::scalar::is_finite;
-use crate::scalar::is_positive;
-use counts::refusal::Check;
-use counts::refusal::Refusal;
+use base::refusal::Check;
+use base::refusal::Refusal;
+use floats::root::sqrt;
+use floats::scalar::clamp_unit;
+use floats::scalar::is_finite;
+use floats::scalar::is_positive;
 
 // A point of the curve, with the length run so far.
 pub(crate) struct Knot {

@@ -4,18 +4,17 @@ ghost use mathlib.Core.Bool.{true, cond};
 ghost use Prim.Native.Nat.{_+_, _*_, _≤_};
 ghost use lib.Dec.{T};
 ghost use lib.ListN.{length};
-ghost use Rattle.counts.specs.Refusal.{outcome, is-passed};
-ghost use Rattle.curves.specs.Lists.{splice};
+ghost use Rattle.base.specs.Refusal.{outcome, is-passed};
+ghost use Rattle.base.specs.Buffers.{splice};
 ghost use Rattle.curves.specs.Curve.{curve, Sampled};
 ghost use Rattle.curves.specs.Boundary.{boundary, curve-ends};
-ghost use Rattle.curves.specs.Columns.{Table};
-ghost use Rattle.curves.specs.Level.{Upright};
+ghost use Rattle.curves.specs.inner.Columns.{Table};
+ghost use Rattle.curves.specs.inner.Level.{Upright};
 ghost use Rattle.curves.specs.Grid.{crossings, row-of, row-points, row-test, seams, n-u, n-v, grid-of, grid-test, needed};
 ghost use Rattle.curves.specs.Quad.{zeros};
-ghost use Rattle.curves.specs.Rows.{mapped-points, Laid};
+ghost use Rattle.curves.specs.inner.Rows.{mapped-points, Laid};
 ghost use Rattle.curves.specs.Coons.{filled};
 use crate::boundary::Ends;
-use crate::check::first_refused;
 use crate::columns::fill_columns;
 use crate::columns::level_points;
 use crate::crossing::logical_intersection;
@@ -30,7 +29,7 @@ use crate::rows::copy_row;
 use crate::rows::lay_row;
 use crate::rows::needed;
 use crate::rows::row_size;
-use counts::refusal::Check;
+use base::refusal::Check;
 
 // What an output holds of a grid: its quads, or its points for a mesh.
 pub(crate) enum Layout {
@@ -247,7 +246,7 @@ fn grid_rows(
         let lower = &low[..width];
         let upper = &high[..width];
         let below = lay_row(layout, lower, upper, n, j, at, out);
-        cells = first_refused(cells, below);
+        cells = cells.and(below);
         at += row_size(layout, n, j);
         copy_row(upper, low);
         j += 1;

@@ -4,21 +4,20 @@ ghost use mathlib.Core.Bool.{false, _||_};
 ghost use Prim.Native.Nat.{ℕ, _*_, _≤_};
 ghost use lib.ListN.{length, take};
 ghost use lib.Dec.{T, ltb};
-ghost use Rattle.counts.specs.Lists.{all};
-ghost use Rattle.counts.specs.Refusal.{outcome, is-passed, then-test};
+ghost use Rattle.base.specs.Lists.{all};
+ghost use Rattle.base.specs.Refusal.{outcome, is-passed, then-test};
 ghost use Rattle.counts.specs.Region.{places, side, side-sum};
-ghost use Rattle.curves.specs.Lists.{splice};
+ghost use Rattle.base.specs.Buffers.{splice};
 ghost use Rattle.curves.specs.Coons.{outcome-of};
 ghost use Rattle.curves.specs.Lay.{field, counts-along, seam-of, record-test, edges-test, breaks-test, lay-test, lay};
-use crate::check::first_refused;
 use crate::coons::GridAnswer;
 use crate::coons::MAX_SEAM;
 use crate::coons::check_curve_limits;
 use crate::coons::coons_from_parameters;
 use crate::seam::side_seam;
+use base::refusal::Check;
+use base::refusal::Refusal;
 use counts::check::check_limits;
-use counts::refusal::Check;
-use counts::refusal::Refusal;
 use counts::region::RECORD_SIZE;
 use counts::region::side;
 
@@ -55,9 +54,9 @@ fn check_all_edges(region: &[u16], n: usize) -> Check
     let of_right = check_edges(region, n, 1);
     let of_top = check_edges(region, n, 2);
     let of_left = check_edges(region, n, 3);
-    let from_top = first_refused(of_top, of_left);
-    let from_right = first_refused(of_right, from_top);
-    first_refused(of_bottom, from_right)
+    let from_top = of_top.and(of_left);
+    let from_right = of_right.and(from_top);
+    of_bottom.and(from_right)
 }
 
 // 27 of side k: one break more than edges.
@@ -84,9 +83,9 @@ fn check_all_breaks(
     let of_right = check_breaks(region, breaks1, 1);
     let of_top = check_breaks(region, breaks2, 2);
     let of_left = check_breaks(region, breaks3, 3);
-    let from_top = first_refused(of_top, of_left);
-    let from_right = first_refused(of_right, from_top);
-    first_refused(of_bottom, from_right)
+    let from_top = of_top.and(of_left);
+    let from_right = of_right.and(from_top);
+    of_bottom.and(from_right)
 }
 
 // What lay tests before it makes its seams.
@@ -108,9 +107,9 @@ fn check_lay(
     let of_curves = check_curve_limits(bottom, right, top, left);
     let of_edges = check_all_edges(region, n);
     let of_breaks = check_all_breaks(region, breaks0, breaks1, breaks2, breaks3);
-    let of_sides = first_refused(of_edges, of_breaks);
-    let from_curves = first_refused(of_curves, of_sides);
-    first_refused(of_record, from_curves)
+    let of_sides = of_edges.and(of_breaks);
+    let from_curves = of_curves.and(of_sides);
+    of_record.and(from_curves)
 }
 
 // Writes the counts of a side's edges, and returns what they add up to. 64 bits hold it: a side has at most 16 edges.

@@ -3,10 +3,10 @@ ghost use mathlib.Core.Path.{_≡_};
 ghost use mathlib.Core.Bool.{true};
 ghost use Prim.Native.Nat.{_≤_};
 ghost use lib.ListN.{length};
-ghost use Rattle.curves.specs.Level.{Plain, Straight, Upright};
-use crate::scalar::clamp_unit;
-use crate::scalar::in_unit;
-use crate::scalar::same_bits;
+ghost use Rattle.curves.specs.inner.Level.{Plain, Straight, Upright};
+use floats::scalar::clamp_unit;
+use floats::scalar::in_unit;
+use floats::scalar::same_bits;
 
 // In 0..1 and not -0.
 fn is_plain(x: f64) -> bool

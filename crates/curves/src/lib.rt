@@ -1,7 +1,6 @@
 // The geometry above the counts: the square root, the scalars and points that the curves go by, the curves, their seams, the patch between
 // them, its grid of points and quads, and lay, which grids a region by its counts. Public are `coons`, `lay` and `root`.
 mod boundary;
-mod check;
 mod columns;
 pub mod coons;
 mod crossing;
@@ -12,7 +11,5 @@ mod level;
 mod patch;
 mod point;
 mod quad;
-pub mod root;
 mod rows;
-mod scalar;
 mod seam;

@@ -1,7 +1,7 @@
 // Points of the plane, the answer that carries one, and the area of a quad.
 ghost use mathlib.Core.Path.{_≡_};
 ghost use Rattle.curves.specs.Point.{cross, signed-area};
-use counts::refusal::Refusal;
+use base::refusal::Refusal;
 
 pub(crate) struct Point {
     pub(crate) x: f64,

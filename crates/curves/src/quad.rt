@@ -2,16 +2,16 @@
 ghost use mathlib.Core.Path.{_≡_};
 ghost use Prim.Native.Nat.{_≤_};
 ghost use lib.ListN.{length};
-ghost use Rattle.counts.specs.Refusal.{outcome};
-ghost use Rattle.curves.specs.Lists.{splice};
-ghost use Rattle.curves.specs.Scalar.{is-positive};
+ghost use Rattle.base.specs.Refusal.{outcome};
+ghost use Rattle.base.specs.Buffers.{splice};
+ghost use Rattle.floats.specs.Scalar.{is-positive};
 ghost use Rattle.curves.specs.Point.{signed-area};
 ghost use Rattle.curves.specs.Quad.{quad-test, zeros};
 use crate::point::Point;
 use crate::point::signed_area;
-use crate::scalar::is_positive;
-use counts::refusal::Check;
-use counts::refusal::Refusal;
+use base::refusal::Check;
+use base::refusal::Refusal;
+use floats::scalar::is_positive;
 
 // Whether a quad has an area, finite and above zero.
 pub(crate) fn has_area(a: Point, b: Point, c: Point, d: Point) -> bool

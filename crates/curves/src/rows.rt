@@ -3,10 +3,10 @@
 ghost use mathlib.Core.Path.{_≡_};
 ghost use Prim.Native.Nat.{_+_, _*_, _<_, _≤_};
 ghost use lib.ListN.{length};
-ghost use Rattle.counts.specs.Refusal.{outcome};
-ghost use Rattle.curves.specs.Lists.{splice};
+ghost use Rattle.base.specs.Refusal.{outcome};
+ghost use Rattle.base.specs.Buffers.{splice};
 ghost use mathlib.Core.Bool.{true};
-ghost use Rattle.curves.specs.Rows.{row-size, AllSound};
+ghost use Rattle.curves.specs.inner.Rows.{row-size, AllSound};
 ghost use Rattle.curves.specs.declared.grid.Layout.the-variants.{Quads};
 ghost use Rattle.curves.specs.Grid.{cell-test, cells-test, below-test, quad-values, quads-between, node-values, nodes-of, row-part, needed};
 use crate::curve::point_at;
@@ -14,7 +14,7 @@ use crate::grid::Layout;
 use crate::point::Point;
 use crate::quad::check_quad;
 use crate::quad::has_area;
-use counts::refusal::Check;
+use base::refusal::Check;
 
 // 25 at the cell i of row j.
 fn check_cell(low: &[f64], high: &[f64], i: usize, j: u32) -> Check

@@ -3,15 +3,14 @@
 ghost use mathlib.Core.Path.{_≡_};
 ghost use Prim.Native.Nat.{_+_, _<_, _≤_};
 ghost use lib.ListN.{length};
-ghost use Rattle.counts.specs.Refusal.{outcome};
-ghost use Rattle.curves.specs.Lists.{splice};
-ghost use Rattle.curves.specs.Tests.{first-of};
+ghost use Rattle.base.specs.Refusal.{outcome};
+ghost use Rattle.base.specs.Buffers.{splice};
+ghost use Rattle.base.specs.Tests.{first-of};
 ghost use Rattle.curves.specs.Seam.{uniform-parameters, edge-values, side-seam, value-test, seam-ends-test, seam-test, pair-test, seams-test};
-use crate::check::first_refused;
-use crate::scalar::abs;
-use crate::scalar::in_unit;
-use counts::refusal::Check;
-use counts::refusal::Refusal;
+use base::refusal::Check;
+use base::refusal::Refusal;
+use floats::scalar::abs;
+use floats::scalar::in_unit;
 
 // The n + 1 values 0, 1/n, .., 1.
 pub(crate) fn uniform_parameters(n: u32, out: &mut [f64])
@@ -121,7 +120,7 @@ fn validate_parameters(values: &[f64], seam: u32) -> Check
     let first = values[0];
     let last = values[values.len() - 1];
     let ends = check_seam_ends(first, last, seam);
-    first_refused(inner, ends)
+    inner.and(ends)
 }
 
 // 22, of the pair with this number.
@@ -145,9 +144,9 @@ pub(crate) fn check_seams(bottom: &[f64], top: &[f64], left: &[f64], right: &[f6
     let of_right = validate_parameters(right, 1);
     let of_u = check_pair(bottom, top, 0);
     let of_v = check_pair(left, right, 1);
-    let pairs = first_refused(of_u, of_v);
-    let from_right = first_refused(of_right, pairs);
-    let from_left = first_refused(of_left, from_right);
-    let from_top = first_refused(of_top, from_left);
-    first_refused(of_bottom, from_top)
+    let pairs = of_u.and(of_v);
+    let from_right = of_right.and(pairs);
+    let from_left = of_left.and(from_right);
+    let from_top = of_top.and(from_left);
+    of_bottom.and(from_top)
 }

@@ -4,8 +4,9 @@ use mathlib.Core.Bool.{Bool}
 use mathlib.Core.List.{List, [], _∷_}
 use Prim.Native.Nat.{ℕ}
 use lib.Ieee.{Float, ofBits, binary64}
-use Rattle.counts.specs.Refusal.{Verdict, passed, verdict-of}
-use Rattle.counts.specs.declared.refusal.Refusal.{Refusal}
+use Rattle.base.specs.declared.verdict.Verdict.{Verdict}
+use Rattle.base.specs.Refusal.{passed, verdict-of}
+use Rattle.base.specs.declared.refusal.Refusal.{Refusal}
 use Rattle.counts.specs.Solver.{Round, round-of, Solve, solve-of, Energy, energy-of, Hold, hold-of}
 use Rattle.counts.specs.declared.answer.SolveAnswer.{SolveAnswer}
 use Rattle.counts.specs.declared.answer.SolveAnswer.the-variants as solve-answer
@@ -15,12 +16,13 @@ use Rattle.counts.specs.declared.answer.EnergyAnswer.{EnergyAnswer}
 use Rattle.counts.specs.declared.answer.EnergyAnswer.the-variants as energy-answer
 use Rattle.counts.specs.declared.answer.HoldAnswer.{HoldAnswer}
 use Rattle.counts.specs.declared.answer.HoldAnswer.the-variants as hold-answer
-use Rattle.curves.specs.Answers.{Answer, verdict, root-of}
+use Rattle.base.specs.Answers.{Answer, verdict}
+use Rattle.floats.specs.Root.{root-of}
 use Rattle.curves.specs.Coons.{Outcome, outcome-of}
 use Rattle.curves.specs.declared.coons.GridAnswer.{GridAnswer}
 use Rattle.curves.specs.declared.coons.GridAnswer.the-variants as grid-answer
-use Rattle.curves.specs.declared.root.RootAnswer.{RootAnswer}
-use Rattle.curves.specs.declared.root.RootAnswer.the-variants as root-answer
+use Rattle.floats.specs.declared.root.RootAnswer.{RootAnswer}
+use Rattle.floats.specs.declared.root.RootAnswer.the-variants as root-answer
 use Rattle.mesh.specs.Mesh.{Mesh, mesh-of}
 use Rattle.exports.specs.Told.{flag, Tells, solve-told, hold-told, grid-told, energy-told, round-told, cost-of, root-value, TellsSolve, TellsHold, TellsGrid, TellsEnergy, TellsRound, TellsRoot}
 

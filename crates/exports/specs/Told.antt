@@ -4,16 +4,17 @@ use mathlib.Core.List.{List, [], _∷_}
 use mathlib.Core.Path.{_≡_}
 use Prim.Native.Nat.{ℕ}
 use lib.Ieee.{Float, ofBits, binary64}
-use Rattle.counts.specs.Refusal.{Verdict}
+use Rattle.base.specs.declared.verdict.Verdict.{Verdict}
 use Rattle.counts.specs.Solver.{Move, none, made, Round, round-of, Solve, solve-of, Energy, energy-of, Hold, hold-of}
 use Rattle.counts.specs.declared.answer.SolveAnswer.{SolveAnswer}
 use Rattle.counts.specs.declared.answer.RoundAnswer.{RoundAnswer}
 use Rattle.counts.specs.declared.answer.EnergyAnswer.{EnergyAnswer}
 use Rattle.counts.specs.declared.answer.HoldAnswer.{HoldAnswer}
-use Rattle.curves.specs.Answers.{Answer, good, turned-away, verdict, root-of}
+use Rattle.base.specs.Answers.{Answer, good, turned-away, verdict}
+use Rattle.floats.specs.Root.{root-of}
 use Rattle.curves.specs.Coons.{Outcome, outcome-of}
 use Rattle.curves.specs.declared.coons.GridAnswer.{GridAnswer}
-use Rattle.curves.specs.declared.root.RootAnswer.{RootAnswer}
+use Rattle.floats.specs.declared.root.RootAnswer.{RootAnswer}
 
 -- ---- what is stored
 

@@ -6,7 +6,8 @@ ghost use mathlib.Core.Path.{_≡_};
 ghost use mathlib.Core.List.{[], _∷_};
 ghost use Rattle.counts.specs.Cost.{by, within};
 ghost use Rattle.counts.specs.Solver.{solve, round, energy, constraints-hold};
-ghost use Rattle.curves.specs.Answers.{verdict, root-answer};
+ghost use Rattle.base.specs.Answers.{verdict};
+ghost use Rattle.floats.specs.Root.{root-answer};
 ghost use Rattle.curves.specs.Grid.{seams};
 ghost use Rattle.curves.specs.Coons.{coons-seamed, coons-quads};
 ghost use Rattle.curves.specs.Lay.{field, lay};
@@ -119,7 +120,7 @@ pub extern "C" fn juplatsk_root(x: f64, root: &mut [f64; 1]) -> u32
     ensures { λ r. ⌜ r ≡ verdict (root-answer x) .number ⌝ }
     ensures { λ _. ⌜ now (root .exit) ≡ root-value (root-answer x) ∷ [] ⌝ }
 {
-    let taken = curves::root::root(x);
+    let taken = floats::root::root(x);
     tell_root(taken, root)
 }
 

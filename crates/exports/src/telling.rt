@@ -2,15 +2,15 @@
 ghost use mathlib.Core.Path.{_≡_};
 ghost use mathlib.Core.List.{[], _∷_};
 ghost use Rattle.exports.specs.Told.{flag as flag-of, TellsSolve, TellsHold, TellsGrid, TellsEnergy, TellsRound, TellsRoot};
+use base::verdict::Verdict;
+use base::verdict::accepted;
+use base::verdict::verdict_of;
 use counts::answer::EnergyAnswer;
 use counts::answer::HoldAnswer;
 use counts::answer::RoundAnswer;
 use counts::answer::SolveAnswer;
 use curves::coons::GridAnswer;
-use curves::root::RootAnswer;
-use verdict::Verdict;
-use verdict::accepted;
-use verdict::verdict_of;
+use floats::root::RootAnswer;
 
 // Both places and one value.
 fn tell(verdict: Verdict, value: u32, answer: &mut [u32; 3]) -> u32

@@ -5,7 +5,7 @@ use Rattle.counts.specs.Accept.{first-bad}
 use Rattle.counts.specs.Region.{constraints}
 use Rattle.counts.specs.Cost.{edge-delta, range-delta}
 use Rattle.counts.specs.Solver.{solve, round}
-use Rattle.curves.specs.Answers.{root-answer}
+use Rattle.floats.specs.Root.{root-answer}
 use Rattle.curves.specs.Curve.{cumulative-of}
 use Rattle.curves.specs.Grid.{row-of}
 use Rattle.curves.specs.Coons.{coons-curves, coons-from-parameters}

@@ -1,5 +1,5 @@
 -- 01's bench cases: what is asked, and what is answered and left, whole. A to F and H to L are those that 01 wants proved together; G, which runs, is among them too,
--- and so are a few of 02's. Definitions only.
+-- and so are a few of 02's. Assumes nothing.
 use mathlib.Core.Path.{_≡_}
 use mathlib.Core.Bool.{true, false}
 use mathlib.Core.List.{List, [], _∷_, _++_}
@@ -7,13 +7,14 @@ use Prim.Native.Nat.{ℕ, _+_, _-_, _*_}
 use lib.ListN.{length, replicate}
 use lib.IntN.{negsuc}
 use lib.Ieee.{Float, nan, fin, binary64, ofBits}
-use Rattle.counts.specs.Refusal.{passed, refused}
+use Rattle.base.specs.Refusal.{passed, refused}
 use Rattle.counts.specs.Region.{places}
 use Rattle.counts.specs.Cost.{real, Spacing, by, within}
 use Rattle.counts.specs.Solver.{none, made, Round, round, Solve, solve}
-use Rattle.curves.specs.Scalar.{nought, half, one}
-use Rattle.curves.specs.Lists.{tab}
-use Rattle.curves.specs.Answers.{Answer, good, root-answer}
+use Rattle.floats.specs.Scalar.{nought, half, one}
+use Rattle.base.specs.Buffers.{tab}
+use Rattle.base.specs.Answers.{Answer, good}
+use Rattle.floats.specs.Root.{root-answer}
 use Rattle.curves.specs.Point.{signed-area}
 use Rattle.curves.specs.Curve.{point-at}
 use Rattle.curves.specs.Grid.{Seams, seams}

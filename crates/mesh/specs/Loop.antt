@@ -1,11 +1,12 @@
--- 000's `BoundaryCurves::from_loop`: a closed loop of points, "lent as x, y in turn", what is refused of it, and the four curves that it falls into. Definitions only.
+-- 000's `BoundaryCurves::from_loop`: a closed loop of points, "lent as x, y in turn", what is refused of it, and the four curves that it falls into. Assumes nothing.
 use mathlib.Core.Bool.{Bool, not, _&&_, _||_, cond}
 use mathlib.Core.List.{List, _++_}
 use Prim.Native.Nat.{ℕ, _+_, _-_, _*_, _/_, _%_}
 use lib.ListN.{length, getD, take, drop}
 use lib.Dec.{leb, ltb, eqb}
 use lib.Ieee.{Float, nan, eq}
-use Rattle.counts.specs.Refusal.{Verdict, refused, then-test, refuse-if}
+use Rattle.base.specs.declared.verdict.Verdict.{Verdict}
+use Rattle.base.specs.Refusal.{refused, then-test, refuse-if}
 use Rattle.curves.specs.Curve.{point-count}
 
 -- ---- the points used

@@ -1,12 +1,13 @@
--- A tile's mesh: "x, y, +0.0 for each grid point, rows from the bottom, and four point indices (32 bits) for each quad, counter-clockwise from its lower left". Definitions only.
+-- A tile's mesh: "x, y, +0.0 for each grid point, rows from the bottom, and four point indices (32 bits) for each quad, counter-clockwise from its lower left". Assumes nothing.
 use mathlib.Core.Bool.{Bool, _&&_, cond}
 use mathlib.Core.List.{List, [], _∷_}
 use Prim.Native.Nat.{ℕ, _+_, _*_}
 use lib.ListN.{length}
 use lib.Dec.{leb}
 use lib.Ieee.{Float}
-use Rattle.counts.specs.Refusal.{Verdict, is-passed}
-use Rattle.curves.specs.Lists.{tab, cat, splice}
+use Rattle.base.specs.declared.verdict.Verdict.{Verdict}
+use Rattle.base.specs.Refusal.{is-passed}
+use Rattle.base.specs.Buffers.{tab, cat, splice}
 use Rattle.curves.specs.Coons.{Outcome, outcome-of, coons-nodes}
 use Rattle.curves.specs.declared.coons.GridAnswer.{GridAnswer}
 

@@ -1,11 +1,12 @@
--- 000's functions on a tile given by a closed loop of points: "Geometry: 1, 12, 26, curve by curve 13 to 15, ..". Definitions only.
+-- 000's functions on a tile given by a closed loop of points: "Geometry: 1, 12, 26, curve by curve 13 to 15, ..". Assumes nothing.
 use mathlib.Core.Bool.{_||_}
 use mathlib.Core.List.{List}
 use Prim.Native.Nat.{ℕ}
 use lib.Dec.{ltb}
 use lib.Ieee.{Float}
-use Rattle.counts.specs.Refusal.{Verdict, refused, then-test, refuse-if}
-use Rattle.curves.specs.Tests.{if-passed}
+use Rattle.base.specs.declared.verdict.Verdict.{Verdict}
+use Rattle.base.specs.Refusal.{refused, then-test, refuse-if}
+use Rattle.base.specs.Tests.{if-passed}
 use Rattle.curves.specs.Coons.{Outcome, refusal, unless, coons-quads}
 use Rattle.mesh.specs.Loop.{loop-test, piece}
 use Rattle.mesh.specs.Mesh.{Mesh, mesh-tile-curves}

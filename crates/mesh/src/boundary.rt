@@ -2,11 +2,11 @@
 // 12), and the quarters that it falls into. The natural loop of 8 points or more repeats its first point at the end; that one is dropped.
 ghost use mathlib.Core.Path.{_≡_};
 ghost use Prim.Native.Nat.{_<_, _≤_};
-ghost use Rattle.counts.specs.Refusal.{outcome};
+ghost use Rattle.base.specs.Refusal.{outcome};
 ghost use Rattle.curves.specs.Curve.{point-count};
 ghost use Rattle.mesh.specs.Loop.{closes, points-used, fours-test, loop-test, quarter};
-use counts::refusal::Check;
-use counts::refusal::Refusal;
+use base::refusal::Check;
+use base::refusal::Refusal;
 
 const MAX_POINTS: usize = 4_096;
 

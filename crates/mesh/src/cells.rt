@@ -2,10 +2,10 @@
 ghost use mathlib.Core.Path.{_≡_};
 ghost use Prim.Native.Nat.{_+_, _*_, _<_, _≤_};
 ghost use lib.ListN.{length};
-ghost use Rattle.counts.specs.Refusal.{verdict-of};
-ghost use Rattle.curves.specs.Lists.{splice};
+ghost use Rattle.base.specs.Refusal.{verdict-of};
+ghost use Rattle.base.specs.Buffers.{splice};
 ghost use Rattle.mesh.specs.Mesh.{row-cells, mesh-cells, no-cells, zeroes};
-use counts::refusal::Refusal;
+use base::refusal::Refusal;
 
 // Writes the n cells of row j, from an index on.
 fn write_row(n: u32, j: u32, from: usize, cells: &mut [u32])

@@ -2,9 +2,9 @@
 // compared whole with what should be written to it and what should be left.
 use crate::reading;
 use crate::reading::INPUT;
+use base::verdict::Verdict;
 use curves::coons::GridAnswer;
-use curves::root::RootAnswer;
-use verdict::Verdict;
+use floats::root::RootAnswer;
 
 // The longest lists of any case: two records, 257 counts, 18 breaks, 1,025 points of a curve, 1,026 values of a seam, 4,098 points of a
 // loop. The longest outputs have the quads of 1,025 by 2 cells, and the points and the cells of a mesh of 1,024 by 1 with one value more.
@@ -34,11 +34,11 @@ struct RootResult {
 fn root_result(answer: RootAnswer) -> RootResult {
     match answer {
         RootAnswer::Value(value) => {
-            let verdict = verdict::accepted();
+            let verdict = base::verdict::accepted();
             RootResult { verdict, value }
         }
         RootAnswer::Refused(refusal) => {
-            let verdict = verdict::verdict_of(refusal);
+            let verdict = base::verdict::verdict_of(refusal);
             RootResult {
                 verdict,
                 value: 0.0,
@@ -62,7 +62,7 @@ fn is_root(case: &[u8], at: usize, answer: RootAnswer) -> bool {
 
 pub(crate) fn root(case: &[u8]) -> bool {
     let x = reading::float(case, INPUT);
-    let answer = curves::root::root(x);
+    let answer = floats::root::root(x);
     is_root(case, reading::past_float(INPUT), answer)
 }
 
@@ -74,11 +74,11 @@ struct GridResult {
 fn grid_result(answer: GridAnswer) -> GridResult {
     match answer {
         GridAnswer::Made(quads) => {
-            let verdict = verdict::accepted();
+            let verdict = base::verdict::accepted();
             GridResult { verdict, quads }
         }
         GridAnswer::Refused(refusal) => {
-            let verdict = verdict::verdict_of(refusal);
+            let verdict = base::verdict::verdict_of(refusal);
             GridResult { verdict, quads: 0 }
         }
     }

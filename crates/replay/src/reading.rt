@@ -2,7 +2,7 @@
 // case that is cut off compares as different. The layout is that of compare/README.md.
 ghost use Prim.Native.Nat.{_<_, _≤_};
 ghost use Rattle.replay.specs.Counting.{Counts};
-use verdict::Verdict;
+use base::verdict::Verdict;
 
 // The first position behind the operation.
 pub(crate) const INPUT: usize = 4;

@@ -2,11 +2,11 @@
 // leaves with what the case has.
 use crate::reading;
 use crate::reading::INPUT;
+use base::verdict::Verdict;
 use counts::answer::EnergyAnswer;
 use counts::answer::HoldAnswer;
 use counts::answer::RoundAnswer;
 use counts::answer::SolveAnswer;
-use verdict::Verdict;
 
 // The longest lists of any case: 130 records, 320 edges.
 const PLACES: usize = 8840;
@@ -21,11 +21,11 @@ struct SolveResult {
 fn solve_result(answer: SolveAnswer) -> SolveResult {
     match answer {
         SolveAnswer::Moves(moves) => {
-            let verdict = verdict::accepted();
+            let verdict = base::verdict::accepted();
             SolveResult { verdict, moves }
         }
         SolveAnswer::Refused(refusal) => {
-            let verdict = verdict::verdict_of(refusal);
+            let verdict = base::verdict::verdict_of(refusal);
             SolveResult { verdict, moves: 0 }
         }
     }
@@ -125,7 +125,7 @@ struct RoundResult {
 fn round_result(answer: RoundAnswer) -> RoundResult {
     match answer {
         RoundAnswer::Moved(cost, cut) => {
-            let verdict = verdict::accepted();
+            let verdict = base::verdict::accepted();
             RoundResult {
                 verdict,
                 moved: true,
@@ -134,7 +134,7 @@ fn round_result(answer: RoundAnswer) -> RoundResult {
             }
         }
         RoundAnswer::Idle(cut) => {
-            let verdict = verdict::accepted();
+            let verdict = base::verdict::accepted();
             RoundResult {
                 verdict,
                 moved: false,
@@ -143,7 +143,7 @@ fn round_result(answer: RoundAnswer) -> RoundResult {
             }
         }
         RoundAnswer::Refused(refusal) => {
-            let verdict = verdict::verdict_of(refusal);
+            let verdict = base::verdict::verdict_of(refusal);
             RoundResult {
                 verdict,
                 moved: false,
@@ -272,11 +272,11 @@ struct EnergyResult {
 fn energy_result(answer: EnergyAnswer) -> EnergyResult {
     match answer {
         EnergyAnswer::Total(total) => {
-            let verdict = verdict::accepted();
+            let verdict = base::verdict::accepted();
             EnergyResult { verdict, total }
         }
         EnergyAnswer::Refused(refusal) => {
-            let verdict = verdict::verdict_of(refusal);
+            let verdict = base::verdict::verdict_of(refusal);
             EnergyResult {
                 verdict,
                 total: 0.0,
@@ -316,11 +316,11 @@ struct HoldResult {
 fn hold_result(answer: HoldAnswer) -> HoldResult {
     match answer {
         HoldAnswer::Holds(holds) => {
-            let verdict = verdict::accepted();
+            let verdict = base::verdict::accepted();
             HoldResult { verdict, holds }
         }
         HoldAnswer::Refused(refusal) => {
-            let verdict = verdict::verdict_of(refusal);
+            let verdict = base::verdict::verdict_of(refusal);
             HoldResult {
                 verdict,
                 holds: false,

@@ -2,8 +2,8 @@
 use borrow.Author.Needs.{needs}
 use denote.Ref.{now}
 use lib.ListN.{length}
-use Rattle.counts.proofs.AcceptLaws.{limits-passed}
-use Rattle.counts.proofs.RefusalLaws.{was-passed}
+use Rattle.counts.proofs.check.Laws.{limits-passed}
+use Rattle.base.proofs.TestLaws.{was-passed}
 use Rattle.counts.proofs.SolverLaws.{hold-refused, hold-answered}
 use Rattle.counts.proofs.constraints_hold.Statement.{statement}
 use Rattle.counts.proofs.constraints_hold.Tie as tie

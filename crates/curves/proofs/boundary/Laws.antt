@@ -5,17 +5,17 @@ use mathlib.Core.List.{List}
 use Prim.Native.Nat.{ℕ}
 use lib.Dec.{T}
 use lib.Ieee.{Float}
-use Rattle.counts.specs.Refusal.{Verdict, verdict-of, outcome, is-passed, then-test}
-use Rattle.counts.specs.declared.refusal.Check.{Check}
-use Rattle.counts.specs.declared.refusal.Check.the-variants.{Passed, Refused}
-use Rattle.counts.specs.declared.refusal.Refusal.{Refusal}
+use Rattle.base.specs.declared.verdict.Verdict.{Verdict}
+use Rattle.base.specs.Refusal.{verdict-of, outcome, is-passed, then-test}
+use Rattle.base.specs.declared.refusal.Check.{Check}
+use Rattle.base.specs.declared.refusal.Check.the-variants.{Passed, Refused}
+use Rattle.base.specs.declared.refusal.Refusal.{Refusal}
 use Rattle.curves.specs.Curve.{curve, cumulative-of, Sampled, curve-test}
 use Rattle.curves.specs.Boundary.{boundary, boundary-of, boundary-ends, ends-test, curves-test, checked-curves, joined-of, joined-curves}
-use Rattle.curves.specs.Answers.{Answer, good, turned-away, verdict}
+use Rattle.base.specs.Answers.{Answer, good, turned-away, verdict}
 use Rattle.curves.specs.declared.boundary.BoundaryEnds.{BoundaryEnds}
 use Rattle.curves.specs.declared.boundary.BoundaryAnswer.the-variants as boundary-answer
-use Rattle.counts.proofs.RefusalLaws.{then-left, refusal-number, chain-stops, chain-goes-on}
-use Rattle.curves.proofs.TestLaws.{in-four, four-passed, told-passed, both-passed, follows, refuses}
+use Rattle.base.proofs.TestLaws.{then-left, refusal-number, chain-stops, chain-goes-on, in-four, four-passed, told-passed, both-passed, follows, refuses}
 use Rattle.curves.proofs.curve.Rise.{sampled}
 
 -- ---- the chain over the four curves, as the code makes it from its end

@@ -6,17 +6,17 @@ use native.Mathlib.Nat.{zero-add}
 use native.Mathlib.Omega.{arith}
 use lib.ListN.{length, getD, set, List·getD-append}
 use lib.Ieee.{Float, nan}
-use Rattle.curves.specs.Lists.{cat, splice}
-use Rattle.curves.specs.Scalar.{clamp-unit}
+use Rattle.base.specs.Buffers.{cat, splice}
+use Rattle.floats.specs.Scalar.{clamp-unit}
 use Rattle.curves.specs.Curve.{ArcCurve}
 use Rattle.curves.specs.Point.{values}
 use Rattle.curves.specs.Patch.{column-at, patch-point}
-use Rattle.curves.specs.Columns.{column-values, stored-column, seam-column, Table}
+use Rattle.curves.specs.inner.Columns.{column-values, stored-column, seam-column, Table}
 use Rattle.curves.specs.declared.boundary.Ends.{Ends}
 use Rattle.curves.specs.declared.patch.Column.{Column}
 use Rattle.curves.specs.declared.patch.Row.{Row}
 use Rattle.curves.specs.declared.point.Point.{Point}
-use Rattle.curves.proofs.ListLaws.{splice-none, store-next, length-cat, getD-cat, cat-step, pair-step}
+use Rattle.base.proofs.BufferLaws.{splice-none, store-next, length-cat, getD-cat, cat-step, pair-step}
 
 module _ {A : Type 0} where
   pub store-nine : (d : List A) (from : ℕ) (a b c e f g h i j : A) → from + 9 ≤ length d

@@ -9,22 +9,22 @@ use lib.ListN.{length, take}
 use lib.Dec.{T, T-not, ltb, eqb, eqb→eq}
 use lib.Ieee.{Float}
 use borrow.Author.Tests.{lt-ltb, le-ltb, ltb-false}
-use Rattle.counts.specs.Refusal.{Verdict, passed, refused, verdict-of, outcome, is-passed, then-test, refuse-if}
-use Rattle.counts.specs.declared.refusal.Check.{Check}
-use Rattle.counts.specs.declared.refusal.Check.the-variants.{Passed, Refused}
-use Rattle.counts.specs.declared.refusal.Refusal.{Refusal}
-use Rattle.counts.specs.declared.refusal.Refusal.the-variants as because
-use Rattle.counts.proofs.BoolLaws.{not-T-false}
-use Rattle.counts.proofs.RefusalLaws.{then-left, then-right, not-refused, was-passed, chain-stops, chain-goes-on}
-use Rattle.curves.specs.Lists.{splice}
+use Rattle.base.specs.declared.verdict.Verdict.{Verdict}
+use Rattle.base.specs.Refusal.{passed, refused, verdict-of, outcome, is-passed, then-test, refuse-if}
+use Rattle.base.specs.declared.refusal.Check.{Check}
+use Rattle.base.specs.declared.refusal.Check.the-variants.{Passed, Refused}
+use Rattle.base.specs.declared.refusal.Refusal.{Refusal}
+use Rattle.base.specs.declared.refusal.Refusal.the-variants as because
+use Rattle.base.proofs.BoolLaws.{not-T-false}
+use Rattle.base.proofs.TestLaws.{then-left, then-right, not-refused, was-passed, chain-stops, chain-goes-on, in-turn, told-passed, both-passed, four-passed, follows, refuses}
+use Rattle.base.specs.Buffers.{splice}
 use Rattle.curves.specs.Boundary.{BoundaryCurves}
 use Rattle.curves.specs.Seam.{uniform-parameters, seam-test, pair-test, seams-test}
 use Rattle.curves.specs.Grid.{Seams, seams, n-u, n-v, Grid, grid-of, grid-test, needed}
 use Rattle.curves.specs.Coons.{Outcome, outcome-of, refusal, unless, filled, seams-and-room-test, grid-stage, curve-limit, curves-limit, seam-limit, seams-limit, cells-limit, coons-from-parameters}
 use Rattle.curves.specs.declared.grid.Layout.{Layout}
 use Rattle.curves.specs.declared.coons.GridAnswer.the-variants as grid-answer
-use Rattle.curves.proofs.ListLaws.{length-tab, take-splice}
-use Rattle.curves.proofs.TestLaws.{in-turn, told-passed, both-passed, four-passed, follows, refuses}
+use Rattle.base.proofs.BufferLaws.{length-tab, take-splice}
 use Rattle.curves.proofs.grid.Filled.{good-grid, no-grid}
 
 -- ---- an answer, by the tests before it

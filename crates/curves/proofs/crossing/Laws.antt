@@ -4,9 +4,9 @@ use mathlib.Core.Bool.{Bool, true, false, _&&_, cond}
 use Prim.Native.Nat.{ℕ}
 use lib.Dec.{T}
 use lib.Ieee.{Float, lt}
-use Rattle.counts.specs.Refusal.{refused, is-passed}
-use Rattle.curves.specs.Answers.{Answer, good, turned-away, verdict}
-use Rattle.curves.specs.Scalar.{e-12, float-abs, clamp-unit, in-unit}
+use Rattle.base.specs.Refusal.{refused, is-passed}
+use Rattle.base.specs.Answers.{Answer, good, turned-away, verdict}
+use Rattle.floats.specs.Scalar.{e-12, float-abs, clamp-unit, in-unit}
 use Rattle.curves.specs.Point.{point}
 use Rattle.curves.specs.Crossing.{denominator, crossing-u, crossing-v, inside-or-refused, logical-intersection}
 use Rattle.curves.specs.declared.point.Point.{Point}

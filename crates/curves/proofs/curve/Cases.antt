@@ -2,8 +2,8 @@
 use mathlib.Core.Path.{_≡_, refl}
 use mathlib.Core.List.{List, [], _∷_}
 use lib.Ieee.{Float, binary64, ofBits}
-use Rattle.counts.specs.Refusal.{passed}
-use Rattle.curves.specs.Scalar.{nought, half, one}
+use Rattle.base.specs.Refusal.{passed}
+use Rattle.floats.specs.Scalar.{nought, half, one}
 use Rattle.curves.specs.Point.{point}
 use Rattle.curves.specs.Curve.{cumulative-of, arc-curve, curve-at, curve-test}
 

@@ -9,12 +9,12 @@ use lib.Seq.{drop-cons}
 use lib.Dec.{ltb}
 use lib.Ieee.{Float, nan, binary64, add}
 use borrow.Author.Tests.{lt-ltb, le-ltb}
-use Rattle.counts.specs.Refusal.{refused, then-test, refuse-if}
-use Rattle.curves.specs.Scalar.{is-finite}
-use Rattle.curves.specs.Lists.{splice}
+use Rattle.base.specs.Refusal.{refused, then-test, refuse-if}
+use Rattle.floats.specs.Scalar.{is-finite}
+use Rattle.base.specs.Buffers.{splice}
 use Rattle.curves.specs.Curve.{point-count, point-at, distance, length-to, total-length, cumulative-of, all-finite, total-test, curve-test}
 use Rattle.curves.specs.declared.point.Point.{Point}
-use Rattle.curves.proofs.ListLaws.{length-tab, take-splice}
+use Rattle.base.proofs.BufferLaws.{length-tab, take-splice}
 
 -- ---- every value is finite
 

@@ -9,7 +9,7 @@ use lib.Dec.{ltb}
 use lib.ListN.{length, getD}
 use lib.Ieee.{Float, nan, lt, le}
 use Rattle.curves.specs.Curve.{segment-at, Rising, InSegment}
-use Rattle.curves.proofs.scalar.Order.{le-le, lt-le, lt-not-le}
+use Rattle.floats.proofs.scalar.Order.{le-le, lt-le, lt-not-le}
 use Rattle.curves.proofs.curve.Halving.{halved, step-right, step-left, stop}
 
 module _ (c : List Float) (target : Float) (rises : Rising c) where

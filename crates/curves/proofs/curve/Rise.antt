@@ -14,16 +14,16 @@ use lib.Ieee.{Float, nan, inf, fin, Format, binary64, up, down, round, sum, add,
 use lib.Ieee.Fits.{and-l, down-pos, round-fits}
 use lib.Ieee.Order.{round-mono}
 use lib.Ieee.Scale.{grid, finite, round-val, round-under}
-use Rattle.counts.specs.Refusal.{refused, is-passed, then-test, refuse-if}
-use Rattle.counts.proofs.BoolLaws.{T-true, not-T-false}
-use Rattle.counts.proofs.RefusalLaws.{then-left, then-right, not-refused}
-use Rattle.curves.specs.Scalar.{nought, is-finite, is-positive}
-use Rattle.curves.specs.Lists.{tab}
-use Rattle.curves.specs.Root.{among, rounded, root}
+use Rattle.base.specs.Refusal.{refused, is-passed, then-test, refuse-if}
+use Rattle.base.proofs.BoolLaws.{T-true, not-T-false}
+use Rattle.base.proofs.TestLaws.{then-left, then-right, not-refused}
+use Rattle.floats.specs.Scalar.{nought, is-finite, is-positive}
+use Rattle.base.specs.Buffers.{tab}
+use Rattle.floats.specs.Root.{among, rounded, root}
 use Rattle.curves.specs.Curve.{point-count, point-at, distance, length-to, total-length, cumulative-of, Rising, Sampled, all-finite, total-test, curve-test}
 use Rattle.curves.specs.declared.point.Point.{Point}
-use Rattle.curves.proofs.root.Amounts.{among-of}
-use Rattle.curves.proofs.scalar.Exact.{round-own}
+use Rattle.floats.proofs.root.Amounts.{among-of}
+use Rattle.floats.proofs.scalar.Exact.{round-own}
 use Rattle.curves.proofs.curve.Laws.{length-cumulative}
 
 -- ---- a distance is not below zero

@@ -7,20 +7,20 @@ use native.Mathlib.Omega.{arith}
 use lib.ListN.{length, take}
 use lib.Dec.{T}
 use lib.Ieee.{Float}
-use Rattle.counts.specs.Refusal.{Verdict, passed, outcome, is-passed}
-use Rattle.counts.specs.declared.refusal.Check.{Check}
-use Rattle.counts.specs.declared.refusal.Check.the-variants.{Passed, Refused}
-use Rattle.counts.specs.declared.refusal.Refusal.{Refusal}
-use Rattle.counts.proofs.RefusalLaws.{refusal-number, chain-stops, chain-goes-on}
-use Rattle.curves.specs.Lists.{cat, splice}
-use Rattle.curves.specs.Tests.{first-of}
+use Rattle.base.specs.declared.verdict.Verdict.{Verdict}
+use Rattle.base.specs.Refusal.{passed, outcome, is-passed}
+use Rattle.base.specs.declared.refusal.Check.{Check}
+use Rattle.base.specs.declared.refusal.Check.the-variants.{Passed, Refused}
+use Rattle.base.specs.declared.refusal.Refusal.{Refusal}
+use Rattle.base.proofs.TestLaws.{refusal-number, chain-stops, chain-goes-on, first-start, first-next, first-stops, first-done, follows, refuses}
+use Rattle.base.specs.Buffers.{cat, splice}
+use Rattle.base.specs.Tests.{first-of}
 use Rattle.curves.specs.Quad.{zeros}
 use Rattle.curves.specs.Grid.{Row, Grid, row-points, row-test, points-test, quads-test, grid-test, grid-part, grid-values, needed}
-use Rattle.curves.specs.Rows.{Laid}
+use Rattle.curves.specs.inner.Rows.{Laid}
 use Rattle.curves.specs.Coons.{Outcome, refusal, filled}
 use Rattle.curves.specs.declared.grid.Layout.{Layout}
-use Rattle.curves.proofs.ListLaws.{take-splice}
-use Rattle.curves.proofs.TestLaws.{first-start, first-next, first-stops, first-done, follows, refuses}
+use Rattle.base.proofs.BufferLaws.{take-splice}
 use Rattle.curves.proofs.rows.Laws.{length-row-points, rows-written, rows-cleared}
 
 -- the front of the buffer that a row was written to

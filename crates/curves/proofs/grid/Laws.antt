@@ -8,28 +8,28 @@ use lib.ListN.{length, getD, set, take}
 use lib.Seq.{getD-take}
 use lib.Dec.{T}
 use lib.Ieee.{Float, nan}
-use Rattle.counts.specs.Refusal.{passed, outcome, is-passed}
-use Rattle.counts.specs.declared.refusal.Check.the-variants.{Passed, Refused}
-use Rattle.counts.specs.declared.refusal.Refusal.{Refusal}
-use Rattle.curves.specs.Answers.{Answer, good, turned-away, verdict}
-use Rattle.curves.specs.Lists.{cat, splice}
-use Rattle.curves.specs.Tests.{first-of}
-use Rattle.curves.specs.Scalar.{clamp-unit}
+use Rattle.base.specs.Refusal.{passed, outcome, is-passed}
+use Rattle.base.specs.declared.refusal.Check.the-variants.{Passed, Refused}
+use Rattle.base.specs.declared.refusal.Refusal.{Refusal}
+use Rattle.base.specs.Answers.{Answer, good, turned-away, verdict}
+use Rattle.base.specs.Buffers.{cat, splice}
+use Rattle.base.specs.Tests.{first-of}
+use Rattle.floats.specs.Scalar.{clamp-unit}
 use Rattle.curves.specs.Point.{point, values, point-of}
 use Rattle.curves.specs.Curve.{point-at}
 use Rattle.curves.specs.Boundary.{BoundaryCurves, curve-ends}
 use Rattle.curves.specs.Patch.{coons-point, column-at, row-at, patch-point}
-use Rattle.curves.specs.Columns.{stored-column, Table, level-points}
+use Rattle.curves.specs.inner.Columns.{stored-column, Table, level-points}
 use Rattle.curves.specs.Grid.{mapped, Row, crossings, row-of, coordinates, row-points, row-test}
-use Rattle.curves.specs.Rows.{mapped-points}
+use Rattle.curves.specs.inner.Rows.{mapped-points}
 use Rattle.curves.specs.declared.boundary.Ends.{Ends}
 use Rattle.curves.specs.declared.patch.Column.{Column}
 use Rattle.curves.specs.declared.patch.Row.{Row as PatchRow}
 use Rattle.curves.specs.declared.point.Point.{Point}
 use Rattle.curves.specs.declared.point.PointAnswer.{PointAnswer}
 use Rattle.curves.specs.declared.point.PointAnswer.the-variants.{At, Refused as NoPoint}
-use Rattle.curves.proofs.ListLaws.{splice-none, length-cat, cat-same, getD-cat, pair-step, splice-past}
-use Rattle.curves.proofs.TestLaws.{first-start, first-next, first-stops, first-done, first-same, first-all, first-each}
+use Rattle.base.proofs.BufferLaws.{splice-none, length-cat, cat-same, getD-cat, pair-step, splice-past}
+use Rattle.base.proofs.TestLaws.{first-start, first-next, first-stops, first-done, first-same, first-all, first-each}
 use Rattle.curves.proofs.crossing.Laws.{There, crossing-there}
 use Rattle.curves.proofs.patch.Laws.{split-patch}
 use Rattle.curves.proofs.columns.Laws.{level-point}

@@ -6,26 +6,27 @@ use native.Mathlib.Omega.{arith}
 use lib.ListN.{length, getD, take}
 use lib.Dec.{T}
 use lib.Ieee.{Float, nan}
-use Rattle.counts.specs.Refusal.{Verdict, passed, outcome, is-passed}
-use Rattle.counts.specs.declared.refusal.Check.{Check}
-use Rattle.counts.specs.declared.refusal.Check.the-variants.{Passed, Refused}
-use Rattle.counts.specs.declared.refusal.Refusal.{Refusal}
-use Rattle.curves.specs.Answers.{Answer, good}
-use Rattle.curves.specs.Lists.{splice}
-use Rattle.curves.specs.Scalar.{clamp-unit}
+use Rattle.base.specs.declared.verdict.Verdict.{Verdict}
+use Rattle.base.specs.Refusal.{passed, outcome, is-passed}
+use Rattle.base.specs.declared.refusal.Check.{Check}
+use Rattle.base.specs.declared.refusal.Check.the-variants.{Passed, Refused}
+use Rattle.base.specs.declared.refusal.Refusal.{Refusal}
+use Rattle.base.specs.Answers.{Answer, good}
+use Rattle.base.specs.Buffers.{splice}
+use Rattle.floats.specs.Scalar.{clamp-unit}
 use Rattle.curves.specs.Point.{point}
 use Rattle.curves.specs.Crossing.{logical-intersection}
 use Rattle.curves.specs.Boundary.{BoundaryCurves, curve-ends}
 use Rattle.curves.specs.Patch.{row-at}
-use Rattle.curves.specs.Columns.{Table, level-points}
-use Rattle.curves.specs.Level.{Plain, Straight, Upright}
+use Rattle.curves.specs.inner.Columns.{Table, level-points}
+use Rattle.curves.specs.inner.Level.{Plain, Straight, Upright}
 use Rattle.curves.specs.Grid.{crossings, row-of, row-points, row-test}
-use Rattle.curves.specs.Rows.{mapped-points}
+use Rattle.curves.specs.inner.Rows.{mapped-points}
 use Rattle.curves.specs.declared.boundary.Ends.{Ends}
 use Rattle.curves.specs.declared.patch.Row.{Row as PatchRow}
 use Rattle.curves.specs.declared.point.Point.{Point}
-use Rattle.curves.proofs.ListLaws.{splice-over}
-use Rattle.curves.proofs.TestLaws.{told-passed}
+use Rattle.base.proofs.BufferLaws.{splice-over}
+use Rattle.base.proofs.TestLaws.{told-passed}
 use Rattle.curves.proofs.level.Laws.{level-crossing}
 use Rattle.curves.proofs.grid.Laws.{mapped-row, mapped-test, level-row}
 use Rattle.curves.proofs.grid.Filled.{row-part-read}

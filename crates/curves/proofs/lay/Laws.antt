@@ -10,28 +10,28 @@ use lib.Ieee.{Float}
 use lib.Ieee.Fits.{and-l, and-r}
 use lib.ListN.{length, getD, set, take, drop, length-append}
 use lib.Seq.{take-all, take-at}
-use Rattle.counts.specs.Lists.{all}
-use Rattle.counts.specs.Refusal.{Verdict, refused, verdict-of, outcome, is-passed, then-test, refuse-if}
+use Rattle.base.specs.Lists.{all}
+use Rattle.base.specs.declared.verdict.Verdict.{Verdict}
+use Rattle.base.specs.Refusal.{refused, verdict-of, outcome, is-passed, then-test, refuse-if}
 use Rattle.counts.specs.Region.{places, side, side-sum}
 use Rattle.counts.specs.Accept.{sides-fit, limits-test}
-use Rattle.counts.specs.declared.refusal.Check.{Check}
-use Rattle.counts.specs.declared.refusal.Check.the-variants.{Passed, Refused}
-use Rattle.counts.specs.declared.refusal.Refusal.{Refusal}
-use Rattle.counts.specs.declared.refusal.Refusal.the-variants as because
-use Rattle.counts.proofs.BoolLaws.{T-true}
-use Rattle.counts.proofs.RefusalLaws.{then-left, then-right, not-refused}
-use Rattle.counts.proofs.AcceptLaws.{limits-passed, whole-sides, side-few}
+use Rattle.base.specs.declared.refusal.Check.{Check}
+use Rattle.base.specs.declared.refusal.Check.the-variants.{Passed, Refused}
+use Rattle.base.specs.declared.refusal.Refusal.{Refusal}
+use Rattle.base.specs.declared.refusal.Refusal.the-variants as because
+use Rattle.base.proofs.BoolLaws.{T-true}
+use Rattle.base.proofs.TestLaws.{then-left, then-right, not-refused, four-passed, told-passed}
+use Rattle.counts.proofs.check.Laws.{limits-passed, whole-sides, side-few}
 use Rattle.counts.proofs.SolverLaws.{side-short}
-use Rattle.counts.proofs.Turns.{drop-at}
-use Rattle.curves.specs.Lists.{splice}
+use Rattle.base.proofs.Turns.{drop-at}
+use Rattle.base.specs.Buffers.{splice}
 use Rattle.curves.specs.Seam.{edge-values, seam-from, side-seam}
 use Rattle.curves.specs.Grid.{Seams, seams}
 use Rattle.curves.specs.Coons.{Outcome, outcome-of, curves-limit, seam-limit, seams-limit, coons-from-parameters}
 use Rattle.curves.specs.Lay.{Field, counts-along, seam-of, seams-of, record-test, edges-test, breaks-test, sides-test, lay-test, lay}
 use Rattle.curves.specs.declared.grid.Layout.the-variants.{Quads}
 use Rattle.curves.specs.declared.coons.GridAnswer.the-variants as grid-answer
-use Rattle.curves.proofs.ListLaws.{part-written, set-splice}
-use Rattle.curves.proofs.TestLaws.{four-passed, told-passed}
+use Rattle.base.proofs.BufferLaws.{part-written, set-splice}
 use Rattle.curves.proofs.coons.Laws.{turned-away, goes-on}
 use Rattle.curves.proofs.seam.Laws.{length-edge}
 

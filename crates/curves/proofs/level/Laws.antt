@@ -11,13 +11,13 @@ use lib.Dec.{T, ltb}
 use lib.IntN.{ℤ, pos}
 use lib.ListN.{getD}
 use lib.Ieee.{Float, nan, inf, fin, binary64, add, sub, mul, div, lt, ofBits, toBits, fits, isNan}
-use Rattle.curves.specs.Answers.{good}
-use Rattle.curves.specs.Scalar.{one, e-12, float-abs, clamp-unit, in-unit}
+use Rattle.base.specs.Answers.{good}
+use Rattle.floats.specs.Scalar.{one, e-12, float-abs, clamp-unit, in-unit}
 use Rattle.curves.specs.Point.{point}
 use Rattle.curves.specs.Crossing.{denominator, crossing-u, crossing-v, inside-or-refused, logical-intersection}
-use Rattle.curves.specs.Level.{Plain, Straight}
-use Rattle.curves.proofs.scalar.Laws.{impossible}
-use Rattle.curves.proofs.scalar.Exact.{sub-self-zero, mul-by-zero, add-zero-own, div-one-own}
+use Rattle.curves.specs.inner.Level.{Plain, Straight}
+use Rattle.floats.proofs.scalar.Laws.{impossible}
+use Rattle.floats.proofs.scalar.Exact.{sub-self-zero, mul-by-zero, add-zero-own, div-one-own}
 use Rattle.curves.proofs.crossing.Laws.{not-parallel, inside}
 
 -- ---- the operations on a plain parameter

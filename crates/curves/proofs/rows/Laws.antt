@@ -9,22 +9,23 @@ use native.Mathlib.Omega.{arith}
 use lib.ListN.{length, getD, set, take}
 use lib.Seq.{length-take-le, take-suc}
 use lib.Ieee.{Float, nan}
-use Rattle.counts.specs.Refusal.{Verdict, passed, refused, refuse-if, outcome, then-test}
-use Rattle.counts.specs.declared.refusal.Check.{Check}
-use Rattle.counts.specs.declared.refusal.Check.the-variants.{Passed}
-use Rattle.curves.specs.Lists.{cat, splice}
-use Rattle.curves.specs.Tests.{first-of}
-use Rattle.curves.specs.Scalar.{nought, is-positive}
+use Rattle.base.specs.declared.verdict.Verdict.{Verdict}
+use Rattle.base.specs.Refusal.{passed, refused, refuse-if, outcome, then-test}
+use Rattle.base.specs.declared.refusal.Check.{Check}
+use Rattle.base.specs.declared.refusal.Check.the-variants.{Passed}
+use Rattle.base.specs.Buffers.{cat, splice}
+use Rattle.base.specs.Tests.{first-of}
+use Rattle.floats.specs.Scalar.{nought, is-positive}
 use Rattle.curves.specs.Point.{signed-area}
 use Rattle.curves.specs.Curve.{point-at}
 use Rattle.curves.specs.Quad.{quad-test, zeros}
 use Rattle.curves.specs.Grid.{Row, Grid, coordinates, row-points, cell-test, cells-test, below-test, quads-test, quad-values, quads-between, node-values, nodes-of, row-part, grid-part, grid-values, needed}
-use Rattle.curves.specs.Rows.{row-size}
+use Rattle.curves.specs.inner.Rows.{row-size}
 use Rattle.curves.specs.declared.point.Point.{Point}
 use Rattle.curves.specs.declared.grid.Layout.{Layout}
 use Rattle.curves.specs.declared.grid.Layout.the-variants.{Quads, Nodes}
-use Rattle.curves.proofs.ListLaws.{length-tab, length-cat, length-cat-more, cat-grows, splice-none, store-next, cat-step, splice-over, take-splice}
-use Rattle.curves.proofs.TestLaws.{first-more, first-shifted}
+use Rattle.base.proofs.BufferLaws.{length-tab, length-cat, length-cat-more, cat-grows, splice-none, store-next, cat-step, splice-over, take-splice}
+use Rattle.base.proofs.TestLaws.{first-more, first-shifted}
 use Rattle.curves.proofs.grid.Laws.{length-coordinates}
 
 -- ---- stores in a row

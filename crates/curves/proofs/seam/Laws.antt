@@ -10,10 +10,11 @@ use lib.Seq.{drop-cons}
 use lib.Dec.{ltb}
 use lib.Ieee.{Float, nan}
 use borrow.Author.Tests.{lt-ltb, le-ltb}
-use Rattle.counts.specs.Refusal.{Verdict, refused, then-test, refuse-if}
-use Rattle.curves.specs.Tests.{first-of}
+use Rattle.base.specs.declared.verdict.Verdict.{Verdict}
+use Rattle.base.specs.Refusal.{refused, then-test, refuse-if}
+use Rattle.base.specs.Tests.{first-of}
 use Rattle.curves.specs.Seam.{edge-value, edge-values, seam-from, value-test, seam-ends-test, seam-test}
-use Rattle.curves.proofs.ListLaws.{length-tab, part-fits}
+use Rattle.base.proofs.BufferLaws.{length-tab, part-fits}
 
 -- ---- edge by edge
 

@@ -9,7 +9,7 @@ use lib.Seq.{drop-cons, drop-drop, take-add}
 use lib.Dec.{leb, ltb, eqb}
 use lib.Ieee.{Float, nan, eq}
 use borrow.Author.Tests.{leb-true, lt-ltb, le-ltb, le-leb, lt-leb, eq-eqb, ne-eqb}
-use Rattle.counts.specs.Refusal.{passed, refused, then-test, refuse-if}
+use Rattle.base.specs.Refusal.{passed, refused, then-test, refuse-if}
 use Rattle.curves.specs.Curve.{point-count}
 use Rattle.mesh.specs.Loop.{same-point, closes, points-used, size-test, fours-test, loop-test, corner-pair, quarter, piece}
 

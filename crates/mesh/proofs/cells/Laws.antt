@@ -11,12 +11,12 @@ use lib.ListN.{length, set}
 use lib.Dec.{T, leb}
 use denote.Enum.Declared.{tagOf}
 use types.Run.{OneOf}
-use Rattle.counts.specs.Refusal.{verdict-of}
-use Rattle.counts.specs.declared.refusal.Refusal.{Refusal}
-use Rattle.counts.specs.declared.refusal.Refusal.the-variants as because
-use Rattle.counts.proofs.refusal.Refusal.{the-type}
-use Rattle.curves.specs.Lists.{cat, splice}
-use Rattle.curves.proofs.ListLaws.{length-cat, splice-none, store-next, cat-step}
+use Rattle.base.specs.Refusal.{verdict-of}
+use Rattle.base.specs.declared.refusal.Refusal.{Refusal}
+use Rattle.base.specs.declared.refusal.Refusal.the-variants as because
+use Rattle.base.proofs.refusal.Refusal.{the-type}
+use Rattle.base.specs.Buffers.{cat, splice}
+use Rattle.base.proofs.BufferLaws.{length-cat, splice-none, store-next, cat-step}
 use Rattle.mesh.specs.Mesh.{grid-index, cell, row-cells, mesh-cells, zeroes}
 
 -- ---- one cell

@@ -9,16 +9,16 @@ use lib.ListN.{length}
 use lib.Dec.{T, leb, ltb}
 use lib.Ieee.{Float}
 use borrow.Author.Tests.{lt-ltb, le-ltb, le-leb, lt-leb, leb-true, leb-false}
-use Rattle.counts.specs.Refusal.{Verdict, passed, refused, verdict-of, outcome, is-passed, then-test, refuse-if}
-use Rattle.counts.specs.declared.refusal.Check.{Check}
-use Rattle.counts.specs.declared.refusal.Check.the-variants.{Passed, Refused}
-use Rattle.counts.specs.declared.refusal.Refusal.{Refusal}
-use Rattle.counts.proofs.RefusalLaws.{then-right, refusal-number}
-use Rattle.curves.specs.Lists.{splice}
+use Rattle.base.specs.declared.verdict.Verdict.{Verdict}
+use Rattle.base.specs.Refusal.{passed, refused, verdict-of, outcome, is-passed, then-test, refuse-if}
+use Rattle.base.specs.declared.refusal.Check.{Check}
+use Rattle.base.specs.declared.refusal.Check.the-variants.{Passed, Refused}
+use Rattle.base.specs.declared.refusal.Refusal.{Refusal}
+use Rattle.base.proofs.TestLaws.{then-right, refusal-number, follows, refuses}
+use Rattle.base.specs.Buffers.{splice}
 use Rattle.curves.specs.Coons.{Outcome, outcome-of, refusal, unless, curves-limit, cells-limit, coons-curves, coons-quads, coons-nodes}
 use Rattle.curves.specs.declared.coons.GridAnswer.{GridAnswer}
 use Rattle.curves.specs.declared.coons.GridAnswer.the-variants as grid-answer
-use Rattle.curves.proofs.TestLaws.{follows, refuses}
 use Rattle.curves.proofs.coons.Laws.{cells-let-by}
 use Rattle.mesh.specs.Loop.{loop-test, piece}
 use Rattle.mesh.specs.Mesh.{Mesh, mesh-of, needed-cells, mesh-cells, no-cells, zeroes, cells-left, with-cells, without-cells, mesh-tile-curves}

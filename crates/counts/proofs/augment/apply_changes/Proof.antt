@@ -5,8 +5,8 @@ use native.Mathlib.Omega.{arith}
 use borrow.Author.Needs.{needs}
 use lib.ListN.{length}
 use Rattle.counts.specs.Move.{apply-changes}
-use Rattle.counts.specs.Tables.{path-of}
-use Rattle.counts.proofs.Applying.{apply-length, at-change, apply-turn}
+use Rattle.counts.specs.inner.Tables.{path-of}
+use Rattle.counts.proofs.augment.Applying.{apply-length, at-change, apply-turn}
 use Rattle.counts.proofs.augment.apply_changes.Statement.{statement}
 use Rattle.counts.proofs.augment.apply_changes.Tie as tie
 

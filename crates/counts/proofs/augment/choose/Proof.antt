@@ -5,8 +5,8 @@ use native.Mathlib.Numerals.{add-one}
 use native.Mathlib.Omega.{arith}
 use borrow.Author.Needs.{needs}
 use mathlib.Core.Path.{_≡_, refl, sym, ap, _∙_}
-use Rattle.counts.specs.RoundContract.{chosen}
-use Rattle.counts.proofs.RoundLaws.{choose-turn, winner-fits}
+use Rattle.counts.specs.inner.RoundContract.{chosen}
+use Rattle.counts.proofs.augment.Laws.{choose-turn, winner-fits}
 use Rattle.counts.proofs.augment.choose.Statement.{statement}
 use Rattle.counts.proofs.augment.choose.Tie as tie
 use Rattle.counts.proofs.augment.choose.Reads as reads

@@ -1,6 +1,6 @@
 -- `augment::find_augmentation` meets its contract: the choice among all starts, and the winner searched once more. Assumes nothing.
 use native.Mathlib.Omega.{arith}
-use Rattle.counts.proofs.RoundLaws.{found-nothing, found-winner, results}
+use Rattle.counts.proofs.augment.Laws.{found-nothing, found-winner, results}
 use borrow.Author.Needs.{needs}
 use Rattle.counts.proofs.augment.find_augmentation.Statement.{statement}
 use Rattle.counts.proofs.augment.find_augmentation.Tie as tie

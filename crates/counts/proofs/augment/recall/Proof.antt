@@ -1,5 +1,5 @@
 -- `augment::recall` meets its contract: a known result is left, another is searched for and stored. Assumes nothing.
-use Rattle.counts.proofs.RoundLaws.{recalled}
+use Rattle.counts.proofs.augment.Laws.{recalled}
 use borrow.Author.Needs.{needs}
 use Rattle.counts.proofs.augment.recall.Statement.{statement}
 use Rattle.counts.proofs.augment.recall.Tie as tie

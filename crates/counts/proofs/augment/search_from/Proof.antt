@@ -2,10 +2,10 @@
 use mathlib.Core.Path.{_≡_, refl, sym, ap, _∙_}
 use native.Mathlib.Omega.{arith}
 use borrow.Author.Needs.{needs}
-use Rattle.counts.specs.RoundContract.{Buffers}
+use Rattle.counts.specs.inner.RoundContract.{Buffers}
 use Rattle.counts.specs.Search.{State}
 use Rattle.counts.specs.declared.search.SearchState.{SearchState}
-use Rattle.counts.proofs.RoundLaws.{searched, not-searched}
+use Rattle.counts.proofs.augment.Laws.{searched, not-searched}
 use Rattle.counts.proofs.augment.search_from.Statement.{statement}
 use Rattle.counts.proofs.augment.search_from.Tie as tie
 

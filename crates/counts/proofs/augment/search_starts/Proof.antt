@@ -2,8 +2,8 @@
 use Prim.Native.Nat.{ℕ, _-_, _*_, _≤_}
 use native.Mathlib.Omega.{arith}
 use borrow.Author.Needs.{needs}
-use Rattle.counts.specs.RoundContract.{AllKnown}
-use Rattle.counts.proofs.RoundLaws.{known-more, known-at}
+use Rattle.counts.specs.inner.RoundContract.{AllKnown}
+use Rattle.counts.proofs.augment.Laws.{known-more, known-at}
 use Rattle.counts.proofs.augment.search_starts.Statement.{statement}
 use Rattle.counts.proofs.augment.search_starts.Tie as tie
 

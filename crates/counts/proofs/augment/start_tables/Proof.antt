@@ -1,5 +1,5 @@
 -- `augment::start_tables` meets its contract. Assumes nothing.
-use Rattle.counts.proofs.Finding.{priced}
+use Rattle.counts.proofs.augment.Finding.{priced}
 use borrow.Author.Needs.{needs}
 use Rattle.counts.proofs.augment.start_tables.Statement.{statement}
 use Rattle.counts.proofs.augment.start_tables.Tie as tie

@@ -5,9 +5,9 @@ use native.Mathlib.Omega.{arith}
 use denote.Ref.{now}
 use borrow.Author.Tests.{le-leb, lt-leb}
 use lib.ListN.{length, getD, drop}
-use Rattle.counts.specs.Refusal.{outcome, verdict-of}
+use Rattle.base.specs.Refusal.{outcome, verdict-of}
 use Rattle.counts.specs.Accept.{first-bad, count-ok}
-use Rattle.counts.proofs.AcceptLaws.{bad-next, bad-here, bad-none}
+use Rattle.counts.proofs.check.Laws.{bad-next, bad-here, bad-none}
 use Rattle.counts.proofs.check.check_counts.Statement.{statement}
 use Rattle.counts.proofs.check.check_counts.Tie as tie
 

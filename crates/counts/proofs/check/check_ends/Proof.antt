@@ -5,9 +5,9 @@ use native.Mathlib.Omega.{arith}
 use borrow.Author.Needs.{needs}
 use borrow.Author.Tests.{not-true, not-false}
 use lib.ListN.{length, drop}
-use Rattle.counts.specs.Refusal.{outcome, verdict-of}
+use Rattle.base.specs.Refusal.{outcome, verdict-of}
 use Rattle.counts.specs.Accept.{first-bad, ranges, ends-ok}
-use Rattle.counts.proofs.AcceptLaws.{range-next, range-here, range-none}
+use Rattle.counts.proofs.check.Laws.{range-next, range-here, range-none}
 use Rattle.counts.proofs.check.check_ends.Statement.{statement}
 use Rattle.counts.proofs.check.check_ends.Tie as tie
 

@@ -4,14 +4,14 @@ use mathlib.Core.List.{[]}
 use borrow.Author.Needs.{needs}
 use denote.Ref.{now}
 use lib.ListN.{length}
-use Rattle.counts.specs.Refusal.{then-test}
+use Rattle.base.specs.Refusal.{then-test}
 use Rattle.counts.specs.Region.{places}
 use Rattle.counts.specs.Cost.{by}
 use Rattle.counts.specs.Accept.{limits-test, values-test}
 use Rattle.counts.specs.Solver.{energy-test}
-use Rattle.counts.proofs.AcceptLaws.{limits-passed}
+use Rattle.counts.proofs.check.Laws.{limits-passed}
 use Rattle.counts.proofs.EqualEnds.{values-same}
-use Rattle.counts.proofs.RefusalLaws.{chain-ends, chain-goes-on, was-passed}
+use Rattle.base.proofs.TestLaws.{chain-ends, chain-goes-on, was-passed}
 use Rattle.counts.proofs.check.check_energy.Statement.{statement}
 use Rattle.counts.proofs.check.check_energy.Tie as tie
 

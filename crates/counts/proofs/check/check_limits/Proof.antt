@@ -4,7 +4,7 @@ use borrow.Author.Needs.{needs}
 use denote.Ref.{now}
 use borrow.Author.Tests.{le-leb, lt-leb, eq-eqb, ne-eqb}
 use lib.ListN.{length}
-use Rattle.counts.specs.Refusal.{outcome, verdict-of}
+use Rattle.base.specs.Refusal.{outcome, verdict-of}
 use Rattle.counts.specs.Accept.{records-whole, limits-test}
 use Rattle.counts.proofs.check.check_limits.Statement.{statement}
 use Rattle.counts.proofs.check.check_limits.Tie as tie

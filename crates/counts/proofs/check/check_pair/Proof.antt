@@ -5,10 +5,10 @@ use borrow.Author.Needs.{needs}
 use denote.Ref.{now}
 use mathlib.Core.Bool.{Bool}
 use mathlib.Core.List.{[]}
-use Rattle.counts.specs.Refusal.{outcome, verdict-of, then-test, refuse-if, refused}
+use Rattle.base.specs.Refusal.{outcome, verdict-of, then-test, refuse-if, refused}
 use Rattle.counts.specs.Accept.{side-test, shared-edge}
-use Rattle.counts.proofs.AcceptLaws.{pair-chain}
-use Rattle.counts.proofs.RefusalLaws.{chain-ends, chain-goes-on}
+use Rattle.counts.proofs.check.Laws.{pair-chain}
+use Rattle.base.proofs.TestLaws.{chain-ends, chain-goes-on}
 use Rattle.counts.proofs.check.check_pair.Statement.{statement}
 use Rattle.counts.proofs.check.check_pair.Tie as tie
 

@@ -7,11 +7,11 @@ use borrow.Author.Needs.{needs}
 use denote.Ref.{now}
 use lib.ListN.{length, drop, length-drop}
 use lib.Dec.{T}
-use Rattle.counts.specs.Refusal.{outcome}
+use Rattle.base.specs.Refusal.{outcome}
 use Rattle.counts.specs.Region.{places}
 use Rattle.counts.specs.Accept.{sides-fit, region-test, pairs-test}
-use Rattle.counts.proofs.AcceptLaws.{whole-few, whole-sides, rest, sides-now, sides-after, pairs-turn, pairs-end}
-use Rattle.counts.proofs.RefusalLaws.{chain-ends, chain-goes-on}
+use Rattle.counts.proofs.check.Laws.{whole-few, whole-sides, rest, sides-now, sides-after, pairs-turn, pairs-end}
+use Rattle.base.proofs.TestLaws.{chain-ends, chain-goes-on}
 use Rattle.counts.proofs.check.check_pairs.Statement.{statement}
 use Rattle.counts.proofs.check.check_pairs.Tie as tie
 

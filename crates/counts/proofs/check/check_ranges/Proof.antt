@@ -1,7 +1,7 @@
 -- `counts::check::check_ranges` meets its contract: two tests in a row. Assumes nothing.
 use mathlib.Core.Path.{_∙_}
 use borrow.Author.Needs.{needs}
-use Rattle.counts.proofs.RefusalLaws.{in-a-row}
+use Rattle.base.proofs.TestLaws.{in-a-row}
 use Rattle.counts.proofs.check.check_ranges.Statement.{statement}
 use Rattle.counts.proofs.check.check_ranges.Tie as tie
 

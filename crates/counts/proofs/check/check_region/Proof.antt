@@ -1,11 +1,11 @@
 -- `counts::check::check_region` meets its contract. A chain of two tests, on the sides that `side` lends. Assumes nothing.
-use Rattle.counts.specs.Refusal.{outcome}
+use Rattle.base.specs.Refusal.{outcome}
 use mathlib.Core.Path.{_≡_, _∙_}
 use borrow.Author.Needs.{needs}
 use denote.Ref.{now}
 use Rattle.counts.specs.Region.{places, side}
 use Rattle.counts.specs.Accept.{pair-test}
-use Rattle.counts.proofs.RefusalLaws.{chain-ends, chain-goes-on}
+use Rattle.base.proofs.TestLaws.{chain-ends, chain-goes-on}
 use Rattle.counts.proofs.check.check_region.Statement.{statement}
 use Rattle.counts.proofs.check.check_region.Tie as tie
 

@@ -5,13 +5,14 @@ use borrow.Author.Needs.{needs}
 use borrow.Author.Tests.{lt-ltb, le-ltb}
 use lib.ListN.{length}
 use lib.Dec.{ltb}
-use Rattle.counts.specs.Refusal.{outcome, verdict-of, then-test, refuse-if, refused}
+use Rattle.base.specs.Refusal.{outcome, verdict-of, then-test, refuse-if, refused}
 use Rattle.counts.specs.Region.{places, region-count}
 use Rattle.counts.specs.Cost.{within}
 use Rattle.counts.specs.Accept.{limits-test, values-test, pairs-test}
-use Rattle.counts.specs.Solver.{max-limit, round-head, round-order}
-use Rattle.counts.proofs.AcceptLaws.{limits-passed}
-use Rattle.counts.proofs.RefusalLaws.{chain-ends, chain-goes-on, was-passed}
+use Rattle.counts.specs.Solver.{max-limit, round-order}
+use Rattle.counts.specs.inner.Checks.{round-head}
+use Rattle.counts.proofs.check.Laws.{limits-passed}
+use Rattle.base.proofs.TestLaws.{chain-ends, chain-goes-on, was-passed}
 use Rattle.counts.proofs.SolverLaws.{limits-of-edges}
 use Rattle.counts.proofs.check.check_round.Statement.{statement}
 use Rattle.counts.proofs.check.check_round.Tie as tie

@@ -9,9 +9,9 @@ use borrow.Author.Tests.{lt-ltb, le-ltb}
 use lib.ListN.{length, getD, take, drop}
 use lib.Seq.{length-take-le}
 use mathlib.Core.List.{[]}
-use Rattle.counts.specs.Refusal.{outcome, verdict-of}
+use Rattle.base.specs.Refusal.{outcome, verdict-of}
 use Rattle.counts.specs.Accept.{side-test}
-use Rattle.counts.proofs.AcceptLaws.{side-out-of-range, side-repeated, side-next, side-end}
+use Rattle.counts.proofs.check.Laws.{side-out-of-range, side-repeated, side-next, side-end}
 use Rattle.counts.proofs.check.check_side.Statement.{statement}
 use Rattle.counts.proofs.check.check_side.Tie as tie
 

@@ -6,13 +6,14 @@ use borrow.Author.Needs.{needs}
 use borrow.Author.Tests.{lt-ltb, le-ltb, eq-eqb, ne-eqb}
 use lib.ListN.{length}
 use lib.Dec.{ltb}
-use Rattle.counts.specs.Refusal.{outcome, verdict-of, then-test, refuse-if, refused}
+use Rattle.base.specs.Refusal.{outcome, verdict-of, then-test, refuse-if, refused}
 use Rattle.counts.specs.Region.{places, region-count}
 use Rattle.counts.specs.Cost.{within}
 use Rattle.counts.specs.Accept.{lengths-test, ranges-test, pairs-test}
-use Rattle.counts.specs.Solver.{solve-head, solve-order}
-use Rattle.counts.proofs.AcceptLaws.{limits-passed}
-use Rattle.counts.proofs.RefusalLaws.{chain-ends, chain-goes-on, was-passed}
+use Rattle.counts.specs.inner.Checks.{solve-head}
+use Rattle.counts.specs.Solver.{solve-order}
+use Rattle.counts.proofs.check.Laws.{limits-passed}
+use Rattle.base.proofs.TestLaws.{chain-ends, chain-goes-on, was-passed}
 use Rattle.counts.proofs.SolverLaws.{limits-of-edges}
 use Rattle.counts.proofs.check.check_solve.Statement.{statement}
 use Rattle.counts.proofs.check.check_solve.Tie as tie

@@ -6,8 +6,8 @@ use denote.Ref.{now}
 use borrow.Author.Tests.{eq-eqb, ne-eqb}
 use lib.ListN.{length, getD, drop}
 use lib.Dec.{eqb}
-use Rattle.counts.specs.Lists.{any}
-use Rattle.counts.proofs.Turns.{member-any, any-here, any-next, any-end}
+use Rattle.base.specs.Lists.{any}
+use Rattle.base.proofs.Turns.{member-any, any-here, any-next, any-end}
 use Rattle.counts.proofs.check.contains.Statement.{statement}
 use Rattle.counts.proofs.check.contains.Tie as tie
 

@@ -5,9 +5,9 @@ use native.Mathlib.Omega.{arith}
 use borrow.Author.Needs.{needs}
 use denote.Ref.{now}
 use lib.ListN.{length, drop}
-use Rattle.counts.specs.Lists.{member}
+use Rattle.base.specs.Lists.{member}
 use Rattle.counts.specs.Accept.{shared-edge}
-use Rattle.counts.proofs.Turns.{any-here, any-next, any-end}
+use Rattle.base.proofs.Turns.{any-here, any-next, any-end}
 use Rattle.counts.proofs.check.has_shared_edge.Statement.{statement}
 use Rattle.counts.proofs.check.has_shared_edge.Tie as tie
 

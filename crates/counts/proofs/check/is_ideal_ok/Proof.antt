@@ -1,6 +1,6 @@
 -- `counts::check::is_ideal_ok` meets its contract. By the cases of a float below infinity. Assumes nothing.
 use lib.Ieee.{nanBits}
-use Rattle.counts.proofs.AcceptLaws.{ideal-below-infinity, ideal-not-below}
+use Rattle.counts.proofs.check.Laws.{ideal-below-infinity, ideal-not-below}
 use Rattle.counts.proofs.check.is_ideal_ok.Statement.{statement}
 use Rattle.counts.proofs.check.is_ideal_ok.Tie as tie
 

@@ -8,7 +8,7 @@ use borrow.Author.Tests.{le-leb, lt-leb}
 use lib.ListN.{length, getD, drop}
 use Rattle.counts.specs.Accept.{sides-fit}
 use Rattle.counts.specs.Region.{places, region-count}
-use Rattle.counts.proofs.AcceptLaws.{each-fits, sides-one-by-one, fits-next, fits-not, fits-end}
+use Rattle.counts.proofs.check.Laws.{each-fits, sides-one-by-one, fits-next, fits-not, fits-end}
 use Rattle.counts.proofs.check.sides_fit.Statement.{statement}
 use Rattle.counts.proofs.check.sides_fit.Tie as tie
 

@@ -5,8 +5,9 @@ use native.Mathlib.Omega.{arith}
 use borrow.Author.Needs.{needs}
 use lib.ListN.{length}
 use lib.Ieee.{nan}
-use Rattle.counts.specs.Cost.{Entries, by-ranges}
-use Rattle.counts.proofs.CostLaws.{length-both, entries-more, range-price}
+use Rattle.counts.specs.inner.Tables.{Entries}
+use Rattle.counts.specs.Cost.{by-ranges}
+use Rattle.counts.proofs.cost.Laws.{length-both, entries-more, range-price}
 use Rattle.counts.proofs.cost.fill_costs.Statement.{statement}
 use Rattle.counts.proofs.cost.fill_costs.Tie as tie
 

@@ -7,7 +7,7 @@ use denote.Ref.{now}
 use lib.ListN.{length, getD, drop}
 use lib.Ieee.{Float, nan, add, binary64, ofBits}
 use Rattle.counts.specs.Cost.{real, deviation, square, energy-from}
-use Rattle.counts.proofs.CostLaws.{energy-turn, energy-end}
+use Rattle.counts.proofs.cost.Laws.{energy-turn, energy-end}
 use Rattle.counts.proofs.cost.total_energy.Statement.{statement}
 use Rattle.counts.proofs.cost.total_energy.Tie as tie
 

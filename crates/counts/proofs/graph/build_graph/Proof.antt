@@ -3,8 +3,9 @@
 use mathlib.Core.Path.{refl, subst}
 use native.Mathlib.Omega.{arith}
 use lib.Dec.{T}
-use Rattle.counts.specs.Refusal.{Verdict, is-passed}
-use Rattle.counts.proofs.BuiltTables.{tested, limits, tables}
+use Rattle.base.specs.declared.verdict.Verdict.{Verdict}
+use Rattle.base.specs.Refusal.{is-passed}
+use Rattle.counts.proofs.graph.Built.{tested, limits, tables}
 use Rattle.counts.proofs.graph.build_graph.Statement.{statement}
 use Rattle.counts.proofs.graph.build_graph.Tie as tie
 

@@ -8,7 +8,7 @@ use borrow.Author.Needs.{needs}
 use lib.ListN.{length, getD}
 use Rattle.counts.specs.Region.{Constraint, incidence}
 use Rattle.counts.specs.Accept.{overused-test}
-use Rattle.counts.proofs.BuiltTables.{overused-here, overused-next, overused-done}
+use Rattle.counts.proofs.graph.Built.{overused-here, overused-next, overused-done}
 use Rattle.counts.proofs.graph.check_overused.Statement.{statement}
 use Rattle.counts.proofs.graph.check_overused.Tie as tie
 

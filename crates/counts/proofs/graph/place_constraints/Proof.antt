@@ -4,10 +4,10 @@ use Prim.Native.Nat.{_-_, _≤_}
 use native.Mathlib.Omega.{arith}
 use borrow.Author.Needs.{needs}
 use lib.ListN.{take}
-use Rattle.counts.specs.Tables.{the-graph}
-use Rattle.counts.specs.Graph.{Filled}
-use Rattle.counts.proofs.Placing.{filled-none, uses-few, counted-once}
-use Rattle.counts.proofs.BuiltTables.{constraint-more, constraints-done}
+use Rattle.counts.specs.inner.Tables.{the-graph}
+use Rattle.counts.specs.inner.Graph.{Filled}
+use Rattle.counts.proofs.graph.Placing.{filled-none, uses-few, counted-once}
+use Rattle.counts.proofs.graph.Built.{constraint-more, constraints-done}
 use Rattle.counts.proofs.graph.place_constraints.Statement.{statement}
 use Rattle.counts.proofs.graph.place_constraints.Tie as tie
 

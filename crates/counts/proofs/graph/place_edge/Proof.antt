@@ -2,7 +2,7 @@
 use mathlib.Core.Path.{refl}
 use native.Mathlib.Omega.{arith}
 use borrow.Author.Needs.{needs}
-use Rattle.counts.proofs.Placing.{counted-edge, placed-edge}
+use Rattle.counts.proofs.graph.Placing.{counted-edge, placed-edge}
 use Rattle.counts.proofs.graph.place_edge.Statement.{statement}
 use Rattle.counts.proofs.graph.place_edge.Tie as tie
 

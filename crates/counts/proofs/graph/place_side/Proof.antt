@@ -5,10 +5,10 @@ use mathlib.Core.Path.{refl}
 use native.Mathlib.Omega.{arith}
 use borrow.Author.Needs.{needs}
 use lib.ListN.{getD, take}
-use Rattle.counts.specs.Tables.{edges-of}
-use Rattle.counts.specs.Graph.{Placed}
-use Rattle.counts.proofs.Placing.{placed-none, not-counted}
-use Rattle.counts.proofs.Sides.{next-edge, side-more, side-done}
+use Rattle.counts.specs.inner.Tables.{edges-of}
+use Rattle.counts.specs.inner.Graph.{Placed}
+use Rattle.counts.proofs.graph.Placing.{placed-none, not-counted}
+use Rattle.counts.proofs.region.Laws.{next-edge, side-more, side-done}
 use Rattle.counts.proofs.graph.place_side.Statement.{statement}
 use Rattle.counts.proofs.graph.place_side.Tie as tie
 

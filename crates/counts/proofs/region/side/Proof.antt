@@ -10,7 +10,7 @@ use lib.ListN.{length, getD, take, drop, length-drop, List·getD-eq-default}
 use lib.Seq.{take-all}
 use borrow.Author.Needs.{needs}
 use Rattle.counts.specs.Region.{places, side}
-use Rattle.counts.proofs.AcceptLaws.{rest}
+use Rattle.counts.proofs.check.Laws.{rest}
 use Rattle.counts.proofs.region.side.Statement.{statement}
 use Rattle.counts.proofs.region.side.Tie as tie
 

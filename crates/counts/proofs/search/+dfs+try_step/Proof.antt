@@ -5,8 +5,8 @@ use Prim.Native.Nat.{ℕ, _+_, _-_, _*_, _<_}
 use native.Mathlib.Omega.{arith}
 use Rattle.counts.specs.Move.{allowed, cost}
 use Rattle.counts.specs.Search.{free}
-use Rattle.counts.proofs.Places.{other-same}
-use Rattle.counts.proofs.Steps.{Walking, may-cross-next, may-step-now, step-back, step-barred, step-crosses, step-shut, step-turned-back, walk-ends, walks-on}
+use Rattle.counts.proofs.search.Places.{other-same}
+use Rattle.counts.proofs.search.Steps.{Walking, may-cross-next, may-step-now, step-back, step-barred, step-crosses, step-shut, step-turned-back, walk-ends, walks-on}
 use borrow.Author.Needs.{needs}
 use borrow.Fn.Kinds.{In}
 use borrow.Fn.PlainCycle.{Measures, is, falls, and}

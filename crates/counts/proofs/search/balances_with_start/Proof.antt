@@ -1,5 +1,5 @@
-use Rattle.counts.specs.Tables.{the-graph}
-use Rattle.counts.proofs.Endings.{balances-by, like-signs, unlike-signs}
+use Rattle.counts.specs.inner.Tables.{the-graph}
+use Rattle.counts.proofs.search.Endings.{balances-by, like-signs, unlike-signs}
 use borrow.Author.Needs.{needs}
 use Rattle.counts.proofs.search.balances_with_start.Statement.{statement}
 use Rattle.counts.proofs.search.balances_with_start.Tie as tie

@@ -7,14 +7,14 @@ use mathlib.Core.List.{[], _∷_}
 use Prim.Native.Nat.{ℕ, _-_, _/_, _≤_, _<_}
 use native.Mathlib.Omega.{arith}
 use lib.ListN.{length, getD, take}
-use Rattle.counts.specs.Lists.{member}
+use Rattle.base.specs.Lists.{member}
 use Rattle.counts.specs.Region.{constraint}
 use Rattle.counts.specs.Search.{others-changed}
-use Rattle.counts.specs.Tables.{path-of, the-graph}
-use Rattle.counts.specs.SearchContract.{both-sides, changed-by}
+use Rattle.counts.specs.inner.Tables.{path-of, the-graph}
+use Rattle.counts.specs.inner.SearchContract.{both-sides, changed-by}
 use Rattle.counts.specs.declared.search.Changed.{Changed}
-use Rattle.counts.proofs.TwoSides.{length-both-sides}
-use Rattle.counts.proofs.Scan.{hit-none, hit-self, hit-yes, missed, scan-first, scan-miss, scan-second}
+use Rattle.counts.proofs.search.TwoSides.{length-both-sides}
+use Rattle.counts.proofs.search.Scan.{hit-none, hit-self, hit-yes, missed, scan-first, scan-miss, scan-second}
 use denote.Enum.Declared.{tagOf}
 use types.Run.{OneOf}
 use Rattle.counts.proofs.search.Changed.{the-type}

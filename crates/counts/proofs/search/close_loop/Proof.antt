@@ -4,11 +4,11 @@ use mathlib.Core.List.{[], _∷_}
 use Prim.Native.Nat.{ℕ, _/_}
 use native.Mathlib.Omega.{arith}
 use Rattle.counts.specs.Region.{constraint}
-use Rattle.counts.specs.Tables.{path-of, the-graph}
+use Rattle.counts.specs.inner.Tables.{path-of, the-graph}
 use Rattle.counts.specs.declared.search.Changed.{Changed}
 use Rattle.counts.specs.declared.search.Changed.the-variants.{One}
-use Rattle.counts.proofs.Scan.{the-edge}
-use Rattle.counts.proofs.Endings.{balances-same, changed-same, close-high, close-kept, close-others, close-unbalanced, held-same}
+use Rattle.counts.proofs.search.Scan.{the-edge}
+use Rattle.counts.proofs.search.Endings.{balances-same, changed-same, close-high, close-kept, close-others, close-unbalanced, held-same}
 use denote.Enum.Declared.{tagOf}
 use types.Run.{OneOf}
 use Rattle.counts.proofs.search.Changed.{the-type}

@@ -40,7 +40,7 @@ use denote.Triple.Table.{entered, cited}
 use denote.Triple.Walked.{says, Stays, stay-ref, stay-dropped, gave-ref, walkOf, AllGo, goes-ref, Walks, ends-at, walked, walk-meets}
 use denote.Exit.{yes}
 use Rattle.counts.specs.declared.search.SearchState.{SearchState}
-use Rattle.counts.specs.SearchContract.{CrossedAll}
+use Rattle.counts.specs.inner.SearchContract.{CrossedAll}
 use Rattle.counts.proofs.search.SearchState as T
 use Rattle.counts.proofs.search.SearchState.Laws as T′
 use Rattle.counts.proofs.search.cross_start as cross-start

@@ -1,6 +1,6 @@
 use mathlib.Core.Path.{sym, _∙_}
-use Rattle.counts.proofs.Places.{cost-at}
-use Rattle.counts.proofs.Start.{crossed-cut, crossed-none, crossed-one, crossed-two, first-crossing, second-crossing}
+use Rattle.counts.proofs.search.Places.{cost-at}
+use Rattle.counts.proofs.search.Start.{crossed-cut, crossed-none, crossed-one, crossed-two, first-crossing, second-crossing}
 use borrow.Author.Needs.{needs}
 use Rattle.counts.proofs.search.cross_start.Statement.{statement}
 use Rattle.counts.proofs.search.cross_start.Tie as tie

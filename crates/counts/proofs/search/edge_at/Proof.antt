@@ -1,5 +1,5 @@
 use native.Mathlib.Omega.{arith}
-use Rattle.counts.proofs.TwoSides.{edge-opposite, edge-own}
+use Rattle.counts.proofs.search.TwoSides.{edge-opposite, edge-own}
 use borrow.Author.Needs.{needs}
 use Rattle.counts.proofs.search.edge_at.Statement.{statement}
 use Rattle.counts.proofs.search.edge_at.Tie as tie

@@ -1,7 +1,7 @@
 use mathlib.Core.Logic.{⊎-elim}
 use mathlib.Core.Path.{sym, _∙_}
 use native.Mathlib.Omega.{arith}
-use Rattle.counts.proofs.Endings.{end-high, end-kept, end-open, end-turned-back}
+use Rattle.counts.proofs.search.Endings.{end-high, end-kept, end-open, end-turned-back}
 use borrow.Author.Needs.{needs}
 use Rattle.counts.proofs.search.end_chain.Statement.{statement}
 use Rattle.counts.proofs.search.end_chain.Tie as tie

@@ -1,6 +1,6 @@
 use mathlib.Core.Path.{sym, _∙_}
 use native.Mathlib.Omega.{arith}
-use Rattle.counts.proofs.Places.{other-first, other-second}
+use Rattle.counts.proofs.search.Places.{other-first, other-second}
 use Rattle.counts.proofs.search.other_place.Statement.{statement}
 use Rattle.counts.proofs.search.other_place.Tie as tie
 use Rattle.counts.proofs.search.other_place.Reads as reads

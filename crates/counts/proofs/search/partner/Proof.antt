@@ -1,5 +1,5 @@
 use native.Mathlib.Omega.{arith}
-use Rattle.counts.proofs.TwoSides.{partner-opposite, partner-own}
+use Rattle.counts.proofs.search.TwoSides.{partner-opposite, partner-own}
 use borrow.Author.Needs.{needs}
 use Rattle.counts.proofs.search.partner.Statement.{statement}
 use Rattle.counts.proofs.search.partner.Tie as tie

@@ -1,6 +1,6 @@
 use mathlib.Core.Path.{sym, _∙_}
 use native.Mathlib.Omega.{arith}
-use Rattle.counts.proofs.Places.{place-first, place-second}
+use Rattle.counts.proofs.search.Places.{place-first, place-second}
 use Rattle.counts.proofs.search.place_in.Statement.{statement}
 use Rattle.counts.proofs.search.place_in.Tie as tie
 use Rattle.counts.proofs.search.place_in.Reads as reads

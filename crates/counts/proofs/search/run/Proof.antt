@@ -52,10 +52,10 @@ use denote.Triple.Clauses.{Lasts, ensured, lasts}
 use denote.Triple.Table.{entered, cited}
 use denote.Triple.Walked.{says, Stays, stay-dropped, gave-ref, walkOf, AllGo, Walks, ends-at, walked, walk-meets}
 use denote.Exit.{yes}
-use Rattle.counts.specs.Tables.{Tables}
-use Rattle.counts.specs.SearchContract.{CrossedAll, Entered, fresh-state, no-marks}
+use Rattle.counts.specs.inner.Tables.{Tables}
+use Rattle.counts.specs.inner.SearchContract.{CrossedAll, Entered, fresh-state, no-marks}
 use Rattle.counts.specs.declared.search.SearchState.{SearchState}
-use Rattle.counts.proofs.Start.{searched}
+use Rattle.counts.proofs.search.Start.{searched}
 use Rattle.counts.proofs.search.SearchState as T
 use Rattle.counts.proofs.search.SearchState.Laws as T′
 use Rattle.counts.proofs.search.fresh as fresh

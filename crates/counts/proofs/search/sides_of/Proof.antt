@@ -1,6 +1,6 @@
 use native.Mathlib.Omega.{arith}
-use Rattle.counts.proofs.Places.{across-below, stands-same}
-use Rattle.counts.proofs.TwoSides.{sides-at}
+use Rattle.counts.proofs.search.Places.{across-below, stands-same}
+use Rattle.counts.proofs.search.TwoSides.{sides-at}
 use borrow.Author.Needs.{needs}
 use Rattle.counts.proofs.search.sides_of.Statement.{statement}
 use Rattle.counts.proofs.search.sides_of.Tie as tie

@@ -1,8 +1,8 @@
 -- `solve::make_move` meets its contract: the changes are made, and the part of the first one is refreshed. Assumes nothing.
 use native.Mathlib.Omega.{arith}
 use lib.ListN.{getD}
-use Rattle.counts.specs.Tables.{path-of}
-use Rattle.counts.proofs.Keeping.{first-below, refreshed-by}
+use Rattle.counts.specs.inner.Tables.{path-of}
+use Rattle.counts.proofs.solve.Keeping.{first-below, refreshed-by}
 use borrow.Author.Needs.{needs}
 use Rattle.counts.proofs.solve.make_move.Statement.{statement}
 use Rattle.counts.proofs.solve.make_move.Tie as tie

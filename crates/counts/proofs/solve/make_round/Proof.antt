@@ -1,6 +1,6 @@
 -- `solve::make_round` meets its contract: it lends fresh buffers. Assumes nothing.
 use mathlib.Core.Path.{_≡_, refl}
-use Rattle.counts.proofs.Start.{marks-made}
+use Rattle.counts.proofs.search.Start.{marks-made}
 use borrow.Author.Needs.{needs}
 use Rattle.counts.proofs.solve.make_round.Statement.{statement}
 use Rattle.counts.proofs.solve.make_round.Tie as tie

@@ -6,9 +6,9 @@ use native.Mathlib.Omega.{arith}
 use borrow.Author.Needs.{needs}
 use Rattle.counts.specs.Cost.{by-ranges}
 use Rattle.counts.specs.Round.{max-moves}
-use Rattle.counts.proofs.CostLaws.{ranges-local}
-use Rattle.counts.proofs.Finding.{nothing-known}
-use Rattle.counts.proofs.SolveLoop.{Progress, solving-starts, still-tested, solve-ends, solve-stops, solve-goes-on, found-none, found-some, move-is, move-can, move-made, stays-ready}
+use Rattle.counts.proofs.cost.Laws.{ranges-local}
+use Rattle.counts.proofs.augment.Finding.{nothing-known}
+use Rattle.counts.proofs.solve.Loop.{Progress, solving-starts, still-tested, solve-ends, solve-stops, solve-goes-on, found-none, found-some, move-is, move-can, move-made, stays-ready}
 use Rattle.counts.proofs.solve.moves_in.Statement.{statement}
 use Rattle.counts.proofs.solve.moves_in.Tie as tie
 

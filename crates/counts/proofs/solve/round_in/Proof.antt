@@ -1,6 +1,6 @@
 -- `solve::round_in` meets its contract, by whether a move was found. Assumes nothing.
-use Rattle.counts.proofs.Finding.{nothing-known}
-use Rattle.counts.proofs.SolveLoop.{round-idle, round-moved, move-is, move-can}
+use Rattle.counts.proofs.augment.Finding.{nothing-known}
+use Rattle.counts.proofs.solve.Loop.{round-idle, round-moved, move-is, move-can}
 use borrow.Author.Needs.{needs}
 use Rattle.counts.proofs.solve.round_in.Statement.{statement}
 use Rattle.counts.proofs.solve.round_in.Tie as tie

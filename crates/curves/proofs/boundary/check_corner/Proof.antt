@@ -1,5 +1,5 @@
 -- `boundary::check_corner` meets its contract. Assumes nothing.
-use Rattle.counts.specs.Refusal.{outcome, verdict-of}
+use Rattle.base.specs.Refusal.{outcome, verdict-of}
 use Rattle.curves.specs.Boundary.{corner-test}
 use borrow.Author.Needs.{needs}
 use Rattle.curves.proofs.boundary.check_corner.Statement.{statement}

@@ -1,5 +1,5 @@
 -- `boundary::check_winding` meets its contract. Assumes nothing.
-use Rattle.counts.specs.Refusal.{outcome, verdict-of}
+use Rattle.base.specs.Refusal.{outcome, verdict-of}
 use Rattle.curves.specs.Boundary.{winding-test}
 use borrow.Author.Needs.{needs}
 use Rattle.curves.proofs.boundary.check_winding.Statement.{statement}

@@ -5,18 +5,18 @@ use native.Mathlib.Omega.{arith}
 use denote.Ref.{now}
 use lib.Dec.{T}
 use lib.ListN.{length, take}
-use Rattle.counts.specs.Refusal.{outcome, is-passed}
+use Rattle.base.specs.Refusal.{outcome, is-passed}
 use Rattle.curves.specs.Curve.{point-count, cumulative-of}
-use Rattle.curves.proofs.TestLaws.{refusal-not-passed}
+use Rattle.base.proofs.TestLaws.{refusal-not-passed}
 use Rattle.curves.proofs.curve.Laws.{length-cumulative, written}
 use Rattle.curves.proofs.boundary.Laws.{all-passed, four-curves, curve-refused, ends-are, ends-tested, not-joined, are-joined, part-sampled}
-use Rattle.counts.specs.declared.refusal.Check.the-variants as check
+use Rattle.base.specs.declared.refusal.Check.the-variants as check
 use borrow.Author.Needs.{needs}
 use Rattle.curves.proofs.boundary.checked_curves.Statement.{statement}
 use Rattle.curves.proofs.boundary.checked_curves.Tie as tie
 
 passes : (c : tie.After-enum-told) → T (is-passed (outcome (c .before .before .before .before .before .before .before .before .before .before .before .before .before .before .before .before .before .before .before .new-curve .result))) × T (is-passed (outcome (c .before .before .before .before .before .before .before .before .before .before .before .before .before .before .before .new-curve2 .result))) × T (is-passed (outcome (c .before .before .before .before .before .before .before .before .before .before .before .new-curve3 .result))) × T (is-passed (outcome (c .before .before .before .before .before .before .before .new-curve4 .result)))
-passes c = all-passed _ _ _ _ _ _ _ (c .before .before .before .before .first-refused .ensures) (c .before .before .before .first-refused2 .ensures) (c .before .before .first-refused3 .ensures) (c .enum-told .given .1)
+passes c = all-passed _ _ _ _ _ _ _ (c .before .before .before .before .and .ensures) (c .before .before .before .and2 .ensures) (c .before .before .and3 .ensures) (c .enum-told .given .1)
 
 table0 : (c : tie.After-enum-told) → take (point-count (now (c .before .before .before .before .before .before .before .before .before .before .before .before .before .before .before .before .before .before .before .before .before .before .before .before .before .before .before .before .before .args .bottom))) (c .before .before .before .before .before .before .before .before .before .before .before .before .before .before .before .before .before .before .before .new-curve .last .1 .1 .0) ≡ cumulative-of (now (c .before .before .before .before .before .before .before .before .before .before .before .before .before .before .before .before .before .before .before .before .before .before .before .before .before .before .before .before .before .args .bottom))
 table0 c = written _ _ _ (c .before .before .before .before .before .before .before .before .before .before .before .before .before .before .before .before .before .before .before .new-curve .ensures .1 (passes c .0))
@@ -42,14 +42,14 @@ new-curve-requires-3 c κs = search needs
 new-curve-requires-4 : tie.Need-new-curve-requires-4
 new-curve-requires-4 c κs = search needs
 
-first-refused-requires : tie.Need-first-refused-requires
-first-refused-requires c κs = search needs
+and-requires : tie.Need-and-requires
+and-requires c κs = search needs
 
-first-refused-requires-2 : tie.Need-first-refused-requires-2
-first-refused-requires-2 c κs = search needs
+and-requires-2 : tie.Need-and-requires-2
+and-requires-2 c κs = search needs
 
-first-refused-requires-3 : tie.Need-first-refused-requires-3
-first-refused-requires-3 c κs = search needs
+and-requires-3 : tie.Need-and-requires-3
+and-requires-3 c κs = search needs
 
 enum-known-from-bottom : tie.Need-enum-known-from-bottom
 enum-known-from-bottom c = search needs
@@ -68,7 +68,7 @@ same-length-4 c = search needs
 
 returns : tie.Need-returns
 returns c =
-    let e = curve-refused _ _ _ _ _ _ (c .before .from-bottom .given .1) (four-curves _ _ _ _ _ _ _ _ _ _ _ (c .before .before .before .before .before .first-refused .ensures) (c .before .before .before .before .first-refused2 .ensures) (c .before .before .before .first-refused3 .ensures) (c .before .before .before .before .before .before .before .before .before .before .before .before .before .before .before .before .before .before .before .before .new-curve .ensures .0) (c .before .before .before .before .before .before .before .before .before .before .before .before .before .before .before .before .new-curve2 .ensures .0) (c .before .before .before .before .before .before .before .before .before .before .before .before .new-curve3 .ensures .0) (c .before .before .before .before .before .before .before .before .new-curve4 .ensures .0)) in
+    let e = curve-refused _ _ _ _ _ _ (c .before .from-bottom .given .1) (four-curves _ _ _ _ _ _ _ _ _ _ _ (c .before .before .before .before .before .and .ensures) (c .before .before .before .before .and2 .ensures) (c .before .before .before .and3 .ensures) (c .before .before .before .before .before .before .before .before .before .before .before .before .before .before .before .before .before .before .before .before .new-curve .ensures .0) (c .before .before .before .before .before .before .before .before .before .before .before .before .before .before .before .before .new-curve2 .ensures .0) (c .before .before .before .before .before .before .before .before .before .before .before .before .new-curve3 .ensures .0) (c .before .before .before .before .before .before .before .before .new-curve4 .ensures .0)) in
     let no = refusal-not-passed (c .before .from-bottom .given .0 .0) _ e in (
       not-joined _ _ _ _ (check.Refused (c .before .from-bottom .given .0 .0)) _ refl e,
       ((λ t. absurd (no t)), ((λ t. absurd (no t)), ((λ t. absurd (no t)), (λ t. absurd (no t))))),
@@ -133,7 +133,7 @@ returns-2 c =
     let told = c .before .before .before .before .before .before .before .before .before in
     let p = passes told in
     let g = ends-are _ _ _ _ _ _ _ _ _ (c .before .before .before .before .boundary-ends .ensures) (table0 told) (table1 told) (table2 told) (table3 told) in
-    let e = ends-tested _ _ _ _ _ _ _ (told .enum-told .given .1) (four-curves _ _ _ _ _ _ _ _ _ _ _ (c .before .before .before .before .before .before .before .before .before .before .before .before .before .first-refused .ensures) (c .before .before .before .before .before .before .before .before .before .before .before .before .first-refused2 .ensures) (c .before .before .before .before .before .before .before .before .before .before .before .first-refused3 .ensures) (c .before .before .before .before .before .before .before .before .before .before .before .before .before .before .before .before .before .before .before .before .before .before .before .before .before .before .before .before .new-curve .ensures .0) (c .before .before .before .before .before .before .before .before .before .before .before .before .before .before .before .before .before .before .before .before .before .before .before .before .new-curve2 .ensures .0) (c .before .before .before .before .before .before .before .before .before .before .before .before .before .before .before .before .before .before .before .before .new-curve3 .ensures .0) (c .before .before .before .before .before .before .before .before .before .before .before .before .before .before .before .before .new-curve4 .ensures .0)) (c .before .before .before .check-ends .ensures) g in (
+    let e = ends-tested _ _ _ _ _ _ _ (told .enum-told .given .1) (four-curves _ _ _ _ _ _ _ _ _ _ _ (c .before .before .before .before .before .before .before .before .before .before .before .before .before .and .ensures) (c .before .before .before .before .before .before .before .before .before .before .before .before .and2 .ensures) (c .before .before .before .before .before .before .before .before .before .before .before .and3 .ensures) (c .before .before .before .before .before .before .before .before .before .before .before .before .before .before .before .before .before .before .before .before .before .before .before .before .before .before .before .before .new-curve .ensures .0) (c .before .before .before .before .before .before .before .before .before .before .before .before .before .before .before .before .before .before .before .before .before .before .before .before .new-curve2 .ensures .0) (c .before .before .before .before .before .before .before .before .before .before .before .before .before .before .before .before .before .before .before .before .new-curve3 .ensures .0) (c .before .before .before .before .before .before .before .before .before .before .before .before .before .before .before .before .new-curve4 .ensures .0)) (c .before .before .before .check-ends .ensures) g in (
       not-joined _ _ _ _ _ _ (c .before .cause .given .1) e,
       ((λ t. c .before .before .before .before .before .before .before .before .before .before .before .before .before .before .before .before .before .before .before .before .before .before .before .before .before .before .before .before .new-curve .ensures .1 (p .0)), ((λ t. c .before .before .before .before .before .before .before .before .before .before .before .before .before .before .before .before .before .before .before .before .before .before .before .before .new-curve2 .ensures .1 (p .1)), ((λ t. c .before .before .before .before .before .before .before .before .before .before .before .before .before .before .before .before .before .before .before .before .new-curve3 .ensures .1 (p .2)), (λ t. c .before .before .before .before .before .before .before .before .before .before .before .before .before .before .before .before .new-curve4 .ensures .1 (p .3))))),
     )
@@ -158,7 +158,7 @@ returns-3 c =
     let told = c .before .before .before .before .before .before .before .before in
     let p = passes told in
     let g = ends-are _ _ _ _ _ _ _ _ _ (c .before .before .before .boundary-ends .ensures) (table0 told) (table1 told) (table2 told) (table3 told) in
-    let e = ends-tested _ _ _ _ _ _ _ (told .enum-told .given .1) (four-curves _ _ _ _ _ _ _ _ _ _ _ (c .before .before .before .before .before .before .before .before .before .before .before .before .first-refused .ensures) (c .before .before .before .before .before .before .before .before .before .before .before .first-refused2 .ensures) (c .before .before .before .before .before .before .before .before .before .before .first-refused3 .ensures) (c .before .before .before .before .before .before .before .before .before .before .before .before .before .before .before .before .before .before .before .before .before .before .before .before .before .before .before .new-curve .ensures .0) (c .before .before .before .before .before .before .before .before .before .before .before .before .before .before .before .before .before .before .before .before .before .before .before .new-curve2 .ensures .0) (c .before .before .before .before .before .before .before .before .before .before .before .before .before .before .before .before .before .before .before .new-curve3 .ensures .0) (c .before .before .before .before .before .before .before .before .before .before .before .before .before .before .before .new-curve4 .ensures .0)) (c .before .before .check-ends .ensures) g in (
+    let e = ends-tested _ _ _ _ _ _ _ (told .enum-told .given .1) (four-curves _ _ _ _ _ _ _ _ _ _ _ (c .before .before .before .before .before .before .before .before .before .before .before .before .and .ensures) (c .before .before .before .before .before .before .before .before .before .before .before .and2 .ensures) (c .before .before .before .before .before .before .before .before .before .before .and3 .ensures) (c .before .before .before .before .before .before .before .before .before .before .before .before .before .before .before .before .before .before .before .before .before .before .before .before .before .before .before .new-curve .ensures .0) (c .before .before .before .before .before .before .before .before .before .before .before .before .before .before .before .before .before .before .before .before .before .before .before .new-curve2 .ensures .0) (c .before .before .before .before .before .before .before .before .before .before .before .before .before .before .before .before .before .before .before .new-curve3 .ensures .0) (c .before .before .before .before .before .before .before .before .before .before .before .before .before .before .before .new-curve4 .ensures .0)) (c .before .before .check-ends .ensures) g in (
       are-joined _ _ _ _ _ _ (c .enum-told2 .given .1) e g,
       ((λ t. c .before .before .before .before .before .before .before .before .before .before .before .before .before .before .before .before .before .before .before .before .before .before .before .before .before .before .before .new-curve .ensures .1 (p .0)), ((λ t. c .before .before .before .before .before .before .before .before .before .before .before .before .before .before .before .before .before .before .before .before .before .before .before .new-curve2 .ensures .1 (p .1)), ((λ t. c .before .before .before .before .before .before .before .before .before .before .before .before .before .before .before .before .before .before .before .new-curve3 .ensures .1 (p .2)), (λ t. c .before .before .before .before .before .before .before .before .before .before .before .before .before .before .before .new-curve4 .ensures .1 (p .3))))),
     )
@@ -171,9 +171,9 @@ checked-curves-spec =
     new-curve-requires-2
     new-curve-requires-3
     new-curve-requires-4
-    first-refused-requires
-    first-refused-requires-2
-    first-refused-requires-3
+    and-requires
+    and-requires-2
+    and-requires-3
     enum-known-from-bottom
     same-length
     same-length-2

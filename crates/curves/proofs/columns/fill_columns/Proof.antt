@@ -5,10 +5,10 @@ use native.Mathlib.Omega.{arith}
 use lib.ListN.{length}
 use denote.Ref.{now}
 use borrow.Author.Needs.{needs}
-use Rattle.curves.specs.Lists.{cat, splice}
+use Rattle.base.specs.Buffers.{cat, splice}
 use Rattle.curves.specs.Curve.{curve}
-use Rattle.curves.specs.Columns.{seam-column}
-use Rattle.curves.proofs.ListLaws.{splice-none}
+use Rattle.curves.specs.inner.Columns.{seam-column}
+use Rattle.base.proofs.BufferLaws.{splice-none}
 use Rattle.curves.proofs.columns.Laws.{next-column, filled}
 use Rattle.curves.proofs.columns.fill_columns.Statement.{statement}
 use Rattle.curves.proofs.columns.fill_columns.Tie as tie

@@ -5,9 +5,9 @@ use native.Mathlib.Omega.{arith}
 use lib.ListN.{length, length-set}
 use denote.Ref.{now}
 use borrow.Author.Needs.{needs}
-use Rattle.curves.specs.Lists.{cat, splice}
-use Rattle.curves.specs.Columns.{level-points}
-use Rattle.curves.proofs.ListLaws.{splice-none}
+use Rattle.base.specs.Buffers.{cat, splice}
+use Rattle.curves.specs.inner.Columns.{level-points}
+use Rattle.base.proofs.BufferLaws.{splice-none}
 use Rattle.curves.proofs.columns.Laws.{level-point, next-point}
 use Rattle.curves.proofs.columns.level_points.Statement.{statement}
 use Rattle.curves.proofs.columns.level_points.Tie as tie

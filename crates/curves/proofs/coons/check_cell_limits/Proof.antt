@@ -1,6 +1,6 @@
 -- `coons::check_cell_limits` meets its contract. Assumes nothing.
 use borrow.Author.Tests.{lt-ltb, le-ltb, eq-eqb, ne-eqb}
-use Rattle.counts.specs.Refusal.{outcome, verdict-of}
+use Rattle.base.specs.Refusal.{outcome, verdict-of}
 use Rattle.curves.specs.Coons.{cells-limit}
 use Rattle.curves.proofs.coons.check_cell_limits.Statement.{statement}
 use Rattle.curves.proofs.coons.check_cell_limits.Tie as tie

@@ -3,7 +3,7 @@ use Prim.Native.Nat.{_%_}
 use denote.Ref.{now}
 use lib.ListN.{length}
 use borrow.Author.Tests.{lt-ltb, le-ltb, eq-eqb, ne-eqb}
-use Rattle.counts.specs.Refusal.{outcome, verdict-of}
+use Rattle.base.specs.Refusal.{outcome, verdict-of}
 use Rattle.curves.specs.Coons.{curve-limit}
 use Rattle.curves.proofs.coons.check_curve_limit.Statement.{statement}
 use Rattle.curves.proofs.coons.check_curve_limit.Tie as tie

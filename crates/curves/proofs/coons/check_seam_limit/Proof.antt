@@ -2,7 +2,7 @@
 use denote.Ref.{now}
 use lib.ListN.{length}
 use borrow.Author.Tests.{lt-ltb, le-ltb}
-use Rattle.counts.specs.Refusal.{outcome, verdict-of}
+use Rattle.base.specs.Refusal.{outcome, verdict-of}
 use Rattle.curves.specs.Coons.{seam-limit}
 use Rattle.curves.proofs.coons.check_seam_limit.Statement.{statement}
 use Rattle.curves.proofs.coons.check_seam_limit.Tie as tie

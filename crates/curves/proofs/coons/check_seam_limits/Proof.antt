@@ -1,6 +1,6 @@
 -- `coons::check_seam_limits` meets its contract. Assumes nothing.
 use Rattle.curves.specs.Coons.{seams-limit}
-use Rattle.curves.proofs.TestLaws.{in-four}
+use Rattle.base.proofs.TestLaws.{in-four}
 use borrow.Author.Needs.{needs}
 use Rattle.curves.proofs.coons.check_seam_limits.Statement.{statement}
 use Rattle.curves.proofs.coons.check_seam_limits.Tie as tie
@@ -17,18 +17,18 @@ check-seam-limit-requires-3 c κs = search needs
 check-seam-limit-requires-4 : tie.Need-check-seam-limit-requires-4
 check-seam-limit-requires-4 c κs = search needs
 
-first-refused-requires : tie.Need-first-refused-requires
-first-refused-requires c κs = search needs
+and-requires : tie.Need-and-requires
+and-requires c κs = search needs
 
-first-refused-requires-2 : tie.Need-first-refused-requires-2
-first-refused-requires-2 c κs = search needs
+and-requires-2 : tie.Need-and-requires-2
+and-requires-2 c κs = search needs
 
-first-refused-requires-3 : tie.Need-first-refused-requires-3
-first-refused-requires-3 c κs = search needs
+and-requires-3 : tie.Need-and-requires-3
+and-requires-3 c κs = search needs
 
 returns : tie.Need-returns
 unfolding seams-limit
-returns c = in-four _ _ _ _ _ _ _ _ _ _ _ (c .before .before .first-refused .ensures) (c .before .first-refused2 .ensures) (c .first-refused3 .ensures) (c .before .before .before .before .before .before .check-seam-limit .ensures) (c .before .before .before .before .before .check-seam-limit2 .ensures) (c .before .before .before .before .check-seam-limit3 .ensures) (c .before .before .before .check-seam-limit4 .ensures)
+returns c = in-four _ _ _ _ _ _ _ _ _ _ _ (c .before .before .and .ensures) (c .before .and2 .ensures) (c .and3 .ensures) (c .before .before .before .before .before .before .check-seam-limit .ensures) (c .before .before .before .before .before .check-seam-limit2 .ensures) (c .before .before .before .before .check-seam-limit3 .ensures) (c .before .before .before .check-seam-limit4 .ensures)
 
 pub check-seam-limits-spec : {M : Type 1} → statement M
 check-seam-limits-spec =
@@ -38,7 +38,7 @@ check-seam-limits-spec =
     check-seam-limit-requires-2
     check-seam-limit-requires-3
     check-seam-limit-requires-4
-    first-refused-requires
-    first-refused-requires-2
-    first-refused-requires-3
+    and-requires
+    and-requires-2
+    and-requires-3
     returns)

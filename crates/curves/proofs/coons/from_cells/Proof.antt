@@ -15,15 +15,15 @@ check-curve-limits-requires c κs = search needs
 check-cell-limits-requires : tie.Need-check-cell-limits-requires
 check-cell-limits-requires c κs = search needs
 
-first-refused-requires : tie.Need-first-refused-requires
-first-refused-requires c κs = search needs
+and-requires : tie.Need-and-requires
+and-requires c κs = search needs
 
 enum-known-cause : tie.Need-enum-known-cause
 enum-known-cause c = search needs
 
 returns : tie.Need-returns
 unfolding coons-curves
-returns c = at-limits (now (c .before .before .before .before .before .before .before .before .before .before .before .args .out)) _ _ _ _ _ _ _ (c .before .cause .given .1) (c .before .before .before .first-refused .ensures) (c .before .before .before .before .before .check-curve-limits .ensures) (c .before .before .before .before .check-cell-limits .ensures)
+returns c = at-limits (now (c .before .before .before .before .before .before .before .before .before .before .before .args .out)) _ _ _ _ _ _ _ (c .before .cause .given .1) (c .before .before .before .and .ensures) (c .before .before .before .before .before .check-curve-limits .ensures) (c .before .before .before .before .check-cell-limits .ensures)
 
 enum-told : tie.Need-enum-told
 enum-told c = search needs
@@ -33,7 +33,7 @@ slice-aggregate-uniform-parameters c = search needs
 
 uniform-parameters-requires : tie.Need-uniform-parameters-requires
 uniform-parameters-requires c κs =
-    let q = cells-let-by (c .before .before .before .before .before .before .before .before .before .before .before .args .n-u) (c .before .before .before .before .before .before .before .before .before .before .before .args .n-v) ((limits-passed _ _ _ _ _ (c .before .enum-told .given .1) (c .before .before .before .first-refused .ensures) (c .before .before .before .before .before .check-curve-limits .ensures) (c .before .before .before .before .check-cell-limits .ensures)) .1) in
+    let q = cells-let-by (c .before .before .before .before .before .before .before .before .before .before .before .args .n-u) (c .before .before .before .before .before .before .before .before .before .before .before .args .n-v) ((limits-passed _ _ _ _ _ (c .before .enum-told .given .1) (c .before .before .before .and .ensures) (c .before .before .before .before .before .check-curve-limits .ensures) (c .before .before .before .before .check-cell-limits .ensures)) .1) in
     omega (arith, q .0)
 
 slice-aggregate-uniform-parameters-2 : tie.Need-slice-aggregate-uniform-parameters-2
@@ -41,7 +41,7 @@ slice-aggregate-uniform-parameters-2 c = search needs
 
 uniform-parameters-requires-2 : tie.Need-uniform-parameters-requires-2
 uniform-parameters-requires-2 c κs =
-    let q = cells-let-by (c .before .before .before .before .before .before .before .before .before .before .before .before .before .before .args .n-u) (c .before .before .before .before .before .before .before .before .before .before .before .before .before .before .args .n-v) ((limits-passed _ _ _ _ _ (c .before .before .before .before .enum-told .given .1) (c .before .before .before .before .before .before .first-refused .ensures) (c .before .before .before .before .before .before .before .before .check-curve-limits .ensures) (c .before .before .before .before .before .before .before .check-cell-limits .ensures)) .1) in
+    let q = cells-let-by (c .before .before .before .before .before .before .before .before .before .before .before .before .before .before .args .n-u) (c .before .before .before .before .before .before .before .before .before .before .before .before .before .before .args .n-v) ((limits-passed _ _ _ _ _ (c .before .before .before .before .enum-told .given .1) (c .before .before .before .before .before .before .and .ensures) (c .before .before .before .before .before .before .before .before .check-curve-limits .ensures) (c .before .before .before .before .before .before .before .check-cell-limits .ensures)) .1) in
     omega (arith, q .1)
 
 add-along-u : tie.Need-add-along-u
@@ -52,7 +52,7 @@ add-along-v c = search needs
 
 array-share-prefix-us : tie.Need-array-share-prefix-us
 array-share-prefix-us c =
-    let q = cells-let-by (c .before .before .before .before .before .before .before .before .before .before .before .before .before .before .before .before .args .n-u) (c .before .before .before .before .before .before .before .before .before .before .before .before .before .before .before .before .args .n-v) ((limits-passed _ _ _ _ _ (c .before .before .before .before .before .before .enum-told .given .1) (c .before .before .before .before .before .before .before .before .first-refused .ensures) (c .before .before .before .before .before .before .before .before .before .before .check-curve-limits .ensures) (c .before .before .before .before .before .before .before .before .before .check-cell-limits .ensures)) .1) in
+    let q = cells-let-by (c .before .before .before .before .before .before .before .before .before .before .before .before .before .before .before .before .args .n-u) (c .before .before .before .before .before .before .before .before .before .before .before .before .before .before .before .before .args .n-v) ((limits-passed _ _ _ _ _ (c .before .before .before .before .before .before .enum-told .given .1) (c .before .before .before .before .before .before .before .before .and .ensures) (c .before .before .before .before .before .before .before .before .before .before .check-curve-limits .ensures) (c .before .before .before .before .before .before .before .before .before .check-cell-limits .ensures)) .1) in
     omega (arith, q .0, c .before .before .before .before .uniform-parameters .kept)
 
 slice-aggregate-from-even-parameters : tie.Need-slice-aggregate-from-even-parameters
@@ -60,7 +60,7 @@ slice-aggregate-from-even-parameters c = sym (ap length (even-part (c .before .b
 
 array-share-prefix-vs : tie.Need-array-share-prefix-vs
 array-share-prefix-vs c =
-    let q = cells-let-by (c .before .before .before .before .before .before .before .before .before .before .before .before .before .before .before .before .before .args .n-u) (c .before .before .before .before .before .before .before .before .before .before .before .before .before .before .before .before .before .args .n-v) ((limits-passed _ _ _ _ _ (c .before .before .before .before .before .before .before .enum-told .given .1) (c .before .before .before .before .before .before .before .before .before .first-refused .ensures) (c .before .before .before .before .before .before .before .before .before .before .before .check-curve-limits .ensures) (c .before .before .before .before .before .before .before .before .before .before .check-cell-limits .ensures)) .1) in
+    let q = cells-let-by (c .before .before .before .before .before .before .before .before .before .before .before .before .before .before .before .before .before .args .n-u) (c .before .before .before .before .before .before .before .before .before .before .before .before .before .before .before .before .before .args .n-v) ((limits-passed _ _ _ _ _ (c .before .before .before .before .before .before .before .enum-told .given .1) (c .before .before .before .before .before .before .before .before .before .and .ensures) (c .before .before .before .before .before .before .before .before .before .before .before .check-curve-limits .ensures) (c .before .before .before .before .before .before .before .before .before .before .check-cell-limits .ensures)) .1) in
     omega (arith, q .1, c .before .before .uniform-parameters2 .kept)
 
 slice-aggregate-from-even-parameters-2 : tie.Need-slice-aggregate-from-even-parameters-2
@@ -76,7 +76,7 @@ returns-2 : tie.Need-returns-2
 unfolding coons-curves
 returns-2 c =
     let a = c .before .before .before .before .before .before .before .before .before .before .before .before .before .before .before .before .before .before .before .before .before .before .args in
-    past-limits (now (a .out)) _ _ _ _ _ _ _ (c .before .before .before .before .before .before .before .before .before .before .before .before .enum-told .given .1) (c .before .before .before .before .before .before .before .before .before .before .before .before .before .before .first-refused .ensures) (c .before .before .before .before .before .before .before .before .before .before .before .before .before .before .before .before .check-curve-limits .ensures) (c .before .before .before .before .before .before .before .before .before .before .before .before .before .before .before .check-cell-limits .ensures) (c .before .before .from-even-parameters .ensures ∙ same-seams (a .layout) (now (a .bottom)) (now (a .right)) (now (a .top)) (now (a .left)) (c .before .before .before .before .before .before .before .before .before .before .before .before .before .before .before .before .before .before .before .before .before .before .args .n-u) (c .before .before .before .before .before .before .before .before .before .before .before .before .before .before .before .before .before .before .before .before .before .before .args .n-v) _ _ (now (a .out)) (even-part (c .before .before .before .before .before .before .before .before .before .before .before .before .before .before .before .before .before .before .before .before .before .before .args .n-u) _ _ (c .before .before .before .before .before .before .before .before .before .before .uniform-parameters .ensures)) (even-part (c .before .before .before .before .before .before .before .before .before .before .before .before .before .before .before .before .before .before .before .before .before .before .args .n-v) _ _ (c .before .before .before .before .before .before .before .uniform-parameters2 .ensures)))
+    past-limits (now (a .out)) _ _ _ _ _ _ _ (c .before .before .before .before .before .before .before .before .before .before .before .before .enum-told .given .1) (c .before .before .before .before .before .before .before .before .before .before .before .before .before .before .and .ensures) (c .before .before .before .before .before .before .before .before .before .before .before .before .before .before .before .before .check-curve-limits .ensures) (c .before .before .before .before .before .before .before .before .before .before .before .before .before .before .before .check-cell-limits .ensures) (c .before .before .from-even-parameters .ensures ∙ same-seams (a .layout) (now (a .bottom)) (now (a .right)) (now (a .top)) (now (a .left)) (c .before .before .before .before .before .before .before .before .before .before .before .before .before .before .before .before .before .before .before .before .before .before .args .n-u) (c .before .before .before .before .before .before .before .before .before .before .before .before .before .before .before .before .before .before .before .before .before .before .args .n-v) _ _ (now (a .out)) (even-part (c .before .before .before .before .before .before .before .before .before .before .before .before .before .before .before .before .before .before .before .before .before .before .args .n-u) _ _ (c .before .before .before .before .before .before .before .before .before .before .uniform-parameters .ensures)) (even-part (c .before .before .before .before .before .before .before .before .before .before .before .before .before .before .before .before .before .before .before .before .before .before .args .n-v) _ _ (c .before .before .before .before .before .before .before .uniform-parameters2 .ensures)))
 
 pub from-cells-spec : {M : Type 1} → statement M
 from-cells-spec =
@@ -84,7 +84,7 @@ from-cells-spec =
     (tie.spec
     check-curve-limits-requires
     check-cell-limits-requires
-    first-refused-requires
+    and-requires
     enum-known-cause
     returns
     enum-told

@@ -12,22 +12,22 @@ check-curve-limits-requires c κs = search needs
 check-seam-limits-requires : tie.Need-check-seam-limits-requires
 check-seam-limits-requires c κs = search needs
 
-first-refused-requires : tie.Need-first-refused-requires
-first-refused-requires c κs = search needs
+and-requires : tie.Need-and-requires
+and-requires c κs = search needs
 
 enum-known-cause : tie.Need-enum-known-cause
 enum-known-cause c = search needs
 
 returns : tie.Need-returns
 unfolding coons-from-parameters
-returns c = at-limits (now (c .before .before .before .before .before .before .before .before .before .before .before .before .before .before .before .args .out)) _ _ _ _ _ _ _ (c .before .cause .given .1) (c .before .before .before .first-refused .ensures) (c .before .before .before .before .before .check-curve-limits .ensures) (c .before .before .before .before .check-seam-limits .ensures)
+returns c = at-limits (now (c .before .before .before .before .before .before .before .before .before .before .before .before .before .before .before .args .out)) _ _ _ _ _ _ _ (c .before .cause .given .1) (c .before .before .before .and .ensures) (c .before .before .before .before .before .check-curve-limits .ensures) (c .before .before .before .before .check-seam-limits .ensures)
 
 enum-told : tie.Need-enum-told
 enum-told c = search needs
 
 make-patch-requires : tie.Need-make-patch-requires
 make-patch-requires c κs =
-    let q = limits-passed _ _ _ _ _ (c .before .enum-told .given .1) (c .before .before .before .first-refused .ensures) (c .before .before .before .before .before .check-curve-limits .ensures) (c .before .before .before .before .check-seam-limits .ensures) in
+    let q = limits-passed _ _ _ _ _ (c .before .enum-told .given .1) (c .before .before .before .and .ensures) (c .before .before .before .before .before .check-curve-limits .ensures) (c .before .before .before .before .check-seam-limits .ensures) in
     (curves-let-by _ _ _ _ (q .0), seams-let-by _ _ _ _ (q .1))
 
 same-length : tie.Need-same-length
@@ -35,7 +35,7 @@ same-length c = search needs
 
 returns-2 : tie.Need-returns-2
 unfolding coons-from-parameters
-returns-2 c = past-limits (now (c .before .before .before .before .before .before .before .before .before .before .before .before .before .before .before .before .before .before .args .out)) _ _ _ _ _ _ _ (c .before .before .before .before .enum-told .given .1) (c .before .before .before .before .before .before .first-refused .ensures) (c .before .before .before .before .before .before .before .before .check-curve-limits .ensures) (c .before .before .before .before .before .before .before .check-seam-limits .ensures) (c .before .before .make-patch .ensures)
+returns-2 c = past-limits (now (c .before .before .before .before .before .before .before .before .before .before .before .before .before .before .before .before .before .before .args .out)) _ _ _ _ _ _ _ (c .before .before .before .before .enum-told .given .1) (c .before .before .before .before .before .before .and .ensures) (c .before .before .before .before .before .before .before .before .check-curve-limits .ensures) (c .before .before .before .before .before .before .before .check-seam-limits .ensures) (c .before .before .make-patch .ensures)
 
 pub from-parameters-spec : {M : Type 1} → statement M
 from-parameters-spec =
@@ -43,7 +43,7 @@ from-parameters-spec =
     (tie.spec
     check-curve-limits-requires
     check-seam-limits-requires
-    first-refused-requires
+    and-requires
     enum-known-cause
     returns
     enum-told

@@ -1,5 +1,5 @@
 -- `coons::is_small` meets its contract. Assumes nothing.
-use Rattle.curves.proofs.scalar.Laws.{impossible}
+use Rattle.floats.proofs.scalar.Laws.{impossible}
 use borrow.Author.Needs.{needs}
 use Rattle.curves.proofs.coons.is_small.Statement.{statement}
 use Rattle.curves.proofs.coons.is_small.Tie as tie

@@ -3,8 +3,8 @@ use mathlib.Core.Path.{refl, sym, ap, _∙_}
 use native.Mathlib.Omega.{arith}
 use denote.Ref.{now}
 use lib.ListN.{length}
-use Rattle.counts.specs.declared.refusal.Check.the-variants as check
-use Rattle.counts.proofs.BoolLaws.{true-T}
+use Rattle.base.specs.declared.refusal.Check.the-variants as check
+use Rattle.base.proofs.BoolLaws.{true-T}
 use Rattle.curves.specs.Boundary.{BoundaryCurves, boundary-ends, checked-curves, joined-of}
 use Rattle.curves.specs.Grid.{seams}
 use Rattle.curves.specs.Coons.{patch, grid-stage}

@@ -3,7 +3,7 @@ use mathlib.Core.Path.{_≡_, sym, ap, _∙_}
 use mathlib.Core.Bool.{false}
 use lib.Ieee.{Float, lt}
 use borrow.Author.Needs.{needs}
-use Rattle.curves.specs.Scalar.{e-12, float-abs}
+use Rattle.floats.specs.Scalar.{e-12, float-abs}
 use Rattle.curves.specs.Point.{point-of}
 use Rattle.curves.specs.Crossing.{denominator}
 use Rattle.curves.proofs.crossing.Laws.{parallel, not-parallel, inside, u-outside, v-outside}

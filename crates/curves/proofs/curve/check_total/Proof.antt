@@ -1,5 +1,5 @@
 -- `curve::check_total` meets its contract. Assumes nothing.
-use Rattle.counts.specs.Refusal.{outcome, verdict-of}
+use Rattle.base.specs.Refusal.{outcome, verdict-of}
 use Rattle.curves.specs.Curve.{total-test}
 use borrow.Author.Needs.{needs}
 use Rattle.curves.proofs.curve.check_total.Statement.{statement}

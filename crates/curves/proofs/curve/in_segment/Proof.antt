@@ -1,6 +1,6 @@
 -- `curve::in_segment` meets its contract. Assumes nothing.
 use native.Mathlib.Omega.{arith}
-use Rattle.curves.proofs.scalar.Laws.{impossible}
+use Rattle.floats.proofs.scalar.Laws.{impossible}
 use borrow.Author.Needs.{needs}
 use Rattle.curves.proofs.curve.in_segment.Statement.{statement}
 use Rattle.curves.proofs.curve.in_segment.Tie as tie

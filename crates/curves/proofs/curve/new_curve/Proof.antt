@@ -1,7 +1,7 @@
 -- `curve::new_curve` meets its contract: each way through the code is a law of the definition. Assumes nothing.
 use mathlib.Core.Path.{sym, _∙_}
 use borrow.Author.Tests.{not-true, not-false}
-use Rattle.counts.specs.Refusal.{outcome, verdict-of}
+use Rattle.base.specs.Refusal.{outcome, verdict-of}
 use Rattle.curves.proofs.curve.Laws.{too-short, not-finite, measured}
 use borrow.Author.Needs.{needs}
 use Rattle.curves.proofs.curve.new_curve.Statement.{statement}

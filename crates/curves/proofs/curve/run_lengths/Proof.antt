@@ -4,9 +4,9 @@ use Prim.Native.Nat.{ℕ, _+_, _-_, _/_, _<_}
 use native.Mathlib.Omega.{arith}
 use lib.ListN.{length, length-set}
 use denote.Ref.{now}
-use Rattle.curves.specs.Lists.{tab, splice}
+use Rattle.base.specs.Buffers.{tab, splice}
 use Rattle.curves.specs.Curve.{length-to, cumulative-of}
-use Rattle.curves.proofs.ListLaws.{fill-step}
+use Rattle.base.proofs.BufferLaws.{fill-step}
 use Rattle.curves.proofs.curve.Laws.{length-more}
 use borrow.Author.Needs.{needs}
 use Rattle.curves.proofs.curve.run_lengths.Statement.{statement}

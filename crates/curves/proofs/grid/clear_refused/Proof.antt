@@ -3,9 +3,9 @@ use mathlib.Core.Path.{refl, sym, ap, _∙_}
 use mathlib.Core.Bool.{Bool, cond}
 use Prim.Native.Nat.{ℕ}
 use denote.Ref.{now}
-use Rattle.counts.specs.Refusal.{outcome}
-use Rattle.counts.proofs.RefusalLaws.{was-refused, was-passed}
-use Rattle.curves.specs.Lists.{splice}
+use Rattle.base.specs.Refusal.{outcome}
+use Rattle.base.proofs.TestLaws.{was-refused, was-passed}
+use Rattle.base.specs.Buffers.{splice}
 use Rattle.curves.specs.Quad.{zeros}
 use Rattle.curves.specs.Grid.{needed}
 use borrow.Author.Needs.{needs}

@@ -5,9 +5,9 @@ use native.Mathlib.Omega.{arith}
 use lib.ListN.{length, length-set}
 use denote.Ref.{now}
 use borrow.Author.Needs.{needs}
-use Rattle.counts.specs.Refusal.{outcome}
+use Rattle.base.specs.Refusal.{outcome}
 use Rattle.curves.specs.Grid.{Row, crossings}
-use Rattle.curves.proofs.TestLaws.{refused-not-passed}
+use Rattle.base.proofs.TestLaws.{refused-not-passed}
 use Rattle.curves.proofs.grid.Laws.{Begun, row-begins, row-goes-on, row-stops, row-ends}
 use Rattle.curves.proofs.grid.fill_crossings.Statement.{statement}
 use Rattle.curves.proofs.grid.fill_crossings.Tie as tie

@@ -4,7 +4,7 @@ use native.Mathlib.Omega.{arith}
 use denote.Ref.{now}
 use Rattle.curves.specs.Curve.{curve}
 use Rattle.curves.specs.Boundary.{boundary, BoundaryCurves}
-use Rattle.curves.proofs.TestLaws.{refused-not-passed, told-passed}
+use Rattle.base.proofs.TestLaws.{refused-not-passed, told-passed}
 use Rattle.curves.proofs.grid.RowLaws.{level-told, mapped-told, crossing-refused}
 use borrow.Author.Needs.{needs}
 use Rattle.curves.proofs.grid.fill_row.Statement.{statement}

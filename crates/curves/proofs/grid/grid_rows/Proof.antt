@@ -5,14 +5,14 @@ use Prim.Native.Nat.{ℕ, _+_, _-_, _*_, _≤_, _<_}
 use denote.Ref.{now}
 use lib.ListN.{length, take}
 use lib.Seq.{length-take-le}
-use Rattle.counts.specs.Refusal.{outcome}
-use Rattle.curves.specs.Lists.{cat, splice}
-use Rattle.curves.specs.Tests.{first-of}
+use Rattle.base.specs.Refusal.{outcome}
+use Rattle.base.specs.Buffers.{cat, splice}
+use Rattle.base.specs.Tests.{first-of}
 use Rattle.curves.specs.Curve.{curve}
 use Rattle.curves.specs.Boundary.{boundary}
 use Rattle.curves.specs.Grid.{Grid, seams, grid-of, grid-part}
-use Rattle.curves.proofs.ListLaws.{splice-none}
-use Rattle.curves.proofs.TestLaws.{told-passed}
+use Rattle.base.proofs.BufferLaws.{splice-none}
+use Rattle.base.proofs.TestLaws.{told-passed}
 use Rattle.curves.proofs.columns.Laws.{fewer}
 use Rattle.curves.proofs.rows.Laws.{size-told, copied-row, RowBefore, none-before, row-passed, cells-below, cells-begin, cells-step, cells-end, row-fits, row-end, row-written}
 use Rattle.curves.proofs.grid.Filled.{row-part-read, RowsLeft, rows-begin, rows-next, row-stops, grid-told, laid-until, laid-all}
@@ -125,8 +125,8 @@ lay-row-requires c κs =
     let tall = length-take-le (2 * (n + 1)) high (omega (arith, c .before .before .before .before .before .before .before .before .before .before .before .before .before .before .before .before .before .before .before .before .before .before .before .before .before .before .before .before .before .before .pre .1 .1 .1 .1 .1 .0, c .before .before .before .before .before .before .before .before .before .before .before .before .before .before .before .before .before .before .before .before .before .before .before .before .before .before .before .before .before .before .pre .1 .1 .1 .1 .1 .1 .0, c .before .before .before .before .before .before .before .fill-row .kept .1 .1 .1 .1 .1 .1 .1 .1 .1 .1 .1 .1 .1 .1 .1 .1 .1 .1 .1 .0, l .inv .3)) in
     (omega (arith, c .before .before .before .before .before .before .before .before .before .before .before .before .before .before .before .before .before .before .before .before .before .before .before .before .before .before .before .before .before .before .pre .1 .1 .1 .1 .1 .0), omega (arith, h, c .before .before .before .before .before .before .before .before .before .before .before .before .before .before .before .before .before .before .before .before .before .before .before .before .before .before .before .before .before .before .pre .1 .1 .1 .1 .1 .0), omega (arith, wide), omega (arith, tall), omega (arith, fits, l .inv .1))
 
-first-refused-requires : tie.Need-first-refused-requires Inv-loop μ-loop
-first-refused-requires c κs = search needs
+and-requires : tie.Need-and-requires Inv-loop μ-loop
+and-requires c κs = search needs
 
 row-size-requires : tie.Need-row-size-requires Inv-loop μ-loop
 row-size-requires c κs = omega (arith, c .before .before .before .before .before .before .before .before .before .before .before .before .before .before .before .before .before .before .before .before .before .before .before .before .before .before .before .before .before .before .before .before .before .before .pre .1 .1 .1 .1 .1 .0)
@@ -180,7 +180,7 @@ loop-again c =
       row-written f n (a .layout) (now (a .out)) (l .out) _ m (l .j) (l .at) _ _ (l .inv .6) row (l .inv .4) h (c .before .before .before .before .before .before .before .before .before .before .before .before .before .before .before .before .before .before .before .before .before .before .before .before .before .before .before .before .before .before .before .before .before .before .before .before .before .before .before .pre .1 .1 .1 .1 .1 .1 .1) (l .inv .5) (c .before .before .before .before .before .before .before .before .lay-row .ensures .1),
       row-passed f n (l .j) _ (next ∙ row),
       rows-next f n m (l .j) _ (l .inv .7) h (c .before .before .before .before .before .before .before .before .before .before .before .before .enum-told2 .given .1) (c .before .before .before .before .before .before .before .before .before .before .before .before .before .before .before .before .fill-row .ensures .0),
-      cells-step f n (l .j) _ _ _ _ _ (l .inv .6) row (l .inv .8) (c .before .before .before .before .before .before .before .before .lay-row .ensures .0) (c .before .before .before .before .before .first-refused .ensures),
+      cells-step f n (l .j) _ _ _ _ _ (l .inv .6) row (l .inv .8) (c .before .before .before .before .before .before .before .before .lay-row .ensures .0) (c .before .before .before .before .before .and .ensures),
     )
 
 same-length-4 : tie.Need-same-length-4 Inv-loop μ-loop
@@ -229,7 +229,7 @@ grid-rows-spec =
     slice-reshare-prefix-upper
     slice-aggregate-upper
     lay-row-requires
-    first-refused-requires
+    and-requires
     row-size-requires
     add-at
     copy-row-requires

@@ -5,11 +5,11 @@ use native.Mathlib.Omega.{arith}
 use lib.ListN.{length, length-set}
 use denote.Ref.{now}
 use borrow.Author.Needs.{needs}
-use Rattle.curves.specs.Lists.{cat, splice}
+use Rattle.base.specs.Buffers.{cat, splice}
 use Rattle.curves.specs.Curve.{curve}
 use Rattle.curves.specs.Boundary.{BoundaryCurves, boundary}
-use Rattle.curves.specs.Rows.{mapped-points}
-use Rattle.curves.proofs.ListLaws.{splice-none}
+use Rattle.curves.specs.inner.Rows.{mapped-points}
+use Rattle.base.proofs.BufferLaws.{splice-none}
 use Rattle.curves.proofs.grid.Laws.{mapped-point, next-mapped}
 use Rattle.curves.proofs.grid.map_points.Statement.{statement}
 use Rattle.curves.proofs.grid.map_points.Tie as tie

@@ -8,9 +8,9 @@ use lib.Dec.{ltb}
 use lib.ListN.{length, getD, drop}
 use borrow.Author.Needs.{needs}
 use borrow.Author.Tests.{lt-ltb, le-ltb}
-use Rattle.counts.specs.Lists.{all}
-use Rattle.counts.specs.Refusal.{outcome, verdict-of}
-use Rattle.counts.proofs.Turns.{all-here, all-next, all-end}
+use Rattle.base.specs.Lists.{all}
+use Rattle.base.specs.Refusal.{outcome, verdict-of}
+use Rattle.base.proofs.Turns.{all-here, all-next, all-end}
 use Rattle.curves.proofs.lay.Laws.{edges-by}
 use Rattle.curves.proofs.lay.check_edges.Statement.{statement}
 use Rattle.curves.proofs.lay.check_edges.Tie as tie

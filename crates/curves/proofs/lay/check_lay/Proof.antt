@@ -1,6 +1,6 @@
 -- `lay::check_lay` meets its contract. Assumes nothing.
 use Rattle.curves.specs.Lay.{sides-test, lay-test}
-use Rattle.curves.proofs.TestLaws.{in-turn}
+use Rattle.base.proofs.TestLaws.{in-turn}
 use borrow.Author.Needs.{needs}
 use Rattle.curves.proofs.lay.check_lay.Statement.{statement}
 use Rattle.curves.proofs.lay.check_lay.Tie as tie
@@ -17,20 +17,20 @@ check-all-edges-requires c κs = search needs
 check-all-breaks-requires : tie.Need-check-all-breaks-requires
 check-all-breaks-requires c κs = search needs
 
-first-refused-requires : tie.Need-first-refused-requires
-first-refused-requires c κs = search needs
+and-requires : tie.Need-and-requires
+and-requires c κs = search needs
 
-first-refused-requires-2 : tie.Need-first-refused-requires-2
-first-refused-requires-2 c κs = search needs
+and-requires-2 : tie.Need-and-requires-2
+and-requires-2 c κs = search needs
 
-first-refused-requires-3 : tie.Need-first-refused-requires-3
-first-refused-requires-3 c κs = search needs
+and-requires-3 : tie.Need-and-requires-3
+and-requires-3 c κs = search needs
 
 returns : tie.Need-returns
 unfolding lay-test sides-test
 returns c =
-    in-turn _ _ _ _ _ (c .first-refused3 .ensures) (c .before .before .before .before .before .before .check-record .ensures)
-    (in-turn _ _ _ _ _ (c .before .first-refused2 .ensures) (c .before .before .before .before .before .check-curve-limits .ensures) (in-turn _ _ _ _ _ (c .before .before .first-refused .ensures) (c .before .before .before .before .check-all-edges .ensures) (c .before .before .before .check-all-breaks .ensures)))
+    in-turn _ _ _ _ _ (c .and3 .ensures) (c .before .before .before .before .before .before .check-record .ensures)
+    (in-turn _ _ _ _ _ (c .before .and2 .ensures) (c .before .before .before .before .before .check-curve-limits .ensures) (in-turn _ _ _ _ _ (c .before .before .and .ensures) (c .before .before .before .before .check-all-edges .ensures) (c .before .before .before .check-all-breaks .ensures)))
 
 pub check-lay-spec : {M : Type 1} → statement M
 check-lay-spec =
@@ -40,7 +40,7 @@ check-lay-spec =
     check-curve-limits-requires
     check-all-edges-requires
     check-all-breaks-requires
-    first-refused-requires
-    first-refused-requires-2
-    first-refused-requires-3
+    and-requires
+    and-requires-2
+    and-requires-3
     returns)

@@ -5,7 +5,7 @@ use denote.Ref.{now}
 use lib.ListN.{length}
 use borrow.Author.Needs.{needs}
 use borrow.Author.Tests.{eq-eqb, ne-eqb}
-use Rattle.counts.specs.Refusal.{outcome, verdict-of}
+use Rattle.base.specs.Refusal.{outcome, verdict-of}
 use Rattle.curves.proofs.lay.Laws.{record-by}
 use Rattle.curves.proofs.lay.check_record.Statement.{statement}
 use Rattle.curves.proofs.lay.check_record.Tie as tie

@@ -6,8 +6,8 @@ use native.Mathlib.Omega.{arith}
 use denote.Ref.{now}
 use lib.ListN.{length, getD, take, drop, drop-of-length-le, length-set}
 use Rattle.counts.specs.Region.{side-sum}
-use Rattle.counts.proofs.Turns.{drop-at}
-use Rattle.curves.specs.Lists.{splice}
+use Rattle.base.proofs.Turns.{drop-at}
+use Rattle.base.specs.Buffers.{splice}
 use Rattle.curves.specs.Lay.{counts-along}
 use Rattle.curves.proofs.lay.Laws.{along-more, along-done, edge-below}
 use Rattle.curves.proofs.lay.counts_along.Statement.{statement}

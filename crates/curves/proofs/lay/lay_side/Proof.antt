@@ -8,12 +8,12 @@ use lib.Dec.{T, ltb}
 use lib.ListN.{length, take}
 use lib.Seq.{length-take-le}
 use borrow.Author.Needs.{needs}
-use Rattle.counts.specs.Lists.{all}
+use Rattle.base.specs.Lists.{all}
 use Rattle.counts.specs.Region.{places, side, side-sum}
-use Rattle.curves.specs.Lists.{splice}
+use Rattle.base.specs.Buffers.{splice}
 use Rattle.curves.specs.Seam.{side-seam}
 use Rattle.curves.specs.Lay.{counts-along}
-use Rattle.curves.proofs.ListLaws.{take-splice}
+use Rattle.base.proofs.BufferLaws.{take-splice}
 use Rattle.curves.proofs.lay.Laws.{length-seam, seam-is, length-along, along-part, edges-known, breaks-known}
 use Rattle.curves.proofs.lay.lay_side.Statement.{statement}
 use Rattle.curves.proofs.lay.lay_side.Tie as tie

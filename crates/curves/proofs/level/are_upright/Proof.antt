@@ -4,7 +4,7 @@ use native.Mathlib.Omega.{arith}
 use borrow.Author.Needs.{needs}
 use borrow.Author.Tests.{not-false}
 use lib.ListN.{length}
-use Rattle.curves.proofs.scalar.Laws.{impossible}
+use Rattle.floats.proofs.scalar.Laws.{impossible}
 use Rattle.curves.proofs.level.Laws.{UprightTo, upright-none, upright-more}
 use Rattle.curves.proofs.level.are_upright.Statement.{statement}
 use Rattle.curves.proofs.level.are_upright.Tie as tie

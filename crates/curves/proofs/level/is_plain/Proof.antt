@@ -1,7 +1,7 @@
 -- `level::is_plain` meets its contract. Assumes nothing.
 use mathlib.Core.Path.{sym, _∙_}
 use denote.Floats.{passes}
-use Rattle.curves.proofs.scalar.Laws.{impossible}
+use Rattle.floats.proofs.scalar.Laws.{impossible}
 use Rattle.curves.proofs.level.Laws.{known, plain-by}
 use borrow.Author.Needs.{needs}
 use Rattle.curves.proofs.level.is_plain.Statement.{statement}

@@ -1,5 +1,5 @@
 -- `level::is_straight` meets its contract. Assumes nothing.
-use Rattle.curves.proofs.scalar.Laws.{impossible}
+use Rattle.floats.proofs.scalar.Laws.{impossible}
 use borrow.Author.Needs.{needs}
 use Rattle.curves.proofs.level.is_straight.Statement.{statement}
 use Rattle.curves.proofs.level.is_straight.Tie as tie

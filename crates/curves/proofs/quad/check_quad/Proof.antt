@@ -1,5 +1,5 @@
 -- `quad::check_quad` meets its contract. Assumes nothing.
-use Rattle.counts.specs.Refusal.{outcome, verdict-of}
+use Rattle.base.specs.Refusal.{outcome, verdict-of}
 use Rattle.curves.specs.Quad.{quad-test}
 use borrow.Author.Needs.{needs}
 use Rattle.curves.proofs.quad.check_quad.Statement.{statement}

@@ -4,10 +4,10 @@ use Prim.Native.Nat.{ℕ, _-_, _≤_}
 use native.Mathlib.Omega.{arith}
 use lib.ListN.{length, length-set}
 use denote.Ref.{now}
-use Rattle.curves.specs.Scalar.{nought}
-use Rattle.curves.specs.Lists.{splice}
+use Rattle.floats.specs.Scalar.{nought}
+use Rattle.base.specs.Buffers.{splice}
 use Rattle.curves.specs.Quad.{zeros}
-use Rattle.curves.proofs.ListLaws.{fill-step}
+use Rattle.base.proofs.BufferLaws.{fill-step}
 use Rattle.curves.proofs.quad.clear.Statement.{statement}
 use Rattle.curves.proofs.quad.clear.Tie as tie
 

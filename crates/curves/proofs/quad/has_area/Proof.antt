@@ -1,7 +1,7 @@
 -- `quad::has_area` meets its contract. Assumes nothing.
 use mathlib.Core.Path.{ap, _∙_}
 use borrow.Author.Needs.{needs}
-use Rattle.curves.specs.Scalar.{is-positive}
+use Rattle.floats.specs.Scalar.{is-positive}
 use Rattle.curves.proofs.quad.has_area.Statement.{statement}
 use Rattle.curves.proofs.quad.has_area.Tie as tie
 

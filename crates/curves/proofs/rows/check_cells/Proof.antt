@@ -2,10 +2,10 @@
 use mathlib.Core.Path.{_≡_, sym, _∙_}
 use Prim.Native.Nat.{_-_}
 use native.Mathlib.Omega.{arith}
-use Rattle.counts.specs.Refusal.{outcome}
-use Rattle.curves.specs.Tests.{first-of}
+use Rattle.base.specs.Refusal.{outcome}
+use Rattle.base.specs.Tests.{first-of}
 use Rattle.curves.specs.Grid.{cell-test, cells-test}
-use Rattle.curves.proofs.TestLaws.{first-start, first-next, first-stops, first-done}
+use Rattle.base.proofs.TestLaws.{first-start, first-next, first-stops, first-done}
 use borrow.Author.Needs.{needs}
 use Rattle.curves.proofs.rows.check_cells.Statement.{statement}
 use Rattle.curves.proofs.rows.check_cells.Tie as tie

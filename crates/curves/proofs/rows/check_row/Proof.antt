@@ -2,7 +2,7 @@
 use mathlib.Core.Path.{sym, _∙_}
 use native.Mathlib.Omega.{arith}
 use denote.Ref.{now}
-use Rattle.counts.specs.Refusal.{outcome}
+use Rattle.base.specs.Refusal.{outcome}
 use Rattle.curves.proofs.rows.Laws.{below-first, below-later}
 use Rattle.curves.proofs.rows.check_row.Statement.{statement}
 use Rattle.curves.proofs.rows.check_row.Tie as tie

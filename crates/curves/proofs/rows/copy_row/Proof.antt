@@ -5,7 +5,7 @@ use native.Mathlib.Omega.{arith}
 use lib.ListN.{length, take, length-set}
 use lib.Seq.{take-length}
 use denote.Ref.{now}
-use Rattle.curves.specs.Lists.{splice}
+use Rattle.base.specs.Buffers.{splice}
 use Rattle.curves.proofs.rows.Laws.{copy-step}
 use Rattle.curves.proofs.rows.copy_row.Statement.{statement}
 use Rattle.curves.proofs.rows.copy_row.Tie as tie

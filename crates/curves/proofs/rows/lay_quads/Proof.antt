@@ -4,9 +4,9 @@ use Prim.Native.Nat.{_-_, _<_}
 use native.Mathlib.Omega.{arith}
 use lib.ListN.{length}
 use denote.Ref.{now}
-use Rattle.counts.specs.Refusal.{outcome}
-use Rattle.curves.specs.Lists.{splice}
-use Rattle.curves.proofs.ListLaws.{splice-none}
+use Rattle.base.specs.Refusal.{outcome}
+use Rattle.base.specs.Buffers.{splice}
+use Rattle.base.proofs.BufferLaws.{splice-none}
 use Rattle.curves.proofs.rows.Laws.{first-quads, later-quads, length-quads, below-first, below-later}
 use borrow.Author.Needs.{needs}
 use Rattle.curves.proofs.rows.lay_quads.Statement.{statement}

@@ -3,7 +3,7 @@ use mathlib.Core.Path.{sym, ap, _∙_}
 use native.Mathlib.Omega.{arith}
 use lib.ListN.{length}
 use denote.Ref.{now}
-use Rattle.curves.specs.Lists.{splice}
+use Rattle.base.specs.Buffers.{splice}
 use Rattle.curves.specs.Grid.{row-part}
 use Rattle.curves.specs.declared.grid.Layout.{Layout}
 use Rattle.curves.proofs.rows.Laws.{nodes-row, length-nodes}

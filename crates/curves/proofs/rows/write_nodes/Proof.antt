@@ -4,10 +4,10 @@ use Prim.Native.Nat.{ℕ, _+_, _-_, _*_, _≤_}
 use native.Mathlib.Omega.{arith}
 use lib.ListN.{length}
 use denote.Ref.{now}
-use Rattle.curves.specs.Lists.{cat, splice}
+use Rattle.base.specs.Buffers.{cat, splice}
 use Rattle.curves.specs.Grid.{nodes-of, node-values}
 use Rattle.curves.specs.declared.point.Point.{Point}
-use Rattle.curves.proofs.ListLaws.{splice-none, cat-step}
+use Rattle.base.proofs.BufferLaws.{splice-none, cat-step}
 use Rattle.curves.proofs.rows.Laws.{node-at, nodes-length}
 use Rattle.curves.proofs.rows.write_nodes.Statement.{statement}
 use Rattle.curves.proofs.rows.write_nodes.Tie as tie

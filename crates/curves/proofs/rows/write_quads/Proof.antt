@@ -8,12 +8,12 @@ use lib.ListN.{length}
 use denote.Ref.{now}
 use borrow.Author.Needs.{needs}
 use borrow.Author.Tests.{not-false}
-use Rattle.counts.specs.Refusal.{passed}
-use Rattle.curves.specs.Lists.{cat, splice}
-use Rattle.curves.specs.Tests.{first-of}
+use Rattle.base.specs.Refusal.{passed}
+use Rattle.base.specs.Buffers.{cat, splice}
+use Rattle.base.specs.Tests.{first-of}
 use Rattle.curves.specs.Grid.{cell-test, cells-test, quads-between}
-use Rattle.curves.proofs.ListLaws.{splice-none, cat-step}
-use Rattle.curves.proofs.TestLaws.{first-passes}
+use Rattle.base.proofs.BufferLaws.{splice-none, cat-step}
+use Rattle.base.proofs.TestLaws.{first-passes}
 use Rattle.curves.proofs.rows.Laws.{quad-at, quads-length, quad-same, cell-passes}
 use Rattle.curves.proofs.rows.write_quads.Statement.{statement}
 use Rattle.curves.proofs.rows.write_quads.Tie as tie

@@ -2,7 +2,7 @@
 use borrow.Author.Tests.{eq-eqb, ne-eqb}
 use denote.Ref.{now}
 use lib.ListN.{length}
-use Rattle.counts.specs.Refusal.{outcome, verdict-of}
+use Rattle.base.specs.Refusal.{outcome, verdict-of}
 use Rattle.curves.specs.Seam.{pair-test}
 use Rattle.curves.proofs.seam.check_pair.Statement.{statement}
 use Rattle.curves.proofs.seam.check_pair.Tie as tie

@@ -1,5 +1,5 @@
 -- `seam::check_seam_ends` meets its contract. Assumes nothing.
-use Rattle.counts.specs.Refusal.{outcome, verdict-of}
+use Rattle.base.specs.Refusal.{outcome, verdict-of}
 use Rattle.curves.specs.Seam.{seam-ends-test}
 use borrow.Author.Needs.{needs}
 use Rattle.curves.proofs.seam.check_seam_ends.Statement.{statement}

@@ -1,7 +1,7 @@
 -- `seam::check_value` meets its contract. Assumes nothing.
 use native.Mathlib.Omega.{arith}
 use borrow.Author.Tests.{not-true, not-false, lt-ltb, le-ltb}
-use Rattle.counts.specs.Refusal.{outcome, verdict-of}
+use Rattle.base.specs.Refusal.{outcome, verdict-of}
 use Rattle.curves.specs.Seam.{value-test}
 use borrow.Author.Needs.{needs}
 use Rattle.curves.proofs.seam.check_value.Statement.{statement}

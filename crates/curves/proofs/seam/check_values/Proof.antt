@@ -3,10 +3,10 @@ use mathlib.Core.Path.{_≡_, sym, _∙_}
 use Prim.Native.Nat.{_-_}
 use native.Mathlib.Omega.{arith}
 use lib.ListN.{length}
-use Rattle.counts.specs.Refusal.{outcome}
-use Rattle.curves.specs.Tests.{first-of}
+use Rattle.base.specs.Refusal.{outcome}
+use Rattle.base.specs.Tests.{first-of}
 use Rattle.curves.specs.Seam.{value-test}
-use Rattle.curves.proofs.TestLaws.{first-start, first-next, first-stops, first-done}
+use Rattle.base.proofs.TestLaws.{first-start, first-next, first-stops, first-done}
 use borrow.Author.Needs.{needs}
 use Rattle.curves.proofs.seam.check_values.Statement.{statement}
 use Rattle.curves.proofs.seam.check_values.Tie as tie

@@ -4,9 +4,9 @@ use Prim.Native.Nat.{ℕ, _+_, _-_, _≤_}
 use native.Mathlib.Omega.{arith}
 use lib.ListN.{length, length-set}
 use denote.Ref.{now}
-use Rattle.curves.specs.Lists.{tab, splice}
+use Rattle.base.specs.Buffers.{tab, splice}
 use Rattle.curves.specs.Seam.{edge-value, edge-values}
-use Rattle.curves.proofs.ListLaws.{fill-step, splice-none}
+use Rattle.base.proofs.BufferLaws.{fill-step, splice-none}
 use Rattle.curves.proofs.seam.edge_values.Statement.{statement}
 use Rattle.curves.proofs.seam.edge_values.Tie as tie
 

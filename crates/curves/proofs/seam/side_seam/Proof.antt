@@ -6,9 +6,9 @@ use native.Mathlib.Omega.{arith}
 use lib.ListN.{length, getD, take, drop, length-set}
 use lib.Seq.{take-length}
 use denote.Ref.{now}
-use Rattle.curves.specs.Lists.{splice}
+use Rattle.base.specs.Buffers.{splice}
 use Rattle.curves.specs.Seam.{edge-values, seam-from, side-seam}
-use Rattle.curves.proofs.ListLaws.{part-written, part-left, set-splice}
+use Rattle.base.proofs.BufferLaws.{part-written, part-left, set-splice}
 use Rattle.curves.proofs.seam.Laws.{length-edge, seam-edge, seam-last, edge-fits, last-fits}
 use Rattle.curves.proofs.seam.side_seam.Statement.{statement}
 use Rattle.curves.proofs.seam.side_seam.Tie as tie

@@ -1,7 +1,7 @@
 -- `seam::validate_parameters` meets its contract. Assumes nothing.
 use mathlib.Core.Path.{_∙_}
-use Rattle.counts.specs.Refusal.{outcome, verdict-of}
-use Rattle.curves.proofs.TestLaws.{in-turn}
+use Rattle.base.specs.Refusal.{outcome, verdict-of}
+use Rattle.base.proofs.TestLaws.{in-turn}
 use Rattle.curves.proofs.seam.Laws.{too-short, long-enough}
 use borrow.Author.Needs.{needs}
 use Rattle.curves.proofs.seam.validate_parameters.Statement.{statement}
@@ -29,11 +29,11 @@ shared-slice-read-last c = search needs
 check-seam-ends-requires : tie.Need-check-seam-ends-requires
 check-seam-ends-requires c κs = search needs
 
-first-refused-requires : tie.Need-first-refused-requires
-first-refused-requires c κs = search needs
+and-requires : tie.Need-and-requires
+and-requires c κs = search needs
 
 returns-2 : tie.Need-returns-2
-returns-2 c = in-turn _ _ _ _ _ (c .first-refused .ensures) (c .before .before .before .before .check-values .ensures) (c .before .check-seam-ends .ensures) ∙ long-enough _ _ (c .before .before .before .before .before .if1 .left)
+returns-2 c = in-turn _ _ _ _ _ (c .and .ensures) (c .before .before .before .before .check-values .ensures) (c .before .check-seam-ends .ensures) ∙ long-enough _ _ (c .before .before .before .before .before .if1 .left)
 
 pub validate-parameters-spec : {M : Type 1} → statement M
 validate-parameters-spec =
@@ -46,5 +46,5 @@ validate-parameters-spec =
     mul-last
     shared-slice-read-last
     check-seam-ends-requires
-    first-refused-requires
+    and-requires
     returns-2)

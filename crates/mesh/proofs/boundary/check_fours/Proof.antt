@@ -1,5 +1,5 @@
 -- `boundary::check_fours` meets its contract. Assumes nothing.
-use Rattle.counts.specs.Refusal.{outcome, verdict-of}
+use Rattle.base.specs.Refusal.{outcome, verdict-of}
 use Rattle.mesh.proofs.boundary.Laws.{four-points, under-eight, in-fours, not-in-fours}
 use Rattle.mesh.proofs.boundary.check_fours.Statement.{statement}
 use Rattle.mesh.proofs.boundary.check_fours.Tie as tie

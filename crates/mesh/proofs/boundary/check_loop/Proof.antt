@@ -1,6 +1,6 @@
 -- `boundary::check_loop` meets its contract. Assumes nothing.
 use mathlib.Core.Path.{ap, _∙_}
-use Rattle.counts.specs.Refusal.{outcome, verdict-of}
+use Rattle.base.specs.Refusal.{outcome, verdict-of}
 use Rattle.mesh.specs.Loop.{fours-test}
 use Rattle.mesh.proofs.boundary.Laws.{too-many, odd-values, whole-points}
 use borrow.Author.Needs.{needs}

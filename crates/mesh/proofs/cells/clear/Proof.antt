@@ -4,8 +4,8 @@ use Prim.Native.Nat.{ℕ, _-_, _≤_}
 use native.Mathlib.Omega.{arith}
 use lib.ListN.{length, length-set}
 use denote.Ref.{now}
-use Rattle.curves.specs.Lists.{splice}
-use Rattle.curves.proofs.ListLaws.{fill-step}
+use Rattle.base.specs.Buffers.{splice}
+use Rattle.base.proofs.BufferLaws.{fill-step}
 use Rattle.mesh.specs.Mesh.{no-cells}
 use Rattle.mesh.proofs.cells.clear.Statement.{statement}
 use Rattle.mesh.proofs.cells.clear.Tie as tie

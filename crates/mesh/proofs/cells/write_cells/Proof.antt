@@ -4,8 +4,8 @@ use Prim.Native.Nat.{ℕ, _+_, _-_, _*_, _≤_}
 use native.Mathlib.Omega.{arith}
 use lib.ListN.{length}
 use denote.Ref.{now}
-use Rattle.curves.specs.Lists.{cat, splice}
-use Rattle.curves.proofs.ListLaws.{splice-none, cat-step}
+use Rattle.base.specs.Buffers.{cat, splice}
+use Rattle.base.proofs.BufferLaws.{splice-none, cat-step}
 use Rattle.mesh.specs.Mesh.{row-cells, mesh-cells}
 use Rattle.mesh.proofs.cells.Laws.{length-rows, next-row, row-fits}
 use Rattle.mesh.proofs.cells.write_cells.Statement.{statement}

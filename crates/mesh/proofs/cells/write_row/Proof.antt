@@ -4,8 +4,8 @@ use Prim.Native.Nat.{ℕ, _+_, _-_, _*_, _≤_}
 use native.Mathlib.Omega.{arith}
 use lib.ListN.{length, length-set}
 use denote.Ref.{now}
-use Rattle.curves.specs.Lists.{cat, splice}
-use Rattle.curves.proofs.ListLaws.{splice-none}
+use Rattle.base.specs.Buffers.{cat, splice}
+use Rattle.base.proofs.BufferLaws.{splice-none}
 use Rattle.mesh.specs.Mesh.{cell, row-cells}
 use Rattle.mesh.proofs.cells.Laws.{cell-turn, first-small}
 use Rattle.mesh.proofs.cells.write_row.Statement.{statement}

@@ -1,6 +1,6 @@
 -- `tile::check_tile` meets its contract. Assumes nothing.
 use mathlib.Core.Path.{_∙_}
-use Rattle.counts.specs.Refusal.{outcome}
+use Rattle.base.specs.Refusal.{outcome}
 use Rattle.mesh.proofs.tile.Laws.{too-wide, too-high, in-size}
 use borrow.Author.Needs.{needs}
 use Rattle.mesh.proofs.tile.check_tile.Statement.{statement}

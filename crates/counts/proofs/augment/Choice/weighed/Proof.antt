@@ -1,6 +1,6 @@
 -- `Choice::weighed` meets its contract, by whether the start improves. Assumes nothing.
 use borrow.Author.Needs.{needs}
-use Rattle.counts.proofs.RoundLaws.{weighed-yes, weighed-no}
+use Rattle.counts.proofs.augment.Laws.{weighed-yes, weighed-no}
 use Rattle.counts.proofs.augment.Choice.weighed.Statement.{statement}
 use Rattle.counts.proofs.augment.Choice.weighed.Tie as tie
 

@@ -1,0 +1,19 @@
+-- Lists given by an index function, and a list with a part of it replaced: what a function writes to a buffer that it is lent. Assumes nothing.
+use Prim.Native.Nat.{ℕ, zero, suc, _+_}
+use mathlib.Core.List.{List, [], _∷_, _++_}
+use lib.ListN.{length, take, drop}
+
+module _ {A : Type 0} where
+  -- f k, f (k + 1), ..: n of them
+  abbrev pub tab : (ℕ → A) → ℕ → ℕ → List A
+  tab f k zero = []
+  tab f k (suc n) = f k ∷ tab f (suc k) n
+
+  -- f k ++ f (k + 1) ++ ..: n of them
+  abbrev pub cat : (ℕ → List A) → ℕ → ℕ → List A
+  cat f k zero = []
+  cat f k (suc n) = f k ++ cat f (suc k) n
+
+  -- d with the values from the index `from` on replaced by vs
+  abbrev pub splice : List A → ℕ → List A → List A
+  splice d from vs = take from d ++ vs ++ drop (from + length vs) d

@@ -1,0 +1,3 @@
+-- The laws of the tests. Assumes nothing.
+pub mod Accepted
+pub mod Laws

@@ -1,0 +1,267 @@
+-- Laws of the tests, turn by turn, as the code makes them. Each turn law says what is left of a test once
+-- one more entry, side or region has been looked at. Assumes nothing.
+use mathlib.Core.Path.{_≡_, refl, sym, ap, subst, _∙_}
+use mathlib.Core.Bool.{Bool, true, false, true≢false, not, _&&_, _||_, cond}
+use mathlib.Core.List.{List, [], _∷_, _++_}
+use Prim.Native.Nat.{ℕ, zero, suc, _+_, _-_, _*_, _/_, _%_, _<_, _≤_}
+use native.Mathlib.Numerals.{add-one}
+use native.Mathlib.Nat.{add-zero, zero-mul, mul-one, mul-pos}
+use native.Mathlib.Omega.{arith}
+use borrow.Author.Tests.{lt-ltb}
+use lib.ListN.{length, getD, take, drop, length-drop, drop-of-length-le}
+use lib.Dec.{T, leb, ltb, eqb, leb→le}
+use lib.Seq.{take-suc, take-all, getD-drop, drop-drop}
+use lib.IntN.{ℤ}
+use lib.Ieee.{Float, nan, inf, fin, binary64, ofBits, lt, up, down}
+use lib.Ieee.Fits.{and-i, and-l, and-r, up-pos}
+use Rattle.base.specs.Lists.{member}
+use Rattle.counts.specs.Region.{places}
+use Rattle.base.specs.declared.verdict.Verdict.{Verdict}
+use Rattle.base.specs.Refusal.{passed, refused, verdict-of, outcome, is-passed, then-test, refuse-if}
+use Rattle.counts.specs.Accept.{sides-fit, records-whole, limits-test, first-bad, ideal-ok, ranges, shared-edge, side-test, pair-test, region-test, pairs-test}
+use Rattle.base.proofs.TestLaws.{then-test-assoc}
+use Rattle.base.proofs.Turns.{drop-at}
+
+-- ---- the first bad entry
+module _ {A : Type 0} (ok : A → Bool) (number : ℕ) (xs : List A) (d : A) (i : ℕ) where
+  turn : (b : Bool) → i < length xs → ok (getD xs i d) ≡ b → first-bad ok number i (drop i xs) ≡ cond b (first-bad ok number (i + 1) (drop (i + 1) xs)) (refused number i 0)
+  unfolding first-bad
+  turn b h t =
+      ap (first-bad ok number i) (drop-at xs d i h)
+      ∙ ap (λ (k : ℕ). cond (ok (getD xs i d)) (first-bad ok number k (drop (i + 1) xs)) (refused number i 0)) (sym (add-one i))
+      ∙ ap (λ (t : Bool). cond t (first-bad ok number (i + 1) (drop (i + 1) xs)) (refused number i 0)) t
+
+  pub bad-next : i < length xs → ok (getD xs i d) ≡ true → first-bad ok number i (drop i xs) ≡ first-bad ok number (i + 1) (drop (i + 1) xs)
+  bad-next h t = turn true h t
+
+  pub bad-here : i < length xs → ok (getD xs i d) ≡ false → first-bad ok number i (drop i xs) ≡ refused number i 0
+  bad-here h t = turn false h t
+
+  pub bad-none : length xs ≤ i → first-bad ok number i (drop i xs) ≡ passed
+  unfolding first-bad
+  bad-none h = ap (first-bad ok number i) (drop-of-length-le xs h)
+
+-- ---- along a side: the edges before index i are those seen
+member-last : (x y : ℕ) (l : List ℕ) → member x (l ++ (y ∷ [])) ≡ member x (y ∷ l)
+member-last x y [] = refl
+member-last x y (z ∷ l) = ap (λ (b : Bool). eqb x z || b) (member-last x y l) ∙ swap (eqb x z) (eqb x y) (member x l)
+  where
+    swap : (a b c : Bool) → a || (b || c) ≡ b || (a || c)
+    swap true true c = refl
+    swap true false c = refl
+    swap false true c = refl
+    swap false false c = refl
+
+-- of the edges seen only which they are matters
+side-same : (n r k : ℕ) (s s' es : List ℕ) → ((x : ℕ) → member x s ≡ member x s') → side-test n r k s es ≡ side-test n r k s' es
+unfolding side-test
+side-same n r k s s' [] h = refl
+side-same n r k s s' (e ∷ es) h =
+    ap (λ (b : Bool). cond (ltb e n) (cond b (refused 4 r k) (side-test n r k (e ∷ s) es)) (refused 3 r k)) (h e)
+    ∙ ap (λ (v : Verdict). cond (ltb e n) (cond (member e s') (refused 4 r k) v) (refused 3 r k)) (side-same n r k (e ∷ s) (e ∷ s') es (λ x. ap (λ (b : Bool). eqb x e || b) (h x)))
+
+module _ (n r k : ℕ) (es : List ℕ) (i : ℕ) (h : i < length es) where
+  side-turn : (a b : Bool) → ltb (getD es i 0) n ≡ a → member (getD es i 0) (take i es) ≡ b → side-test n r k (take i es) (drop i es) ≡ cond a (cond b (refused 4 r k) (side-test n r k (take (i + 1) es) (drop (i + 1) es))) (refused 3 r k)
+  unfolding side-test
+  side-turn a b p q =
+      ap (side-test n r k (take i es)) (drop-at es 0 i h)
+      ∙ ap (λ (t : Bool). cond t (cond (member (getD es i 0) (take i es)) (refused 4 r k) (side-test n r k (getD es i 0 ∷ take i es) (drop (i + 1) es))) (refused 3 r k)) p
+      ∙ ap (λ (t : Bool). cond a (cond t (refused 4 r k) (side-test n r k (getD es i 0 ∷ take i es) (drop (i + 1) es))) (refused 3 r k)) q
+      ∙ ap (λ (v : Verdict). cond a (cond b (refused 4 r k) v) (refused 3 r k)) (side-same n r k (getD es i 0 ∷ take i es) (take (i + 1) es) (drop (i + 1) es) seen)
+    where
+      seen : (x : ℕ) → member x (getD es i 0 ∷ take i es) ≡ member x (take (i + 1) es)
+      seen x = sym (member-last x (getD es i 0) (take i es)) ∙ sym (ap (λ (l : List ℕ). member x l) (ap (λ (m : ℕ). take m es) (add-one i) ∙ take-suc es i 0 h))
+
+  pub side-out-of-range : ltb (getD es i 0) n ≡ false → side-test n r k (take i es) (drop i es) ≡ refused 3 r k
+  side-out-of-range p = side-turn false (member (getD es i 0) (take i es)) p refl
+
+  pub side-repeated : ltb (getD es i 0) n ≡ true → member (getD es i 0) (take i es) ≡ true → side-test n r k (take i es) (drop i es) ≡ refused 4 r k
+  side-repeated p q = side-turn true true p q
+
+  pub side-next : ltb (getD es i 0) n ≡ true → member (getD es i 0) (take i es) ≡ false → side-test n r k (take i es) (drop i es) ≡ side-test n r k (take (i + 1) es) (drop (i + 1) es)
+  side-next p q = side-turn true false p q
+
+pub side-end : (n r k : ℕ) (s es : List ℕ) (i : ℕ) → length es ≤ i → side-test n r k s (drop i es) ≡ passed
+unfolding side-test
+side-end n r k s es i h = ap (side-test n r k s) (drop-of-length-le es h)
+
+-- ---- the sides' numbers of edges, one side after the other
+abbrev pub each-fits : ℕ → List ℕ → Bool
+each-fits zero l = true
+each-fits (suc m) l = leb (getD l 0 0) places && each-fits m (drop 17 l)
+
+pub sides-one-by-one : (m : ℕ) (l : List ℕ) → sides-fit places m l ≡ each-fits (m * 4) l
+unfolding sides-fit
+sides-one-by-one zero l = refl
+sides-one-by-one (suc m) l =
+    let e : suc m * 4 ≡ suc (suc (suc (suc (m * 4)))) = omega arith in
+    let d2 : drop 17 (drop 17 l) ≡ drop 34 l = drop-drop 17 17 l in
+    let d3 : drop 17 (drop 34 l) ≡ drop 51 l = drop-drop 17 34 l in
+    let d4 : drop 17 (drop 51 l) ≡ drop 68 l = drop-drop 17 51 l in
+    let g1 : getD (drop 17 l) 0 0 ≡ getD l 17 0 = getD-drop 17 l 0 0 in
+    let g2 : getD (drop 34 l) 0 0 ≡ getD l 34 0 = getD-drop 34 l 0 0 in
+    let g3 : getD (drop 51 l) 0 0 ≡ getD l 51 0 = getD-drop 51 l 0 0 in
+    simp (e, d2, d3, d4, g1, g2, g3, sides-one-by-one m (drop 68 l))
+
+module _ (l : List ℕ) (at : ℕ) (h : at < length l) (whole : (length l - at) % 17 ≡ 0) where
+  fits-turn : (b : Bool) → leb (getD l at 0) places ≡ b → each-fits ((length l - at) / 17) (drop at l) ≡ b && each-fits ((length l - (at + 17)) / 17) (drop (at + 17) l)
+  fits-turn b t =
+      let e : (length l - at) / 17 ≡ suc ((length l - (at + 17)) / 17) = omega arith in
+      let g : getD (drop at l) 0 0 ≡ getD l at 0 = getD-drop at l 0 0 ∙ ap (λ (k : ℕ). getD l k 0) (add-zero at) in
+      ap (λ (k : ℕ). each-fits k (drop at l)) e
+      ∙ ap (λ (x : ℕ). leb x places && each-fits ((length l - (at + 17)) / 17) (drop 17 (drop at l))) g
+      ∙ ap (λ (x : List ℕ). leb (getD l at 0) places && each-fits ((length l - (at + 17)) / 17) x) (drop-drop 17 at l)
+      ∙ ap (λ (x : Bool). x && each-fits ((length l - (at + 17)) / 17) (drop (at + 17) l)) t
+
+  pub fits-next : leb (getD l at 0) places ≡ true → each-fits ((length l - at) / 17) (drop at l) ≡ each-fits ((length l - (at + 17)) / 17) (drop (at + 17) l)
+  fits-next t = fits-turn true t
+
+  pub fits-not : leb (getD l at 0) places ≡ false → each-fits ((length l - at) / 17) (drop at l) ≡ false
+  fits-not t = fits-turn false t
+
+pub fits-end : (l : List ℕ) (at : ℕ) → length l ≤ at → each-fits ((length l - at) / 17) (drop at l) ≡ true
+fits-end l at h =
+    let e : (length l - at) / 17 ≡ 0 = omega arith in
+    ap (λ (k : ℕ). each-fits k (drop at l)) e
+
+-- ---- region by region
+pub sides-first : (m : ℕ) (l : List ℕ) → T (sides-fit places (suc m) l) → T (sides-fit places 1 l)
+unfolding sides-fit
+sides-first m l t =
+    let t1 = and-r (leb (getD l 0 0) places) _ t in
+    let t2 = and-r (leb (getD l 17 0) places) _ t1 in
+    let t3 = and-r (leb (getD l 34 0) places) _ t2 in
+    and-i (leb (getD l 0 0) places) _ (and-l (leb (getD l 0 0) places) _ t)
+    (and-i (leb (getD l 17 0) places) _ (and-l (leb (getD l 17 0) places) _ t1)
+    (and-i (leb (getD l 34 0) places) _ (and-l (leb (getD l 34 0) places) _ t2)
+    (and-i (leb (getD l 51 0) places) true (and-l (leb (getD l 51 0) places) _ t3) tt)))
+
+pub sides-rest : (m : ℕ) (l : List ℕ) → T (sides-fit places (suc m) l) → T (sides-fit places m (drop 68 l))
+unfolding sides-fit
+sides-rest m l t =
+    let t1 = and-r (leb (getD l 0 0) places) _ t in
+    let t2 = and-r (leb (getD l 17 0) places) _ t1 in
+    let t3 = and-r (leb (getD l 34 0) places) _ t2 in
+    and-r (leb (getD l 51 0) places) _ t3
+
+-- ---- whole records
+module _ (l : List ℕ) (t : T (records-whole places l)) where
+  pub whole-few : length l / 68 ≤ 128
+  unfolding records-whole
+  whole-few = leb→le (length l / 68) 128 (and-l (leb (length l / 68) 128) _ (and-r (eqb (length l % 68) 0) _ t))
+
+  pub whole-sides : T (sides-fit places (length l / 68) l)
+  unfolding records-whole
+  whole-sides = and-r (leb (length l / 68) 128) _ (and-r (eqb (length l % 68) 0) _ t)
+
+-- what test 1 lets by
+pub limits-passed : (n : ℕ) (l : List ℕ) → is-passed (limits-test places n l) ≡ true → (n ≤ 256) × T (records-whole places l)
+unfolding limits-test
+limits-passed n l e = go (leb n 256) (records-whole places l) (λ t. t) e
+  where
+    go : (a b : Bool) → (T a → T (leb n 256)) → is-passed (refuse-if (not (a && b)) (refused 1 0 0)) ≡ true → (n ≤ 256) × T b
+    go true true h q = (leb→le n 256 (h tt), tt)
+    go true false h q = absurd (true≢false (sym q))
+    go false b h q = absurd (true≢false (sym q))
+
+-- what is left of a list from an index on
+pub rest : {A : Type 0} (at : ℕ) (l : List A) → take (length l - at) (drop at l) ≡ drop at l
+rest at l = take-all (length l - at) (drop at l) (let e = length-drop at l in omega arith)
+
+-- what the records from region r on say of the side k of region r
+pub side-few : (l : List ℕ) → T (sides-fit places 1 l) → (getD l 0 0 ≤ 16) × (getD l 17 0 ≤ 16) × (getD l 34 0 ≤ 16) × (getD l 51 0 ≤ 16)
+unfolding sides-fit
+side-few l t =
+    let t1 = and-r (leb (getD l 0 0) places) _ t in
+    let t2 = and-r (leb (getD l 17 0) places) _ t1 in
+    let t3 = and-r (leb (getD l 34 0) places) _ t2 in (
+      leb→le (getD l 0 0) 16 (and-l (leb (getD l 0 0) places) _ t),
+      leb→le (getD l 17 0) 16 (and-l (leb (getD l 17 0) places) _ t1),
+      leb→le (getD l 34 0) 16 (and-l (leb (getD l 34 0) places) _ t2),
+      leb→le (getD l 51 0) 16 (and-l (leb (getD l 51 0) places) true t3),
+    )
+
+module _ (m r : ℕ) (l : List ℕ) (h : r < m) where
+  pub count-down : m - r ≡ suc (m - (r + 1))
+  count-down = omega arith
+
+  pub next-record : drop 68 (drop (r * 68) l) ≡ drop ((r + 1) * 68) l
+  next-record = let e : r * 68 + 68 ≡ (r + 1) * 68 = omega arith in drop-drop 68 (r * 68) l ∙ ap (λ (k : ℕ). drop k l) e
+
+  pub sides-now : T (sides-fit places (m - r) (drop (r * 68) l)) → T (sides-fit places 1 (drop (r * 68) l))
+  sides-now t = sides-first (m - (r + 1)) (drop (r * 68) l) (subst (λ (k : ℕ). T (sides-fit places k (drop (r * 68) l))) count-down t)
+
+  pub sides-after : T (sides-fit places (m - r) (drop (r * 68) l)) → T (sides-fit places (m - (r + 1)) (drop ((r + 1) * 68) l))
+  sides-after t =
+      subst (λ (x : List ℕ). T (sides-fit places (m - (r + 1)) x)) next-record
+      (sides-rest (m - (r + 1)) (drop (r * 68) l) (subst (λ (k : ℕ). T (sides-fit places k (drop (r * 68) l))) count-down t))
+
+  pub pairs-turn : (n : ℕ) → pairs-test places n r (m - r) (drop (r * 68) l) ≡ then-test (region-test places n r (drop (r * 68) l)) (pairs-test places n (r + 1) (m - (r + 1)) (drop ((r + 1) * 68) l))
+  unfolding pairs-test
+  pairs-turn n =
+      ap (λ (k : ℕ). pairs-test places n r k (drop (r * 68) l)) count-down
+      ∙ ap (λ (x : List ℕ). then-test (region-test places n r (drop (r * 68) l)) (pairs-test places n (suc r) (m - (r + 1)) x)) next-record
+      ∙ ap (λ (k : ℕ). then-test (region-test places n r (drop (r * 68) l)) (pairs-test places n k (m - (r + 1)) (drop ((r + 1) * 68) l))) (sym (add-one r))
+
+pub pairs-end : (n m r : ℕ) (l : List ℕ) → m ≤ r → pairs-test places n r (m - r) l ≡ passed
+unfolding pairs-test
+pairs-end n m r l h = let e : m - r ≡ 0 = omega arith in ap (λ (k : ℕ). pairs-test places n r k l) e
+
+-- a pair's tests as one chain
+pub pair-chain : (n r j k : ℕ) (a b : List ℕ) → pair-test n r j k a b ≡ then-test (side-test n r j [] a) (then-test (side-test n r k [] b) (refuse-if (shared-edge a b) (refused 5 r j)))
+unfolding pair-test
+pair-chain n r j k a b = then-test-assoc (side-test n r j [] a) (side-test n r k [] b) (refuse-if (shared-edge a b) (refused 5 r j))
+
+-- ---- an ideal is finite and above 0
+above-zero : (m : ℕ) (e : ℤ) → lt (ofBits binary64 0) (fin false m e) ≡ ltb 0 m
+unfolding lt ofBits
+above-zero zero e = simp (zero-mul (up e), zero-mul (down e))
+above-zero (suc m) e =
+    let p : 0 < suc m * up e = mul-pos (omega arith) (up-pos e) in
+    let q : suc m * up e * 1 ≡ suc m * up e = mul-one (suc m * up e) in
+    let z : 0 * down e ≡ 0 = zero-mul (down e) in
+    lt-ltb (0 * down e) (suc m * up e * 1) (omega arith) ∙ sym (lt-ltb 0 (suc m) (omega arith))
+
+pub ideal-below-infinity : (x : Float) → lt x (ofBits binary64 0x7ff0_0000_0000_0000) ≡ true → lt (ofBits binary64 0) x ≡ ideal-ok x
+unfolding lt ofBits
+ideal-below-infinity nan h = refl
+ideal-below-infinity (inf true) h = refl
+ideal-below-infinity (inf false) h = absurd (true≢false (sym h))
+ideal-below-infinity (fin true m e) h = refl
+ideal-below-infinity (fin false m e) h = above-zero m e
+
+pub ideal-not-below : (x : Float) → lt x (ofBits binary64 0x7ff0_0000_0000_0000) ≡ false → false ≡ ideal-ok x
+unfolding lt ofBits
+ideal-not-below nan h = refl
+ideal-not-below (inf s) h = refl
+ideal-not-below (fin s m e) h = absurd (true≢false h)
+
+-- ---- the ranges of edges
+
+pub length-ranges : (least most : List Float) → length most ≡ length least → length (ranges least most) ≡ length least
+length-ranges [] most h = refl
+length-ranges (l ∷ least) [] h = absurd (omega arith)
+length-ranges (l ∷ least) (m ∷ most) h = let e = length-ranges least most (omega arith) in omega arith
+
+pub range-at : (least most : List Float) (d : Float) (i : ℕ) → length most ≡ length least → getD (ranges least most) i (d, d) ≡ (getD least i d, getD most i d)
+range-at [] [] d i h = refl
+range-at [] (m ∷ most) d i h = absurd (omega arith)
+range-at (l ∷ least) [] d i h = absurd (omega arith)
+range-at (l ∷ least) (m ∷ most) d zero h = refl
+range-at (l ∷ least) (m ∷ most) d (suc i) h = range-at least most d i (omega arith)
+
+-- one test of both ends, edge after edge
+module _ (ok : Float × Float → Bool) (number : ℕ) (least most : List Float) (same : length most ≡ length least) (i : ℕ) where
+  abbrev left-from : ℕ → Verdict
+  left-from k = first-bad ok number k (drop k (ranges least most))
+
+  pub range-next : i < length least → ok (getD least i nan, getD most i nan) ≡ true → left-from i ≡ left-from (i + 1)
+  range-next h t =
+      bad-next ok number (ranges least most) (nan, nan) i (let e = length-ranges least most same in omega arith) (ap ok (range-at least most nan i same) ∙ t)
+
+  pub range-here : i < length least → ok (getD least i nan, getD most i nan) ≡ false → left-from i ≡ refused number i 0
+  range-here h t =
+      bad-here ok number (ranges least most) (nan, nan) i (let e = length-ranges least most same in omega arith) (ap ok (range-at least most nan i same) ∙ t)
+
+  pub range-none : length least ≤ i → left-from i ≡ passed
+  range-none h = bad-none ok number (ranges least most) (nan, nan) i (let e = length-ranges least most same in omega arith)

@@ -1,0 +1,2 @@
+-- The laws of the labels of edges. Assumes nothing.
+pub mod Laws

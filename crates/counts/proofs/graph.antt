@@ -1,0 +1,3 @@
+-- The laws of the tables of constraints. Assumes nothing.
+pub mod Built
+pub mod Placing

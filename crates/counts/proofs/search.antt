@@ -1,0 +1,12 @@
+-- The laws of the search from one start. Assumes nothing.
+pub mod Acts
+pub mod Endings
+pub mod Laws
+pub mod Marks
+pub mod Places
+pub mod Same
+pub mod Scan
+pub mod Start
+pub mod Steps
+pub mod TwoSides
+pub mod Used

@@ -1,0 +1,3 @@
+-- The laws of a solve. Assumes nothing.
+pub mod Keeping
+pub mod Loop

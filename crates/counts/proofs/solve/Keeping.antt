@@ -1,0 +1,184 @@
+-- What is kept from round to round: a search never leaves the part of its start, so that a move touches the results of its own part alone.
+-- Assumes nothing.
+use mathlib.Core.Logic.{_≢_, inl, inr}
+use mathlib.Core.Path.{_≡_, refl, sym, ap, subst, _∙_}
+use mathlib.Core.Bool.{Bool, true, false, not, _||_, cond}
+use mathlib.Core.List.{List, [], _∷_}
+use Prim.Native.Nat.{ℕ, _*_, _/_, _%_, _<_}
+use native.Mathlib.Omega.{arith}
+use lib.ListN.{length, getD}
+use lib.Dec.{T, eqb, ltb, not-T, eqb→eq, lt→ltb, ltb→lt, nltb→le}
+use lib.Ieee.{Float, nan}
+use Rattle.base.specs.Lists.{In, member}
+use Rattle.counts.specs.Region.{constraint, holds, incidence}
+use Rattle.counts.specs.Move.{Change, Joined, same, next, edges, allowed, apply-changes}
+use Rattle.counts.specs.Cost.{CostModel, Local}
+use Rattle.counts.specs.Search.{State, run}
+use Rattle.counts.specs.Round.{Found, find-move}
+use Rattle.counts.specs.inner.Tables.{the-graph, decoded, encoded, path-of, cost-in, allowed-in, none, Tables}
+use Rattle.counts.specs.inner.Components.{At, Labels, Outside, Refreshed}
+use Rattle.counts.specs.inner.RoundContract.{CanApply, Result, Ready, search-of, nothing-searched}
+use Rattle.counts.proofs.check.Accepted.{Accepted}
+use Rattle.counts.proofs.augment.Applying.{apply-length, apply-other}
+use Rattle.base.proofs.BoolLaws.{by-cases, clash, or-split, or-left, or-right, eq→eqb}
+use Rattle.counts.proofs.Find.{none as found-none, some}
+use Rattle.counts.proofs.augment.Finding.{entry-cost, entry-may}
+use Rattle.counts.proofs.region.Constraints.{link, holds→incidence}
+use Rattle.base.proofs.ListLaws.{in→member, member→in, nothing-in}
+use Rattle.counts.proofs.MoveLaws.{edges-in}
+use Rattle.counts.proofs.search.Places.{two-places, entry-most, no-constraint, start-in}
+use Rattle.counts.proofs.Rounds.{Finds, found}
+use Rattle.counts.proofs.search.Same.{run-same}
+
+-- ---- labels by constraints
+
+held-at : (regions incident own : List ℕ) → Tables regions incident own → (i x : ℕ) → T (holds (constraint (the-graph regions) i) x) → At incident i x
+held-at regions incident own tables i x h = elim (two-places regions incident own tables i x h) [
+  | inl p ↦ inl (p .0)
+  | inr p ↦ inr (first-there, p .0)
+]
+  where
+    low : x < 256
+    low = tables .few i x h
+
+    first-there : getD incident (x * 2) 0 < none
+    first-there =
+        by-cases (ltb (getD incident (x * 2) 0) none) (λ t. ltb→lt (getD incident (x * 2) 0) none t)
+        (λ t. let m = entry-most regions incident own tables (x * 2) (omega (arith, low)) in
+        let k = nltb→le (getD incident (x * 2) 0) none t in
+        absurd (nothing-in i (incidence (the-graph regions) x) (holds→incidence (the-graph regions) i x h) (no-constraint regions incident own tables x low (omega (arith, m, k)))))
+
+module _ (regions incident own labels : List ℕ) (n : ℕ) (tables : Tables regions incident own) (ok : Accepted n (the-graph regions)) (lab : Labels n incident labels) where
+  -- edges that one constraint holds have one label
+  same-label : (i x y : ℕ) → T (holds (constraint (the-graph regions) i) x) → T (holds (constraint (the-graph regions) i) y) → getD labels x 0 ≡ getD labels y 0
+  same-label i x y hx hy =
+      lab i x y (tables .numbered i x hx) (ltb→lt x n (ok .constraint-ok i .inside x hx)) (ltb→lt y n (ok .constraint-ok i .inside y hy))
+      (held-at regions incident own tables i x hx) (held-at regions incident own tables i y hy)
+
+  joined-label : (l : List ℕ) (x y : ℕ) → Joined (the-graph regions) l x y → getD labels x 0 ≡ getD labels y 0
+  joined-label l x y (same _) = refl
+  joined-label l x z (next _ y _ j m s) = let k = link (the-graph regions) y z s in joined-label l x y j ∙ same-label (k .0) y z (k .1) (k .2)
+
+  -- ---- results outside of one part
+
+  module _ (part : ℕ) (costs costs' : List Float) (may may' : List Bool)
+      (same-cost : (k : ℕ) → Outside n labels part (k / 2) → getD costs' k nan ≡ getD costs k nan)
+      (same-may : (k : ℕ) → Outside n labels part (k / 2) → getD may' k false ≡ getD may k false) where
+    abbrev untouched : ℕ → Bool
+    untouched y = not (ltb y n) || not (eqb (getD labels y 0) part)
+
+    out : (y : ℕ) → T (untouched y) → Outside n labels part y
+    out y t l q = elim (or-split (not (ltb y n)) (not (eqb (getD labels y 0) part)) t) [
+      | inl u ↦ clash (ltb y n) (lt→ltb y n l) u
+      | inr u ↦ clash (eqb (getD labels y 0) part) (eq→eqb (getD labels y 0) part q) u
+    ]
+
+    back : (y : ℕ) → Outside n labels part y → T (untouched y)
+    back y o =
+        by-cases (ltb y n)
+        (λ t. or-right (not (ltb y n)) (not (eqb (getD labels y 0) part)) (not-T (eqb (getD labels y 0) part) (λ u. o (ltb→lt y n t) (eqb→eq (getD labels y 0) part u))))
+        (λ t. or-left (not (ltb y n)) (not (eqb (getD labels y 0) part)) t)
+
+    closed : (i x y : ℕ) → T (holds (constraint (the-graph regions) i) x) → T (holds (constraint (the-graph regions) i) y) → T (untouched x) → T (untouched y)
+    closed i x y hx hy u = back y (λ l q. out x u (ltb→lt x n (ok .constraint-ok i .inside x hx)) (same-label i x y hx hy ∙ q))
+
+    half : (y : ℕ) (s : Bool) → encoded y s / 2 ≡ y
+    half y true = omega arith
+    half y false = omega arith
+
+    pub cost-same : (y : ℕ) (s : Bool) → Outside n labels part y → cost-in costs' y s ≡ cost-in costs y s
+    cost-same y s o = same-cost (encoded y s) (subst (λ (k : ℕ). Outside n labels part k) (sym (half y s)) o)
+
+    pub may-same : (y : ℕ) (s : Bool) → Outside n labels part y → allowed-in may' y s ≡ allowed-in may y s
+    may-same y s o = same-may (encoded y s) (subst (λ (k : ℕ). Outside n labels part k) (sym (half y s)) o)
+
+    pub search-same : (limit c : ℕ) → Outside n labels part (c / 2) → search-of regions costs may limit c ≡ search-of regions costs' may' limit c
+    unfolding search-of
+    search-same limit c o =
+        let s = eqb (c % 2) 1 in
+        ap (λ (b : Bool). cond b (run (the-graph regions) (cost-in costs) (allowed-in may) limit (c / 2) s) nothing-searched) (sym (may-same (c / 2) s o))
+        ∙ ap (λ (st : State). cond (allowed-in may' (c / 2) s) st nothing-searched)
+        (run-same (the-graph regions) (cost-in costs) (cost-in costs') (allowed-in may) (allowed-in may') limit (c / 2) s untouched closed
+        (λ y t u. sym (cost-same y t (out y u))) (λ y t u. sym (may-same y t (out y u))) (back (c / 2) o))
+
+-- ---- the move found touches one part
+
+pub one-part : (regions incident own labels counts : List ℕ) (model : CostModel) (limit : ℕ) → Tables regions incident own → (ok : Accepted (length counts) (the-graph regions)) → Labels (length counts) incident labels
+    → (z w : Change) → In z (find-move (the-graph regions) model counts limit .best) → In w (find-move (the-graph regions) model counts limit .best)
+    → getD labels (z .0) 0 ≡ getD labels (w .0) 0
+one-part regions incident own labels counts model limit tables ok lab z w iz iw = go (found (the-graph regions) counts ok model limit)
+  where
+    b : Found
+    b = find-move (the-graph regions) model counts limit
+
+    go : Finds (the-graph regions) counts ok model limit b → getD labels (z .0) 0 ≡ getD labels (w .0) 0
+    go (found-none k e) = absurd (nothing-in z (b .best) iz e)
+    go (some r c l) =
+        joined-label regions incident own labels (length counts) tables ok lab (edges (b .best)) (z .0) (w .0)
+        (r .move .joined (z .0) (w .0) (in→member (z .0) (edges (b .best)) (edges-in z (b .best) iz)) (in→member (w .0) (edges (b .best)) (edges-in w (b .best) iw)))
+
+-- ---- the tables after a move
+
+module _ (regions incident own labels counts after : List ℕ) (model : CostModel) (limit part : ℕ) (costs costs' : List Float) (may may' : List Bool) (kept : List Float) (cut known known' : List Bool) (r : List Change)
+    (local : Local model) (tables : Tables regions incident own) (ok : Accepted (length counts) (the-graph regions)) (lab : Labels (length counts) incident labels)
+    (ready : Ready regions model limit counts costs may kept cut known) (made : after ≡ apply-changes r counts)
+    (touched : (z : Change) → In z r → getD labels (z .0) 0 ≡ part) (fresh : Refreshed (length counts) labels part after model costs may known costs' may' known') where
+  in-change : (x : ℕ) (l : List Change) → In x (edges l) → (z : Change) × In z l × (x ≡ z .0)
+  in-change x [] i = absurd i
+  in-change x (z ∷ l) (inl e) = (z, inl refl, e)
+  in-change x (z ∷ l) (inr i) = let k = in-change x l i in (k .0, inr (k .1), k .2)
+
+  count-same : (y : ℕ) → getD labels y 0 ≢ part → getD after y 0 ≡ getD counts y 0
+  count-same y n =
+      ap (λ (l : List ℕ). getD l y 0) made
+      ∙ apply-other r counts y (not-T (member y (edges r)) (λ t. let k = in-change y r (member→in y (edges r) t) in n (ap (λ (x : ℕ). getD labels x 0) (k .2) ∙ touched (k .0) (k .1))))
+
+  inside : (y : ℕ) → y < length after → y < length counts
+  inside y h = let e = ap length made ∙ apply-length r counts in omega (arith, h, e)
+
+  cost-now : (y : ℕ) (s : Bool) → y < length after → cost-in costs' y s ≡ model after y s
+  cost-now y s h =
+      by-cases (eqb (getD labels y 0) part) (λ t. entry-cost after model costs' may' y s (fresh .fresh y (inside y h) (eqb→eq (getD labels y 0) part t)))
+      (λ t. let n : getD labels y 0 ≢ part = λ q. clash (eqb (getD labels y 0) part) (eq→eqb (getD labels y 0) part q) t in
+      cost-same regions incident own labels (length counts) tables ok lab part costs costs' may may' (fresh .same-cost) (fresh .same-may) y s (λ l. n)
+      ∙ ready .priced .cost-is y s (inside y h)
+      ∙ sym (local counts after y s (count-same y n)))
+
+  may-now : (y : ℕ) (s : Bool) → y < length after → allowed-in may' y s ≡ allowed after y s
+  may-now y s h =
+      by-cases (eqb (getD labels y 0) part) (λ t. entry-may after model costs' may' y s (fresh .fresh y (inside y h) (eqb→eq (getD labels y 0) part t)))
+      (λ t. let n : getD labels y 0 ≢ part = λ q. clash (eqb (getD labels y 0) part) (eq→eqb (getD labels y 0) part q) t in
+      may-same regions incident own labels (length counts) tables ok lab part costs costs' may may' (fresh .same-cost) (fresh .same-may) y s (λ l. n)
+      ∙ ready .priced .may-is y s (inside y h)
+      ∙ ap (λ (k : ℕ). s || ltb 0 k) (sym (count-same y n)))
+
+  still-right : (c : ℕ) → c < 512 → getD known' c false ≡ true → Result regions costs' may' limit c kept cut
+  still-right c h q =
+      let k = fresh .still-known c q in
+      let old = ready .remembered .right c h (k .1) in
+      let e = search-same regions incident own labels (length counts) tables ok lab part costs costs' may may' (fresh .same-cost) (fresh .same-may) limit c (k .0) in
+      record { kept-is = old .kept-is ∙ ap (λ (st : State). st .kept) e; cut-is = old .cut-is ∙ ap (λ (st : State). st .cut) e }
+
+  pub ready-again : Ready regions model limit after costs' may' kept cut known'
+  ready-again =
+      record {
+        priced = record { costs-long = fresh .costs-long; may-long = fresh .may-long; cost-is = cost-now; may-is = may-now };
+        remembered =
+            record {
+              kept-long = ready .remembered .kept-long;
+              cut-long = ready .remembered .cut-long;
+              known-long = fresh .known-long;
+              right = still-right;
+            };
+      }
+
+-- what the code refreshes is the part of the move's first change
+pub refreshed-by : (labels counts after : List ℕ) (model : CostModel) (costs costs' : List Float) (may may' known known' : List Bool) (r : List Change) (c d : ℕ) → after ≡ apply-changes r counts → c ≡ d
+    → Refreshed (length after) labels (getD labels (c / 2) 0) after model costs may known costs' may' known' → Refreshed (length counts) labels (getD labels (d / 2) 0) after model costs may known costs' may' known'
+refreshed-by labels counts after model costs costs' may may' known known' r c d made q f =
+    subst (λ (n : ℕ). Refreshed n labels (getD labels (d / 2) 0) after model costs may known costs' may' known') (ap length made ∙ apply-length r counts)
+    (subst (λ (k : ℕ). Refreshed (length after) labels (getD labels (k / 2) 0) after model costs may known costs' may' known') q f)
+
+-- the edge of the first change
+pub first-below : (counts best : List ℕ) (len : ℕ) → CanApply counts (path-of len best) → 0 < len → length best ≡ 257 → getD best 0 0 / 2 < length counts
+first-below counts best len can h l = can .below (decoded (getD best 0 0)) (start-in best len (omega (arith, h)) (omega (arith, l)))

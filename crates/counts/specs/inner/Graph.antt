@@ -1,0 +1,77 @@
+-- How the tables are filled: the records that the contracts of src/graph.rt cite. Assumes nothing.
+-- Constraint i is pair i % 2 of region i / 2, so that its two sides are first-side i and, two further on, the opposite one.
+use mathlib.Core.Path.{_≡_}
+use mathlib.Core.Bool.{_&&_, cond}
+use mathlib.Core.List.{List}
+use Prim.Native.Nat.{ℕ, _+_, _*_, _/_, _%_, _≤_, _<_}
+use lib.ListN.{length, getD}
+use lib.Dec.{T, eqb}
+use Rattle.base.specs.Lists.{member, Distinct}
+use Rattle.base.specs.declared.verdict.Verdict.{Verdict}
+use Rattle.base.specs.Refusal.{is-passed}
+use Rattle.counts.specs.Region.{Constraint, places, region-count, constraint, incidence}
+use Rattle.counts.specs.Accept.{max-regions, max-edges, overused-test}
+use Rattle.counts.specs.inner.Tables.{the-graph, none, edges-of, Tables}
+
+abbrev pub first-side : ℕ → ℕ
+first-side i = i / 2 * 4 + i % 2
+
+abbrev pub second-side : ℕ → ℕ
+second-side i = first-side i + 2
+
+-- ---- what records that passed tests 1 and 3 to 5 have
+
+-- of side s: it is there, its number of edges fits, its edges are distinct and each has its places
+pub record SideTested (regions : List ℕ) (s : ℕ) : Type 0 where
+  pub numbered : s < 512
+  pub fits : s * 17 + 17 ≤ length regions
+  pub few : getD regions (s * 17) 0 ≤ places
+  pub inside : (y : ℕ) → T (member y (edges-of regions s)) → y < max-edges
+  pub once : Distinct (edges-of regions s)
+
+-- of constraint i
+pub record PairTested (regions : List ℕ) (i : ℕ) : Type 0 where
+  pub first : SideTested regions (first-side i)
+  pub second : SideTested regions (second-side i)
+  pub parted : (y : ℕ) → T (member y (edges-of regions (first-side i))) → T (member y (edges-of regions (second-side i))) → ⊥
+
+pub record Tested (regions : List ℕ) : Type 0 where
+  pub few : region-count places regions ≤ max-regions
+  pub pair-tested : (i : ℕ) → i < region-count places regions * 2 → PairTested regions i
+
+-- ---- what stands in the tables: `uses` has the number of constraints of each edge
+
+pub record Sized (incident own uses : List ℕ) : Type 0 where
+  pub incident-size : length incident ≡ 512
+  pub own-size : length own ≡ 512
+  pub uses-size : length uses ≡ 256
+
+-- The edges of l, which stand on side s of constraint i, are put into the tables: each counts one use more, and i and s stand at its place
+-- with the number of its uses before, if that is below 2. All else is as it was.
+pub record Placed (i s : ℕ) (l incident own uses incident' own' uses' : List ℕ) : Type 0 where
+  pub sized : Sized incident' own' uses'
+  pub counted : (y : ℕ) → y < 256 → getD uses' y 0 ≡ getD uses y 0 + cond (member y l) 1 0
+  pub incident-at :
+      (y k : ℕ) → y < 256 → k < 2
+      → getD incident' (y * 2 + k) 0 ≡ cond (member y l && eqb (getD uses y 0) k) i (getD incident (y * 2 + k) 0)
+  pub own-at :
+      (y k : ℕ) → y < 256 → k < 2 → getD own' (y * 2 + k) 0 ≡ cond (member y l && eqb (getD uses y 0) k) s (getD own (y * 2 + k) 0)
+
+-- the side of constraint i on which y stands
+abbrev pub side-of : List Constraint → ℕ → ℕ → ℕ
+side-of g y i = first-side i + cond (member y (constraint g i .a)) 0 2
+
+-- the tables hold the constraints `placed`, the first ones of g
+pub record Filled (g placed : List Constraint) (incident own uses : List ℕ) : Type 0 where
+  pub sized : Sized incident own uses
+  pub counted : (y : ℕ) → y < 256 → getD uses y 0 ≡ length (incidence placed y)
+  pub incident-is : (y k : ℕ) → y < 256 → k < 2 → getD incident (y * 2 + k) 0 ≡ getD (incidence placed y) k none
+  pub own-is :
+      (y k : ℕ) → y < 256 → k < 2 → getD incident (y * 2 + k) 0 < none → getD own (y * 2 + k) 0 ≡ side-of g y (getD incident (y * 2 + k) 0)
+
+-- what `build_graph` leaves for n edges: 6's verdict, and the search's tables if that is that it passed
+pub record Built (n : ℕ) (regions incident own : List ℕ) (verdict : Verdict) : Type 0 where
+  pub verdict-is : verdict ≡ overused-test (the-graph regions) 0 n
+  pub tables : T (is-passed verdict) → Tables regions incident own
+  pub incident-size : length incident ≡ 512
+  pub own-size : length own ≡ 512

@@ -1,0 +1,98 @@
+-- What the search's tables, buffers and state stand for: the records that the contracts of the functions below the public ones cite.
+-- Assumes nothing.
+-- A place is 2 * edge + k: constraint k (0 or 1) of the edge. A change is packed in one number, 2 * edge + 1 for +1 and 2 * edge for -1.
+use mathlib.Core.Logic.{_≢_, _⊎_}
+use mathlib.Core.Path.{_≡_}
+use mathlib.Core.Bool.{Bool, true, false, not, _&&_, cond}
+use mathlib.Core.List.{List, [], _∷_, _++_}
+use Prim.Native.Nat.{ℕ, zero, suc, _+_, _-_, _*_, _/_, _%_, _≤_, _<_}
+use lib.ListN.{length, getD, set, take, drop}
+use lib.Dec.{eqb, ltb, T}
+use lib.Ieee.{Float, nan}
+use Rattle.base.specs.Lists.{member, any, differs}
+use Rattle.counts.specs.Region.{Constraint, places, graph, constraint, holds, own-side, opposite-side, incidence}
+use Rattle.counts.specs.Move.{Change, EdgeCost, select, allowed}
+use Rattle.counts.specs.Cost.{CostModel}
+use Rattle.counts.specs.Search.{State, Go, Act, skip, signed, others-changed, is-used, try-step, visit, dfs}
+use Rattle.counts.specs.declared.search.SearchState.{SearchState}
+
+-- ---- packed changes
+
+abbrev pub decoded : ℕ → Change
+decoded c = (c / 2, eqb (c % 2) 1)
+
+abbrev pub encoded : ℕ → Bool → ℕ
+encoded x s = x * 2 + cond s 1 0
+
+abbrev pub all-decoded : List ℕ → List Change
+all-decoded [] = []
+all-decoded (c ∷ cs) = decoded c ∷ all-decoded cs
+
+-- the first n changes of a buffer
+abbrev pub path-of : ℕ → List ℕ → List Change
+path-of n l = all-decoded (take n l)
+
+-- the code's state, with the buffer that holds the kept reading
+abbrev pub state-of : SearchState → List ℕ → State
+state-of st best = record { expansions = st .expansions; cut = st .cut; kept = st .kept; best = path-of (st .len) best }
+
+-- ---- the tables of a round
+
+abbrev pub the-graph : List ℕ → List Constraint
+the-graph regions = graph places regions
+
+-- what each change costs, and whether it is allowed, by its packed number
+abbrev pub cost-in : List Float → EdgeCost
+cost-in costs x s = getD costs (encoded x s) nan
+
+abbrev pub allowed-in : List Bool → ℕ → Bool → Bool
+allowed-in allowed x s = getD allowed (encoded x s) false
+
+-- the two entries of edge e, for +1 and for -1, at 2 * e + 1 and at 2 * e
+abbrev pub set-both : {A : Type 0} → List A → ℕ → A → A → List A
+set-both l e plus minus = set (set l (e * 2 + 1) plus) (e * 2) minus
+
+-- the entries of edge x in a round's tables: what +1 and -1 cost, and whether each is allowed, at 2 * x + 1 and at 2 * x
+pub record Entries (counts : List ℕ) (model : CostModel) (costs : List Float) (may : List Bool) (x : ℕ) : Type 0 where
+  pub plus-cost : getD costs (x * 2 + 1) nan ≡ model counts x true
+  pub minus-cost : getD costs (x * 2) nan ≡ model counts x false
+  pub plus-may : getD may (x * 2 + 1) false ≡ allowed counts x true
+  pub minus-may : getD may (x * 2) false ≡ allowed counts x false
+
+-- stands for "no constraint" in a table, and is the number of a constraint that is always used
+abbrev pub none : ℕ
+none = 256
+
+-- the edges of side s, sides counted over all records
+abbrev pub edges-of : List ℕ → ℕ → List ℕ
+edges-of regions s = take (getD regions (s * 17) 0) (drop (s * 17 + 1) regions)
+
+-- the side opposite s
+abbrev pub across : ℕ → ℕ
+across s = cond (ltb (s % 4) 2) (s + 2) (s - 2)
+
+-- y is in constraint i, and o is its other constraint, or none
+pub data Other (g : List Constraint) (y i o : ℕ) : Type 0 where
+  alone : o ≡ none → incidence g y ≡ i ∷ [] → Other g y i o
+  after : o < none → o ≢ i → incidence g y ≡ i ∷ o ∷ [] → Other g y i o
+  before : o < none → o ≢ i → incidence g y ≡ o ∷ i ∷ [] → Other g y i o
+
+-- edge x of constraint i stands on side s
+pub record StandsOn (regions : List ℕ) (i x s : ℕ) : Type 0 where
+  pub below : s < 512
+  pub own-is : own-side (constraint (the-graph regions) i) x ≡ edges-of regions s
+  pub opposite-is : opposite-side (constraint (the-graph regions) i) x ≡ edges-of regions (across s)
+  pub own-fits : s * 17 + 17 ≤ length regions
+  pub opposite-fits : across s * 17 + 17 ≤ length regions
+  pub own-few : getD regions (s * 17) 0 ≤ 16
+  pub opposite-few : getD regions (across s * 17) 0 ≤ 16
+  pub first : member x (constraint (the-graph regions) i .a) ≡ ltb (s % 4) 2
+
+-- The tables stand for the records: `incident` has the constraint at each place, or none, and `own` the side on which the edge stands there.
+pub record Tables (regions incident own : List ℕ) : Type 0 where
+  pub parted : (i y : ℕ) → T (member y (constraint (the-graph regions) i .a)) → T (member y (constraint (the-graph regions) i .b)) → ⊥
+  pub few : (i y : ℕ) → T (holds (constraint (the-graph regions) i) y) → y < 256
+  pub numbered : (i y : ℕ) → T (holds (constraint (the-graph regions) i) y) → i < 256
+  pub incident-is : (y k : ℕ) → y < 256 → k < 2 → getD incident (y * 2 + k) 0 ≡ getD (incidence (the-graph regions) y) k none
+  pub thin : (y : ℕ) → length (incidence (the-graph regions) y) ≤ 2
+  pub stands : (p : ℕ) → p < 512 → getD incident p 0 < none → StandsOn regions (getD incident p 0) (p / 2) (getD own p 0)

@@ -1,5 +1,0 @@
--- The laws of the scalars. Assumes nothing.
-pub mod Constants
-pub mod Exact
-pub mod Laws
-pub mod Order

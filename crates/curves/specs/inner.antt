@@ -1,0 +1,4 @@
+-- What the functions inside the crate tell each other: no public contract cites these. Assumes nothing.
+pub mod Columns
+pub mod Level
+pub mod Rows

@@ -1,0 +1,44 @@
+-- A table of columns of the patch, which the rows of a grid share. How the code goes fast, and no more: no public promise cites these. Assumes nothing.
+use mathlib.Core.Path.{_≡_}
+use mathlib.Core.List.{List, [], _∷_}
+use Prim.Native.Nat.{ℕ, _+_, _*_, _<_, _≤_}
+use lib.ListN.{length, getD}
+use lib.Ieee.{Float, nan}
+use Rattle.floats.specs.Scalar.{clamp-unit}
+use Rattle.curves.specs.Point.{point, values}
+use Rattle.curves.specs.Curve.{ArcCurve}
+use Rattle.base.specs.Buffers.{cat}
+use Rattle.curves.specs.Patch.{column-at, patch-point}
+use Rattle.curves.specs.declared.boundary.Ends.{Ends}
+use Rattle.curves.specs.declared.patch.Column.{Column}
+use Rattle.curves.specs.declared.patch.Row.{Row}
+
+-- a column takes nine values: its parameter u, and then its four points
+abbrev pub column-values : Float → Column → List Float
+column-values u c = u ∷ c .bottom .x ∷ c .bottom .y ∷ c .top .x ∷ c .top .y ∷ c .low .x ∷ c .low .y ∷ c .high .x ∷ c .high .y ∷ []
+
+-- the column whose nine values begin at the index `from`
+abbrev pub stored-column : List Float → ℕ → Column
+stored-column table from = record {
+  bottom = point (getD table (from + 1) nan) (getD table (from + 2) nan);
+  top = point (getD table (from + 3) nan) (getD table (from + 4) nan);
+  low = point (getD table (from + 5) nan) (getD table (from + 6) nan);
+  high = point (getD table (from + 7) nan) (getD table (from + 8) nan);
+}
+
+-- the values that stand for the value i of a seam
+unfoldable pub seam-column : ArcCurve → ArcCurve → Ends → Ends → List Float → ℕ → List Float
+seam-column bottom top b t seam i = let u = clamp-unit (getD seam i nan) in column-values u (column-at bottom top b t u)
+
+-- a column stands from the index `from` on: the one of the parameter u, which stands first
+abbrev pub Holds : ArcCurve → ArcCurve → Ends → Ends → List Float → ℕ → Float → Type 0
+Holds bottom top b t table from u = (from + 9 ≤ length table) × (getD table from nan ≡ u) × (stored-column table from ≡ column-at bottom top b t u)
+
+-- n columns, of the first n values of a seam
+abbrev pub Table : ArcCurve → ArcCurve → Ends → Ends → List Float → ℕ → List Float → Type 0
+Table bottom top b t seam n table = (i : ℕ) → i < n → Holds bottom top b t table (9 * i) (clamp-unit (getD seam i nan))
+
+-- the points of n + 1 columns on one row of the patch, of the parameter v
+unfoldable pub level-points : List Float → Row → Float → ℕ → List Float
+unfolding patch-point
+level-points table row v n = cat (λ (i : ℕ). values (patch-point (stored-column table (9 * i)) row (getD table (9 * i) nan) v)) 0 (n + 1)

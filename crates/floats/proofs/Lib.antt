@@ -1,0 +1,1 @@
+-- The laws of the crate stand by the modules of the code: root and scalar. Assumes nothing.

@@ -1,0 +1,196 @@
+-- The order of floats. Where neither is a NaN, `le` is the opposite of `lt` the other way round; so a value that lies between two bounds is finite, and `le` goes on from one pair to the next. Assumes nothing.
+use mathlib.Core.Path.{_≡_, refl, sym, ap, _∙_}
+use mathlib.Core.Bool.{Bool, true, false, not, _&&_, _||_, true≢false}
+use Prim.Native.Nat.{ℕ, zero, suc, _*_, _+_, _<_, _≤_}
+use native.Mathlib.Nat.{mul-pos, zero-mul, add-comm}
+use native.Mathlib.Omega.{arith}
+use borrow.Author.Tests.{ltb-true, ltb-false, le-ltb, eq-eqb, ne-eqb, eqb-true, not-true}
+use lib.Dec.{ltb, eqb}
+use lib.Ieee.{Float, nan, inf, fin, binary64, ofBits, add, neg, lt, le, below, level, isNan, up, down}
+use lib.Ieee.Fits.{down-pos}
+use lib.Ieee.Positive.{through}
+use Rattle.floats.specs.Scalar.{nought, one, e-9, is-finite, is-positive, in-unit}
+use Rattle.floats.proofs.scalar.Laws.{impossible}
+
+-- ---- `le` against `lt`
+
+-- `same` tells whether the two are equal
+at-most : (a b : ℕ) (same : Bool) → (a ≡ b → same ≡ true) → ((a ≡ b → ⊥) → same ≡ false) → ltb a b || (same && true) ≡ not (ltb b a)
+at-most a b same yes-same no-same = go (ltb b a) (ltb a b) refl refl
+  where
+    go : (x y : Bool) → ltb b a ≡ x → ltb a b ≡ y → y || (same && true) ≡ not x
+    go true true e f = let h = ltb-true b a e in let k = ltb-true a b f in absurd (omega arith)
+    go true false e f = let h = ltb-true b a e in ap (λ (z : Bool). z && true) (no-same (λ z. omega arith))
+    go false true e f = refl
+    go false false e f = let h = ltb-false b a e in let k = ltb-false a b f in ap (λ (z : Bool). z && true) (yes-same (omega arith))
+
+both-zero : (a b : ℕ) → eqb a b && eqb a 0 ≡ not (ltb 0 (b + a))
+both-zero a b = go (ltb 0 (b + a)) (eqb a b) refl refl
+  where
+    go : (x y : Bool) → ltb 0 (b + a) ≡ x → eqb a b ≡ y → y && eqb a 0 ≡ not x
+    go true true e f = let h = ltb-true 0 (b + a) e in let k = eqb-true a b f in ne-eqb a 0 (λ z. omega arith)
+    go true false e f = refl
+    go false y e f = let h = ltb-false 0 (b + a) e in simp (sym f, eq-eqb a b (omega arith), eq-eqb a 0 (omega arith))
+
+either : (p : Bool) → p || not p ≡ true
+either true = refl
+either false = refl
+
+with-signs : (s t : Bool) (a b : ℕ) → below s a t b || level s a t b ≡ not (below t b s a)
+with-signs false false a b = at-most a b (eqb a b) (eq-eqb a b) (ne-eqb a b)
+with-signs false true a b = both-zero a b
+with-signs true false a b = ap (λ (p : Bool). ltb 0 (a + b) || p) (both-zero a b ∙ ap (λ (n : ℕ). not (ltb 0 n)) (add-comm b a)) ∙ either (ltb 0 (a + b))
+with-signs true true a b = at-most b a (eqb a b) (λ e. eq-eqb a b (sym e)) (λ n. ne-eqb a b (λ e. n (sym e)))
+
+order : (x y : Float) → isNan x ≡ false → isNan y ≡ false → le x y ≡ not (lt y x)
+unfolding le isNan
+order nan y h k = impossible (sym h)
+order (inf s) nan h k = impossible (sym k)
+order (fin s m e) nan h k = impossible (sym k)
+order (inf false) (inf false) h k = refl
+order (inf false) (inf true) h k = refl
+order (inf true) (inf false) h k = refl
+order (inf true) (inf true) h k = refl
+order (inf false) (fin t n d) h k = refl
+order (inf true) (fin t n d) h k = refl
+order (fin s m e) (inf false) h k = refl
+order (fin s m e) (inf true) h k = refl
+order (fin s m e) (fin t n d) h k = with-signs s t (m * up e * down d) (n * up d * down e)
+
+-- ---- the tests of `is_positive` and `in_unit`
+
+-- finite, not below a and not above b
+between : (x a b : Float) → is-finite a ≡ true → is-finite b ≡ true → le a x && le x b ≡ is-finite x && (not (lt x a) && not (lt b x))
+unfolding is-finite le isNan
+between x nan b h k = impossible h
+between x (inf s) b h k = impossible h
+between x (fin s m e) nan h k = impossible k
+between x (fin s m e) (inf t) h k = impossible k
+between nan (fin s m e) (fin t n d) h k = refl
+between (inf true) (fin s m e) (fin t n d) h k = refl
+between (inf false) (fin s m e) (fin t n d) h k = refl
+between (fin u l g) (fin s m e) (fin t n d) h k =
+    ap (λ (p : Bool). p && le (fin u l g) (fin t n d)) (order (fin s m e) (fin u l g) refl refl)
+    ∙ ap (λ (p : Bool). not (lt (fin u l g) (fin s m e)) && p) (order (fin u l g) (fin t n d) refl refl)
+
+-- finite, and not at or below a
+above : (x a : Float) → is-finite a ≡ true → lt a x && lt x (inf false) ≡ is-finite x && not (le x a)
+unfolding is-finite le isNan
+above x nan h = impossible h
+above x (inf s) h = impossible h
+above nan (fin s m e) h = refl
+above (inf true) (fin s m e) h = refl
+above (inf false) (fin s m e) h = refl
+above (fin u l g) (fin s m e) h = go (lt (fin s m e) (fin u l g)) (le (fin u l g) (fin s m e)) (order (fin u l g) (fin s m e) refl refl)
+  where
+    go : (p q : Bool) → q ≡ not p → p && true ≡ not q
+    go true q e = sym (ap not e)
+    go false q e = sym (ap not e)
+
+-- as the code tests both: p is what the first comparison gives
+pub positive-by : (x : Float) (p : Bool) → lt nought x ≡ p → p && lt x (ofBits binary64 0x7ff0_0000_0000_0000) ≡ is-positive x
+unfolding is-positive ofBits
+positive-by x p e = ap (λ (q : Bool). q && lt x (inf false)) (sym e) ∙ above x nought refl
+
+pub unit-by : (x : Float) (p : Bool) → le (neg e-9) x ≡ p → p && le x (add binary64 one e-9) ≡ in-unit x
+unfolding in-unit ofBits
+unit-by x p e = ap (λ (q : Bool). q && le x (add binary64 one e-9)) (sym e) ∙ between x (neg e-9) (add binary64 one e-9) refl refl
+
+-- ---- from one pair to the next
+
+nothing : (x q : ℕ) → 0 < q → x * q ≤ 0 → x ≡ 0
+nothing zero q Q h = refl
+nothing (suc x) q Q h = let p : 0 < suc x * q = mul-pos (omega arith) Q in absurd (omega arith)
+
+times : (x p : ℕ) → x ≡ 0 → x * p ≡ 0
+times x p e = ap (λ (n : ℕ). n * p) e ∙ zero-mul p
+
+-- x / p, y / q and z / r with their signs: none is above the next
+in-row : (s t u : Bool) (x y z p q r : ℕ) → 0 < p → 0 < q → 0 < r → below t (y * p) s (x * q) ≡ false → below u (z * q) t (y * r) ≡ false → below u (z * p) s (x * r) ≡ false
+in-row false false false x y z p q r P Q R h k = le-ltb (z * p) (x * r) (through x y z p q r Q (ltb-false (y * p) (x * q) h) (ltb-false (z * q) (y * r) k))
+in-row false false true x y z p q r P Q R h k =
+    let a = ltb-false (y * p) (x * q) h in
+    let b = ltb-false 0 (z * q + y * r) k in
+    let y0 = nothing y r R (omega arith) in
+    let x0 = nothing x q Q (omega (arith, times y p y0)) in
+    let z0 = nothing z q Q (omega arith) in
+    le-ltb 0 (z * p + x * r) (omega (arith, times z p z0, times x r x0))
+in-row false true false x y z p q r P Q R h k =
+    let a = ltb-false 0 (y * p + x * q) h in
+    let x0 = nothing x q Q (omega arith) in
+    le-ltb (z * p) (x * r) (omega (arith, times x r x0))
+in-row false true true x y z p q r P Q R h k =
+    let a = ltb-false 0 (y * p + x * q) h in
+    let b = ltb-false (y * r) (z * q) k in
+    let x0 = nothing x q Q (omega arith) in
+    let y0 = nothing y p P (omega arith) in
+    let z0 = nothing z q Q (omega (arith, times y r y0)) in
+    le-ltb 0 (z * p + x * r) (omega (arith, times z p z0, times x r x0))
+in-row true t false x y z p q r P Q R h k = refl
+in-row true false true x y z p q r P Q R h k =
+    let b = ltb-false 0 (z * q + y * r) k in
+    let z0 = nothing z q Q (omega arith) in
+    le-ltb (x * r) (z * p) (omega (arith, times z p z0))
+in-row true true true x y z p q r P Q R h k = le-ltb (x * r) (z * p) (through z y x r q p Q (ltb-false (y * r) (z * q) k) (ltb-false (x * q) (y * p) h))
+
+-- y is not below x, nor z below y
+not-below : (x y z : Float) → isNan y ≡ false → lt y x ≡ false → lt z y ≡ false → lt z x ≡ false
+unfolding lt isNan
+not-below x y nan n h k = refl
+not-below x nan (inf s) n h k = impossible (sym n)
+not-below x nan (fin u l g) n h k = impossible (sym n)
+not-below nan (inf t) (inf s) n h k = refl
+not-below nan (fin t o d) (inf s) n h k = refl
+not-below nan (inf t) (fin u l g) n h k = refl
+not-below nan (fin t o d) (fin u l g) n h k = refl
+not-below (inf w) (inf t) (inf false) n h k = refl
+not-below (fin w m e) (inf t) (inf false) n h k = refl
+not-below (inf w) (fin t o d) (inf false) n h k = refl
+not-below (fin w m e) (fin t o d) (inf false) n h k = refl
+not-below (inf w) (inf true) (inf true) n h k = h
+not-below (fin w m e) (inf true) (inf true) n h k = h
+not-below (inf w) (inf false) (inf true) n h k = impossible (sym k)
+not-below (fin w m e) (inf false) (inf true) n h k = impossible (sym k)
+not-below (inf w) (fin t o d) (inf true) n h k = impossible (sym k)
+not-below (fin w m e) (fin t o d) (inf true) n h k = impossible (sym k)
+not-below (inf true) (inf t) (fin u l g) n h k = refl
+not-below (inf true) (fin t o d) (fin u l g) n h k = refl
+not-below (inf false) (inf true) (fin u l g) n h k = impossible (sym h)
+not-below (inf false) (inf false) (fin u l g) n h k = impossible (sym k)
+not-below (inf false) (fin t o d) (fin u l g) n h k = impossible (sym h)
+not-below (fin w m e) (inf true) (fin u l g) n h k = impossible (sym h)
+not-below (fin w m e) (inf false) (fin u l g) n h k = impossible (sym k)
+not-below (fin w m e) (fin t o d) (fin u l g) n h k = in-row w t u (m * up e) (o * up d) (l * up g) (down e) (down d) (down g) (down-pos e) (down-pos d) (down-pos g) h k
+
+-- what compares is no NaN
+le-known : (x y : Float) → le x y ≡ true → (isNan x ≡ false) × (isNan y ≡ false)
+unfolding le isNan
+le-known nan y h = impossible h
+le-known (inf s) nan h = impossible h
+le-known (fin s m e) nan h = impossible h
+le-known (inf s) (inf t) h = (refl, refl)
+le-known (inf s) (fin t n d) h = (refl, refl)
+le-known (fin s m e) (inf t) h = (refl, refl)
+le-known (fin s m e) (fin t n d) h = (refl, refl)
+
+le-not-lt : (x y : Float) → le x y ≡ true → lt y x ≡ false
+le-not-lt x y h = let n = le-known x y h in not-true (lt y x) (sym (order x y (n .0) (n .1)) ∙ h)
+
+pub le-le : (x y z : Float) → le x y ≡ true → le y z ≡ true → le x z ≡ true
+le-le x y z h k =
+    let n = le-known x y h in
+    order x z (n .0) (le-known y z k .1) ∙ ap not (not-below x y z (n .1) (le-not-lt x y h) (le-not-lt y z k))
+
+pub lt-le : (x y z : Float) → lt x y ≡ true → le y z ≡ true → lt x z ≡ true
+lt-le x y z h k = go (lt x z) refl
+  where
+    go : (b : Bool) → lt x z ≡ b → b ≡ true
+    go true e = refl
+    go false e = absurd (true≢false (sym h ∙ not-below y z x (le-known y z k .1) (le-not-lt y z k) e))
+
+pub lt-not-le : (x y : Float) → lt x y ≡ true → le y x ≡ false
+lt-not-le x y h = go (le y x) refl
+  where
+    go : (b : Bool) → le y x ≡ b → b ≡ false
+    go true e = absurd (true≢false (sym h ∙ le-not-lt y x e))
+    go false e = refl

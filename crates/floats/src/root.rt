@@ -1,0 +1,168 @@
+// The square root of an f64, correctly rounded: IEEE 754-2019, 5.4.1, to nearest, ties to even. It goes by whole numbers alone, in the
+// standard's order: special operands (`sqrt`), the exact root taken apart (`take_apart`), one rounding (`rounded`).
+ghost use mathlib.Core.Path.{_≡_};
+ghost use Prim.Native.Nat.{_+_, _*_, _^_, _≤_, _<_};
+ghost use lib.Ieee.{binary64, ofBits};
+ghost use Rattle.floats.specs.Root.{root-of, root-answer, root as ieee-root, rounded as rounded-root, parted};
+ghost use Rattle.floats.specs.inner.RootSteps.{Whole, NotBelow, Normal, Splits, Taken};
+use base::refusal::Refusal;
+
+pub enum RootAnswer {
+    Value(f64),
+    Refused(Refusal),
+}
+
+// A number of 53 binary digits, and a power of two.
+struct Digits {
+    m: u64,
+    p: u64,
+}
+
+// A whole root, and what the number has more than its square.
+struct Split {
+    whole: u64,
+    rest: u64,
+}
+
+// The exact root of a float: √(whole * whole + rest) times 2^exponent smallest floats, each 2^-1074.
+struct Apart {
+    exponent: u64,
+    whole: u64,
+    rest: u64,
+}
+
+// The square root, or the refusal of a NaN and of a number below zero.
+pub fn root(x: f64) -> RootAnswer
+    ensures { λ r. ⌜ root-of r ≡ root-answer x ⌝ }
+{
+    if x != x {
+        return RootAnswer::Refused(Refusal::RootUndefined);
+    }
+    if x < 0.0 {
+        return RootAnswer::Refused(Refusal::RootUndefined);
+    }
+    RootAnswer::Value(sqrt(x))
+}
+
+// The square root, where a NaN and a number below zero give a NaN.
+pub fn sqrt(x: f64) -> f64
+    ensures { λ r. ⌜ r ≡ ieee-root binary64 x ⌝ }
+{
+    if x != x {
+        return x;
+    }
+    let b = f64::to_bits(x);
+    // +0, -0 and +infinity
+    if b == 0 || b == 0x8000_0000_0000_0000 || b == 0x7ff0_0000_0000_0000 {
+        return x;
+    }
+    if b > 0x8000_0000_0000_0000 {
+        return 0.0 / 0.0;
+    }
+    rounded(take_apart(b))
+}
+
+// The exact root of the float with the bits b, which is above zero and finite, taken apart.
+fn take_apart(b: u64) -> Apart
+    requires { ⌜ (0 < b) × (b < 0x7ff0_0000_0000_0000) ⌝ }
+    ensures { λ r. ⌜ Taken b (r .exponent) (r .whole) (r .rest) ⌝ }
+{
+    let x = digits_of(b);
+    let m = x.m;
+    let p = x.p;
+    // an even power of two comes out of the root as half of it; of an odd one, one two stays under it
+    let n = m * (1 + p % 2);
+    let s = whole_root(n);
+    let exponent = (p - 54) / 2;
+    Apart {
+        exponent: exponent,
+        whole: s.whole,
+        rest: s.rest,
+    }
+}
+
+// The digits of the float with the bits b, which is above zero and finite, the leading one first, and the power of two of its
+// `radicand`.
+fn digits_of(b: u64) -> Digits
+    requires { ⌜ (0 < b) × (b < 0x7ff0_0000_0000_0000) ⌝ }
+    ensures { λ r. ⌜ Normal b (r .m) (r .p) ⌝ }
+{
+    let e = b / 0x10_0000_0000_0000;
+    let t = b % 0x10_0000_0000_0000;
+    if e == 0 {
+        let z = (u64::leading_zeros(t) - 11) as u64;
+        let m = t << z;
+        let p = 1074 - z;
+        Digits { m: m, p: p }
+    } else {
+        let m = t + 0x10_0000_0000_0000;
+        let p = e + 1073;
+        Digits { m: m, p: p }
+    }
+}
+
+// The whole part of the root of n * 2^54, of 54 digits, and the rest. s is the upper half of the digits, and one long division gives the
+// lower half, or one more (Zimmermann's Karatsuba square root). Nothing here reaches 2^64.
+fn whole_root(n: u64) -> Split
+    requires { ⌜ (2 ^ 52 ≤ n) × (n < 2 ^ 54) ⌝ }
+    ensures { λ r. ⌜ Splits (n * 2 ^ 54) (r .whole) (r .rest) ⌝ }
+{
+    let s = short_root(n);
+    let v = (n - s * s) * 0x800_0000;
+    let d = s * 2;
+    let q = v / d;
+    let u = v % d * 0x800_0000;
+    let t = s * 0x800_0000 + q;
+    // a number, and no branch, since no processor could guess which way it goes
+    let over = if u < q * q { 1 } else { 0 };
+    let whole = t - over;
+    let back = over * (t * 2 - 1);
+    let rest = u + back - q * q;
+    Split {
+        whole: whole,
+        rest: rest,
+    }
+}
+
+// The whole part of the root of n, of 27 digits. The first guess, by a parabola, is 6 parts in 1000 off at most, and two steps bring it
+// to the root or to one more. How good the guess is matters to the speed alone.
+fn short_root(n: u64) -> u64
+    requires { ⌜ (2 ^ 52 ≤ n) × (n < 2 ^ 54) ⌝ }
+    ensures { λ r. ⌜ Whole n r ⌝ }
+{
+    let t = n / 0x400_0000;
+    let slope = 34558 - t * 2608 / 0x400_0000;
+    let guess = 34714748 + t * slope / 0x1_0000;
+    let mut r = newton_step(n, newton_step(n, guess));
+    while n < r * r {
+        r -= 1;
+    }
+    r
+}
+
+// One step of Newton's iteration for the root of n. From any r the next is not below the root.
+fn newton_step(n: u64, r: u64) -> u64
+    requires { ⌜ (2 ^ 52 ≤ n) × (n < 2 ^ 54) × (2 ^ 25 ≤ r) × (r ≤ 2 ^ 29) ⌝ }
+    ensures { λ s. ⌜ NotBelow n s ⌝ }
+{
+    (r + n / r) / 2
+}
+
+// A root taken apart, rounded once: of the 54 digits of its whole part 53 are kept, and the last one and the rest say which way. At a tie
+// the even one is taken. Where the 53 digits run over into a 54th, the carry runs into the exponent's field, as it should.
+fn rounded(a: Apart) -> f64
+    requires { ⌜ (2 ^ 53 ≤ a .whole) × (a .whole < 2 ^ 54) × (a .exponent ≤ 2000) ⌝ }
+    ensures { λ r. ⌜ r ≡ rounded-root binary64 (parted (a .exponent) (a .whole) (a .rest)) ⌝ }
+{
+    let s = a.whole;
+    let q = s / 2;
+    let d = if s % 2 == 0 {
+        q
+    } else if a.rest > 0 {
+        q + 1
+    } else {
+        q + q % 2
+    };
+    let bits = (a.exponent + 1) * 0x10_0000_0000_0000 + d;
+    f64::from_bits(bits)
+}
