@@ -1,2 +1,3 @@
 -- The definitions of the crate. Assumes nothing.
-pub mod Told
+pub mod Stored
+pub mod inner

@@ -1,6 +1,6 @@
 // The public functions of the libraries below, for callers in C and Rust. include/juplatsk.h says what each is lent and leaves. A lent list
 // is a pointer and a length there. Each function returns the refusal's number, 0 if the call is accepted.
-mod telling;
+mod answers;
 
 ghost use mathlib.Core.Path.{_≡_};
 ghost use mathlib.Core.List.{[], _∷_};
@@ -13,13 +13,13 @@ ghost use Rattle.curves.specs.Coons.{coons-seamed, coons-quads};
 ghost use Rattle.curves.specs.Lay.{field, lay};
 ghost use Rattle.mesh.specs.Mesh.{mesh-tile-curves};
 ghost use Rattle.mesh.specs.Tile.{coons-checked, mesh-tile};
-ghost use Rattle.exports.specs.Told.{solve-told, hold-told, energy-told, round-told, grid-told, cost-of, root-value};
-use crate::telling::tell_energy;
-use crate::telling::tell_grid;
-use crate::telling::tell_hold;
-use crate::telling::tell_root;
-use crate::telling::tell_round;
-use crate::telling::tell_solve;
+ghost use Rattle.exports.specs.Stored.{solve-stored, hold-stored, energy-stored, round-stored, grid-stored, cost-of, root-value};
+use crate::answers::store_energy;
+use crate::answers::store_grid;
+use crate::answers::store_hold;
+use crate::answers::store_root;
+use crate::answers::store_round;
+use crate::answers::store_solve;
 
 #[no_mangle]
 pub extern "C" fn juplatsk_solve_counts(
@@ -30,10 +30,10 @@ pub extern "C" fn juplatsk_solve_counts(
 ) -> u32
     ensures { λ r.
         let o = solve (now (regions .entry)) (by (now (ideals .entry))) (now (counts .entry)) in
-        ⌜ (r ≡ o .verdict .number) × (now (answer .exit) ≡ solve-told o) × (now (counts .exit) ≡ o .counts) ⌝ }
+        ⌜ (r ≡ o .verdict .number) × (now (answer .exit) ≡ solve-stored o) × (now (counts .exit) ≡ o .counts) ⌝ }
 {
     let solved = counts::solve_counts(regions, ideals, counts);
-    tell_solve(solved, answer)
+    store_solve(solved, answer)
 }
 
 #[no_mangle]
@@ -47,10 +47,10 @@ pub extern "C" fn juplatsk_round(
 ) -> u32
     ensures { λ r.
         let o = round (now (regions .entry)) (by (now (ideals .entry))) (now (counts .entry)) limit in
-        ⌜ (r ≡ o .verdict .number) × (now (answer .exit) ≡ round-told o) × (now (cost .exit) ≡ cost-of (o .move) ∷ []) × (now (counts .exit) ≡ o .counts) ⌝ }
+        ⌜ (r ≡ o .verdict .number) × (now (answer .exit) ≡ round-stored o) × (now (cost .exit) ≡ cost-of (o .move) ∷ []) × (now (counts .exit) ≡ o .counts) ⌝ }
 {
     let made = counts::round(regions, ideals, counts, limit);
-    tell_round(made, answer, cost)
+    store_round(made, answer, cost)
 }
 
 #[no_mangle]
@@ -63,10 +63,10 @@ pub extern "C" fn juplatsk_solve_counts_within(
 ) -> u32
     ensures { λ r.
         let o = solve (now (regions .entry)) (within (now (least .entry)) (now (most .entry))) (now (counts .entry)) in
-        ⌜ (r ≡ o .verdict .number) × (now (answer .exit) ≡ solve-told o) × (now (counts .exit) ≡ o .counts) ⌝ }
+        ⌜ (r ≡ o .verdict .number) × (now (answer .exit) ≡ solve-stored o) × (now (counts .exit) ≡ o .counts) ⌝ }
 {
     let solved = counts::solve_counts_within(regions, least, most, counts);
-    tell_solve(solved, answer)
+    store_solve(solved, answer)
 }
 
 #[no_mangle]
@@ -81,10 +81,10 @@ pub extern "C" fn juplatsk_round_within(
 ) -> u32
     ensures { λ r.
         let o = round (now (regions .entry)) (within (now (least .entry)) (now (most .entry))) (now (counts .entry)) limit in
-        ⌜ (r ≡ o .verdict .number) × (now (answer .exit) ≡ round-told o) × (now (cost .exit) ≡ cost-of (o .move) ∷ []) × (now (counts .exit) ≡ o .counts) ⌝ }
+        ⌜ (r ≡ o .verdict .number) × (now (answer .exit) ≡ round-stored o) × (now (cost .exit) ≡ cost-of (o .move) ∷ []) × (now (counts .exit) ≡ o .counts) ⌝ }
 {
     let made = counts::round_within(regions, least, most, counts, limit);
-    tell_round(made, answer, cost)
+    store_round(made, answer, cost)
 }
 
 #[no_mangle]
@@ -95,11 +95,11 @@ pub extern "C" fn juplatsk_energy(
     sum: &mut [f64; 1],
 ) -> u32
     ensures { λ r. ⌜ r ≡ energy (now (counts .entry)) (now (ideals .entry)) .verdict .number ⌝ }
-    ensures { λ _. ⌜ now (answer .exit) ≡ energy-told (energy (now (counts .entry)) (now (ideals .entry))) ⌝ }
+    ensures { λ _. ⌜ now (answer .exit) ≡ energy-stored (energy (now (counts .entry)) (now (ideals .entry))) ⌝ }
     ensures { λ _. ⌜ now (sum .exit) ≡ energy (now (counts .entry)) (now (ideals .entry)) .total ∷ [] ⌝ }
 {
     let total = counts::energy(counts, ideals);
-    tell_energy(total, answer, sum)
+    store_energy(total, answer, sum)
 }
 
 #[no_mangle]
@@ -109,10 +109,10 @@ pub extern "C" fn juplatsk_constraints_hold(
     answer: &mut [u32; 3],
 ) -> u32
     ensures { λ r. ⌜ r ≡ constraints-hold (now (regions .entry)) (now (counts .entry)) .verdict .number ⌝ }
-    ensures { λ _. ⌜ now (answer .exit) ≡ hold-told (constraints-hold (now (regions .entry)) (now (counts .entry))) ⌝ }
+    ensures { λ _. ⌜ now (answer .exit) ≡ hold-stored (constraints-hold (now (regions .entry)) (now (counts .entry))) ⌝ }
 {
     let held = counts::constraints_hold(regions, counts);
-    tell_hold(held, answer)
+    store_hold(held, answer)
 }
 
 #[no_mangle]
@@ -121,7 +121,7 @@ pub extern "C" fn juplatsk_root(x: f64, root: &mut [f64; 1]) -> u32
     ensures { λ _. ⌜ now (root .exit) ≡ root-value (root-answer x) ∷ [] ⌝ }
 {
     let taken = floats::root::root(x);
-    tell_root(taken, root)
+    store_root(taken, root)
 }
 
 #[no_mangle]
@@ -138,7 +138,7 @@ pub extern "C" fn juplatsk_coons_from_parameters(
     answer: &mut [u32; 3],
 ) -> u32
     ensures { λ r. ⌜ r ≡ coons-seamed (now (bottom .entry)) (now (right .entry)) (now (top .entry)) (now (left .entry)) (seams (now («bottom_u» .entry)) (now («top_u» .entry)) (now («left_v» .entry)) (now («right_v» .entry))) (now (out .entry)) .verdict .number ⌝ }
-    ensures { λ _. ⌜ now (answer .exit) ≡ grid-told (coons-seamed (now (bottom .entry)) (now (right .entry)) (now (top .entry)) (now (left .entry)) (seams (now («bottom_u» .entry)) (now («top_u» .entry)) (now («left_v» .entry)) (now («right_v» .entry))) (now (out .entry))) ⌝ }
+    ensures { λ _. ⌜ now (answer .exit) ≡ grid-stored (coons-seamed (now (bottom .entry)) (now (right .entry)) (now (top .entry)) (now (left .entry)) (seams (now («bottom_u» .entry)) (now («top_u» .entry)) (now («left_v» .entry)) (now («right_v» .entry))) (now (out .entry))) ⌝ }
     ensures { λ _. ⌜ now (out .exit) ≡ coons-seamed (now (bottom .entry)) (now (right .entry)) (now (top .entry)) (now (left .entry)) (seams (now («bottom_u» .entry)) (now («top_u» .entry)) (now («left_v» .entry)) (now («right_v» .entry))) (now (out .entry)) .out ⌝ }
 {
     let made = curves::coons::coons_from_parameters(
@@ -152,7 +152,7 @@ pub extern "C" fn juplatsk_coons_from_parameters(
         right_v,
         out,
     );
-    tell_grid(made, answer)
+    store_grid(made, answer)
 }
 
 #[no_mangle]
@@ -167,11 +167,11 @@ pub extern "C" fn juplatsk_coons_curves(
     answer: &mut [u32; 3],
 ) -> u32
     ensures { λ r. ⌜ r ≡ coons-quads (now (bottom .entry)) (now (right .entry)) (now (top .entry)) (now (left .entry)) «n_u» «n_v» (now (out .entry)) .verdict .number ⌝ }
-    ensures { λ _. ⌜ now (answer .exit) ≡ grid-told (coons-quads (now (bottom .entry)) (now (right .entry)) (now (top .entry)) (now (left .entry)) «n_u» «n_v» (now (out .entry))) ⌝ }
+    ensures { λ _. ⌜ now (answer .exit) ≡ grid-stored (coons-quads (now (bottom .entry)) (now (right .entry)) (now (top .entry)) (now (left .entry)) «n_u» «n_v» (now (out .entry))) ⌝ }
     ensures { λ _. ⌜ now (out .exit) ≡ coons-quads (now (bottom .entry)) (now (right .entry)) (now (top .entry)) (now (left .entry)) «n_u» «n_v» (now (out .entry)) .out ⌝ }
 {
     let made = curves::coons::coons_curves(bottom, right, top, left, n_u, n_v, out);
-    tell_grid(made, answer)
+    store_grid(made, answer)
 }
 
 #[no_mangle]
@@ -190,7 +190,7 @@ pub extern "C" fn juplatsk_lay_region(
     answer: &mut [u32; 3],
 ) -> u32
     ensures { λ r. ⌜ r ≡ lay (now (region .entry)) (now (counts .entry)) (field (now (breaks0 .entry)) (now (breaks1 .entry)) (now (breaks2 .entry)) (now (breaks3 .entry)) (now (bottom .entry)) (now (right .entry)) (now (top .entry)) (now (left .entry))) (now (out .entry)) .verdict .number ⌝ }
-    ensures { λ _. ⌜ now (answer .exit) ≡ grid-told (lay (now (region .entry)) (now (counts .entry)) (field (now (breaks0 .entry)) (now (breaks1 .entry)) (now (breaks2 .entry)) (now (breaks3 .entry)) (now (bottom .entry)) (now (right .entry)) (now (top .entry)) (now (left .entry))) (now (out .entry))) ⌝ }
+    ensures { λ _. ⌜ now (answer .exit) ≡ grid-stored (lay (now (region .entry)) (now (counts .entry)) (field (now (breaks0 .entry)) (now (breaks1 .entry)) (now (breaks2 .entry)) (now (breaks3 .entry)) (now (bottom .entry)) (now (right .entry)) (now (top .entry)) (now (left .entry))) (now (out .entry))) ⌝ }
     ensures { λ _. ⌜ now (out .exit) ≡ lay (now (region .entry)) (now (counts .entry)) (field (now (breaks0 .entry)) (now (breaks1 .entry)) (now (breaks2 .entry)) (now (breaks3 .entry)) (now (bottom .entry)) (now (right .entry)) (now (top .entry)) (now (left .entry))) (now (out .entry)) .out ⌝ }
 {
     let made = curves::lay::lay_region(
@@ -206,7 +206,7 @@ pub extern "C" fn juplatsk_lay_region(
         left,
         out,
     );
-    tell_grid(made, answer)
+    store_grid(made, answer)
 }
 
 #[no_mangle]
@@ -222,12 +222,12 @@ pub extern "C" fn juplatsk_mesh_tile_curves(
     answer: &mut [u32; 3],
 ) -> u32
     ensures { λ r. ⌜ r ≡ mesh-tile-curves (now (bottom .entry)) (now (right .entry)) (now (top .entry)) (now (left .entry)) «n_u» «n_v» (now (points .entry)) (now (cells .entry)) .grid .verdict .number ⌝ }
-    ensures { λ _. ⌜ now (answer .exit) ≡ grid-told (mesh-tile-curves (now (bottom .entry)) (now (right .entry)) (now (top .entry)) (now (left .entry)) «n_u» «n_v» (now (points .entry)) (now (cells .entry)) .grid) ⌝ }
+    ensures { λ _. ⌜ now (answer .exit) ≡ grid-stored (mesh-tile-curves (now (bottom .entry)) (now (right .entry)) (now (top .entry)) (now (left .entry)) «n_u» «n_v» (now (points .entry)) (now (cells .entry)) .grid) ⌝ }
     ensures { λ _. ⌜ now (points .exit) ≡ mesh-tile-curves (now (bottom .entry)) (now (right .entry)) (now (top .entry)) (now (left .entry)) «n_u» «n_v» (now (points .entry)) (now (cells .entry)) .grid .out ⌝ }
     ensures { λ _. ⌜ now (cells .exit) ≡ mesh-tile-curves (now (bottom .entry)) (now (right .entry)) (now (top .entry)) (now (left .entry)) «n_u» «n_v» (now (points .entry)) (now (cells .entry)) .cells ⌝ }
 {
     let made = mesh::tile::mesh_tile_curves(bottom, right, top, left, n_u, n_v, points, cells);
-    tell_grid(made, answer)
+    store_grid(made, answer)
 }
 
 #[no_mangle]
@@ -239,11 +239,11 @@ pub extern "C" fn juplatsk_coons_checked(
     answer: &mut [u32; 3],
 ) -> u32
     ensures { λ r. ⌜ r ≡ coons-checked (now (boundary .entry)) «n_u» «n_v» (now (out .entry)) .verdict .number ⌝ }
-    ensures { λ _. ⌜ now (answer .exit) ≡ grid-told (coons-checked (now (boundary .entry)) «n_u» «n_v» (now (out .entry))) ⌝ }
+    ensures { λ _. ⌜ now (answer .exit) ≡ grid-stored (coons-checked (now (boundary .entry)) «n_u» «n_v» (now (out .entry))) ⌝ }
     ensures { λ _. ⌜ now (out .exit) ≡ coons-checked (now (boundary .entry)) «n_u» «n_v» (now (out .entry)) .out ⌝ }
 {
     let made = mesh::tile::coons_checked(boundary, n_u, n_v, out);
-    tell_grid(made, answer)
+    store_grid(made, answer)
 }
 
 #[no_mangle]
@@ -256,10 +256,10 @@ pub extern "C" fn juplatsk_mesh_tile(
     answer: &mut [u32; 3],
 ) -> u32
     ensures { λ r. ⌜ r ≡ mesh-tile (now (boundary .entry)) «n_u» «n_v» (now (points .entry)) (now (cells .entry)) .grid .verdict .number ⌝ }
-    ensures { λ _. ⌜ now (answer .exit) ≡ grid-told (mesh-tile (now (boundary .entry)) «n_u» «n_v» (now (points .entry)) (now (cells .entry)) .grid) ⌝ }
+    ensures { λ _. ⌜ now (answer .exit) ≡ grid-stored (mesh-tile (now (boundary .entry)) «n_u» «n_v» (now (points .entry)) (now (cells .entry)) .grid) ⌝ }
     ensures { λ _. ⌜ now (points .exit) ≡ mesh-tile (now (boundary .entry)) «n_u» «n_v» (now (points .entry)) (now (cells .entry)) .grid .out ⌝ }
     ensures { λ _. ⌜ now (cells .exit) ≡ mesh-tile (now (boundary .entry)) «n_u» «n_v» (now (points .entry)) (now (cells .entry)) .cells ⌝ }
 {
     let made = mesh::tile::mesh_tile(boundary, n_u, n_v, points, cells);
-    tell_grid(made, answer)
+    store_grid(made, answer)
 }

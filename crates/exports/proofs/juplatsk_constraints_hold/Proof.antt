@@ -7,12 +7,12 @@ use Rattle.exports.proofs.juplatsk_constraints_hold.Tie as tie
 constraints-hold-requires : tie.Need-constraints-hold-requires
 constraints-hold-requires c κs = search needs
 
-tell-hold-requires : tie.Need-tell-hold-requires
-tell-hold-requires c κs = search needs
+store-hold-requires : tie.Need-store-hold-requires
+store-hold-requires c κs = search needs
 
 returns : tie.Need-returns
-returns c = hold-exported (c .before .before .constraints-hold .result) (c .tell-hold .ensures) (c .before .before .constraints-hold .ensures)
+returns c = hold-exported (c .before .before .constraints-hold .result) (c .store-hold .ensures) (c .before .before .constraints-hold .ensures)
 
 pub juplatsk-constraints-hold-spec : {M : Type 1} → statement M
 juplatsk-constraints-hold-spec =
-    tie.close (tie.spec constraints-hold-requires tell-hold-requires returns)
+    tie.close (tie.spec constraints-hold-requires store-hold-requires returns)

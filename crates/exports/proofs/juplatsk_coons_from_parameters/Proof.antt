@@ -7,15 +7,15 @@ use Rattle.exports.proofs.juplatsk_coons_from_parameters.Tie as tie
 coons-from-parameters-requires : tie.Need-coons-from-parameters-requires
 coons-from-parameters-requires c κs = search needs
 
-tell-grid-requires : tie.Need-tell-grid-requires
-tell-grid-requires c κs = search needs
+store-grid-requires : tie.Need-store-grid-requires
+store-grid-requires c κs = search needs
 
 same-length : tie.Need-same-length
 same-length c = search needs
 
 returns : tie.Need-returns
-returns c = grid-exported (c .before .before .before .before .coons-from-parameters .result) (c .tell-grid .ensures) (c .before .before .before .before .coons-from-parameters .ensures)
+returns c = grid-exported (c .before .before .before .before .coons-from-parameters .result) (c .store-grid .ensures) (c .before .before .before .before .coons-from-parameters .ensures)
 
 pub juplatsk-coons-from-parameters-spec : {M : Type 1} → statement M
 juplatsk-coons-from-parameters-spec =
-    tie.close (tie.spec coons-from-parameters-requires tell-grid-requires same-length returns)
+    tie.close (tie.spec coons-from-parameters-requires store-grid-requires same-length returns)

@@ -7,11 +7,11 @@ use Rattle.exports.proofs.juplatsk_energy.Tie as tie
 energy-requires : tie.Need-energy-requires
 energy-requires c κs = search needs
 
-tell-energy-requires : tie.Need-tell-energy-requires
-tell-energy-requires c κs = search needs
+store-energy-requires : tie.Need-store-energy-requires
+store-energy-requires c κs = search needs
 
 returns : tie.Need-returns
-returns c = energy-exported (c .before .before .before .energy .result) (c .tell-energy .ensures) (c .before .before .before .energy .ensures)
+returns c = energy-exported (c .before .before .before .energy .result) (c .store-energy .ensures) (c .before .before .before .energy .ensures)
 
 pub juplatsk-energy-spec : {M : Type 1} → statement M
-juplatsk-energy-spec = tie.close (tie.spec energy-requires tell-energy-requires returns)
+juplatsk-energy-spec = tie.close (tie.spec energy-requires store-energy-requires returns)

@@ -7,11 +7,11 @@ use Rattle.exports.proofs.juplatsk_root.Tie as tie
 root-requires : tie.Need-root-requires
 root-requires c κs = search needs
 
-tell-root-requires : tie.Need-tell-root-requires
-tell-root-requires c κs = search needs
+store-root-requires : tie.Need-store-root-requires
+store-root-requires c κs = search needs
 
 returns : tie.Need-returns
-returns c = root-exported (c .before .before .root .result) (c .tell-root .ensures) (c .before .before .root .ensures)
+returns c = root-exported (c .before .before .root .result) (c .store-root .ensures) (c .before .before .root .ensures)
 
 pub juplatsk-root-spec : {M : Type 1} → statement M
-juplatsk-root-spec = tie.close (tie.spec root-requires tell-root-requires returns)
+juplatsk-root-spec = tie.close (tie.spec root-requires store-root-requires returns)

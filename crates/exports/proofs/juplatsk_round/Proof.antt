@@ -7,14 +7,14 @@ use Rattle.exports.proofs.juplatsk_round.Tie as tie
 round-requires : tie.Need-round-requires
 round-requires c κs = search needs
 
-tell-round-requires : tie.Need-tell-round-requires
-tell-round-requires c κs = search needs
+store-round-requires : tie.Need-store-round-requires
+store-round-requires c κs = search needs
 
 same-length : tie.Need-same-length
 same-length c = search needs
 
 returns : tie.Need-returns
-returns c = round-exported (c .before .before .before .before .before .round .result) (c .tell-round .ensures) (c .before .before .before .before .before .round .ensures)
+returns c = round-exported (c .before .before .before .before .before .round .result) (c .store-round .ensures) (c .before .before .before .before .before .round .ensures)
 
 pub juplatsk-round-spec : {M : Type 1} → statement M
-juplatsk-round-spec = tie.close (tie.spec round-requires tell-round-requires same-length returns)
+juplatsk-round-spec = tie.close (tie.spec round-requires store-round-requires same-length returns)

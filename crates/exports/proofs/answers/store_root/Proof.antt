@@ -1,8 +1,8 @@
--- `tell_root` meets its contract: in each arm the answer equals the pattern. Assumes nothing.
+-- `store_root` meets its contract: in each arm the answer equals the pattern. Assumes nothing.
 use Rattle.exports.proofs.Laws.{root-accepted, root-refused}
 use borrow.Author.Needs.{needs}
-use Rattle.exports.proofs.telling.tell_root.Statement.{statement}
-use Rattle.exports.proofs.telling.tell_root.Tie as tie
+use Rattle.exports.proofs.answers.store_root.Statement.{statement}
+use Rattle.exports.proofs.answers.store_root.Tie as tie
 
 enum-known-taken : tie.Need-enum-known-taken
 enum-known-taken c = search needs
@@ -19,6 +19,6 @@ returns c = root-accepted (c .before .before .taken .given .1)
 returns-2 : tie.Need-returns-2
 returns-2 c = root-refused (c .before .before .before .taken2 .given .1) (c .verdict-of .ensures)
 
-pub tell-root-spec : {M : Type 1} → statement M
-tell-root-spec =
+pub store-root-spec : {M : Type 1} → statement M
+store-root-spec =
     tie.close (tie.spec enum-known-taken enum-known-taken-2 verdict-of-requires returns returns-2)
