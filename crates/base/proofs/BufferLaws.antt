@@ -1,4 +1,4 @@
--- Laws of `tab`, `cat` and `splice`: a list by its index function, and a buffer that is written from some index on. Assumes nothing.
+-- Laws of `tabulate`, `concat-tabulate` and `splice`: a list by its index function, and a buffer that is written from some index on. Assumes nothing.
 use mathlib.Core.Path.{_≡_, refl, sym, ap, _∙_}
 use mathlib.Core.List.{List, [], _∷_, _++_, append-assoc, append-nil}
 use Prim.Native.Nat.{ℕ, zero, suc, _+_, _-_, _*_, _<_, _≤_}
@@ -7,80 +7,80 @@ use native.Mathlib.Numerals.{add-one}
 use native.Mathlib.Omega.{arith}
 use lib.ListN.{length, getD, set, take, drop, length-append, length-drop, take-append-drop, List·getD-append}
 use lib.Seq.{drop-cons, set-at, append-snoc, set-split, length-take-le, take-at, drop-at, drop-drop, take-add, take-append-seam, drop-append-seam, getD-append-add, getD-drop}
-use Rattle.base.specs.Buffers.{tab, cat, splice}
+use Rattle.base.specs.Buffers.{tabulate, concat-tabulate, splice}
 
 module _ {A : Type 0} where
-  -- ---- tab
+  -- ---- tabulate
 
-  pub length-tab : (f : ℕ → A) (k n : ℕ) → length (tab f k n) ≡ n
-  length-tab f k zero = refl
-  length-tab f k (suc n) = ap suc (length-tab f (suc k) n)
+  pub length-tabulate : (f : ℕ → A) (k n : ℕ) → length (tabulate f k n) ≡ n
+  length-tabulate f k zero = refl
+  length-tabulate f k (suc n) = ap suc (length-tabulate f (suc k) n)
 
-  tab-snoc : (f : ℕ → A) (k n : ℕ) → tab f k (suc n) ≡ tab f k n ++ (f (k + n) ∷ [])
-  tab-snoc f k zero = ap (λ (j : ℕ). f j ∷ []) (sym (add-zero k))
-  tab-snoc f k (suc n) = ap (λ (r : List A). f k ∷ r) (tab-snoc f (suc k) n ∙ ap (λ (j : ℕ). tab f (suc k) n ++ (f j ∷ [])) (suc-add k n ∙ sym (add-suc k n)))
-
-  -- one more at the end, as a loop's counter has it
-  pub tab-more : (f : ℕ → A) (n : ℕ) → tab f 0 (n + 1) ≡ tab f 0 n ++ (f n ∷ [])
-  tab-more f n = rw (add-one, tab-snoc f 0 n, zero-add n)
-
-  -- ---- cat
-
-  cat-snoc : (f : ℕ → List A) (k n : ℕ) → cat f k (suc n) ≡ cat f k n ++ f (k + n)
-  cat-snoc f k zero = append-nil (f k) ∙ ap f (sym (add-zero k))
-  cat-snoc f k (suc n) =
-      ap (λ (r : List A). f k ++ r) (cat-snoc f (suc k) n ∙ ap (λ (j : ℕ). cat f (suc k) n ++ f j) (suc-add k n ∙ sym (add-suc k n)))
-      ∙ sym (append-assoc (f k) (cat f (suc k) n) (f (k + suc n)))
+  tabulate-snoc : (f : ℕ → A) (k n : ℕ) → tabulate f k (suc n) ≡ tabulate f k n ++ (f (k + n) ∷ [])
+  tabulate-snoc f k zero = ap (λ (j : ℕ). f j ∷ []) (sym (add-zero k))
+  tabulate-snoc f k (suc n) = ap (λ (r : List A). f k ∷ r) (tabulate-snoc f (suc k) n ∙ ap (λ (j : ℕ). tabulate f (suc k) n ++ (f j ∷ [])) (suc-add k n ∙ sym (add-suc k n)))
 
   -- one more at the end, as a loop's counter has it
-  pub cat-more : (f : ℕ → List A) (n : ℕ) → cat f 0 (n + 1) ≡ cat f 0 n ++ f n
-  cat-more f n = rw (add-one, cat-snoc f 0 n, zero-add n)
+  pub tabulate-more : (f : ℕ → A) (n : ℕ) → tabulate f 0 (n + 1) ≡ tabulate f 0 n ++ (f n ∷ [])
+  tabulate-more f n = rw (add-one, tabulate-snoc f 0 n, zero-add n)
+
+  -- ---- concat-tabulate
+
+  concat-snoc : (f : ℕ → List A) (k n : ℕ) → concat-tabulate f k (suc n) ≡ concat-tabulate f k n ++ f (k + n)
+  concat-snoc f k zero = append-nil (f k) ∙ ap f (sym (add-zero k))
+  concat-snoc f k (suc n) =
+      ap (λ (r : List A). f k ++ r) (concat-snoc f (suc k) n ∙ ap (λ (j : ℕ). concat-tabulate f (suc k) n ++ f j) (suc-add k n ∙ sym (add-suc k n)))
+      ∙ sym (append-assoc (f k) (concat-tabulate f (suc k) n) (f (k + suc n)))
+
+  -- one more at the end, as a loop's counter has it
+  pub concat-more : (f : ℕ → List A) (n : ℕ) → concat-tabulate f 0 (n + 1) ≡ concat-tabulate f 0 n ++ f n
+  concat-more f n = rw (add-one, concat-snoc f 0 n, zero-add n)
 
   -- parts of one length
-  pub length-cat : (f : ℕ → List A) (w k n : ℕ) → ((i : ℕ) → k ≤ i → length (f i) ≡ w) → length (cat f k n) ≡ n * w
-  length-cat f w k zero h = sym (zero-mul w)
-  length-cat f w k (suc n) h =
-      length-append (f k) (cat f (suc k) n)
-      ∙ ap (λ (x : ℕ). x + length (cat f (suc k) n)) (h k (omega arith))
-      ∙ ap (λ (x : ℕ). w + x) (length-cat f w (suc k) n (λ i l. h i (omega arith)))
+  pub length-concat : (f : ℕ → List A) (w k n : ℕ) → ((i : ℕ) → k ≤ i → length (f i) ≡ w) → length (concat-tabulate f k n) ≡ n * w
+  length-concat f w k zero h = sym (zero-mul w)
+  length-concat f w k (suc n) h =
+      length-append (f k) (concat-tabulate f (suc k) n)
+      ∙ ap (λ (x : ℕ). x + length (concat-tabulate f (suc k) n)) (h k (omega arith))
+      ∙ ap (λ (x : ℕ). w + x) (length-concat f w (suc k) n (λ i l. h i (omega arith)))
       ∙ add-comm w (n * w)
       ∙ sym (suc-mul n w)
 
-  pub length-cat-more : (f : ℕ → List A) (n : ℕ) → length (cat f 0 (n + 1)) ≡ length (cat f 0 n) + length (f n)
-  length-cat-more f n = ap length (cat-more f n) ∙ length-append (cat f 0 n) (f n)
+  pub length-concat-more : (f : ℕ → List A) (n : ℕ) → length (concat-tabulate f 0 (n + 1)) ≡ length (concat-tabulate f 0 n) + length (f n)
+  length-concat-more f n = ap length (concat-more f n) ∙ length-append (concat-tabulate f 0 n) (f n)
 
-  pub cat-same : (f g : ℕ → List A) (k n : ℕ) → ((i : ℕ) → i < k + n → f i ≡ g i) → cat f k n ≡ cat g k n
-  cat-same f g k zero h = refl
-  cat-same f g k (suc n) h = ap (λ (r : List A). r ++ cat f (suc k) n) (h k (omega arith)) ∙ ap (λ (r : List A). g k ++ r) (cat-same f g (suc k) n (λ i l. h i (omega arith)))
+  pub concat-same : (f g : ℕ → List A) (k n : ℕ) → ((i : ℕ) → i < k + n → f i ≡ g i) → concat-tabulate f k n ≡ concat-tabulate g k n
+  concat-same f g k zero h = refl
+  concat-same f g k (suc n) h = ap (λ (r : List A). r ++ concat-tabulate f (suc k) n) (h k (omega arith)) ∙ ap (λ (r : List A). g k ++ r) (concat-same f g (suc k) n (λ i l. h i (omega arith)))
 
   -- the value r of the part i, of parts of one length
-  pub getD-cat : (f : ℕ → List A) (w k n i r : ℕ) (z : A) → ((j : ℕ) → length (f j) ≡ w) → i < n → r < w → getD (cat f k n) (w * i + r) z ≡ getD (f (k + i)) r z
-  getD-cat f w k zero i r z h l q = absurd (not-suc-le-zero l)
-  getD-cat f w k (suc n) zero r z h l q =
+  pub getD-concat : (f : ℕ → List A) (w k n i r : ℕ) (z : A) → ((j : ℕ) → length (f j) ≡ w) → i < n → r < w → getD (concat-tabulate f k n) (w * i + r) z ≡ getD (f (k + i)) r z
+  getD-concat f w k zero i r z h l q = absurd (not-suc-le-zero l)
+  getD-concat f w k (suc n) zero r z h l q =
       let g = h k in
-      ap (λ (x : ℕ). getD (f k ++ cat f (suc k) n) x z) (ap (λ (x : ℕ). x + r) (mul-zero w) ∙ zero-add r)
-      ∙ List·getD-append (f k) (cat f (suc k) n) z r (omega arith)
+      ap (λ (x : ℕ). getD (f k ++ concat-tabulate f (suc k) n) x z) (ap (λ (x : ℕ). x + r) (mul-zero w) ∙ zero-add r)
+      ∙ List·getD-append (f k) (concat-tabulate f (suc k) n) z r (omega arith)
       ∙ ap (λ (x : ℕ). getD (f x) r z) (sym (add-zero k))
-  getD-cat f w k (suc n) (suc i) r z h l q =
+  getD-concat f w k (suc n) (suc i) r z h l q =
       let g = h k in
       let m = mul-suc w i in
       let e : w * suc i + r ≡ length (f k) + (w * i + r) = omega arith in
-      ap (λ (x : ℕ). getD (f k ++ cat f (suc k) n) x z) e
-      ∙ getD-append-add (f k) (cat f (suc k) n) (w * i + r) z
-      ∙ getD-cat f w (suc k) n i r z h (le-of-suc-le-suc l) q
+      ap (λ (x : ℕ). getD (f k ++ concat-tabulate f (suc k) n) x z) e
+      ∙ getD-append-add (f k) (concat-tabulate f (suc k) n) (w * i + r) z
+      ∙ getD-concat f w (suc k) n i r z h (le-of-suc-le-suc l) q
       ∙ ap (λ (x : ℕ). getD (f x) r z) (suc-add k i ∙ sym (add-suc k i))
 
-  cat-add : (f : ℕ → List A) (k n m : ℕ) → cat f k (n + m) ≡ cat f k n ++ cat f (k + n) m
-  cat-add f k zero m = ap (cat f k) (zero-add m) ∙ ap (λ (j : ℕ). cat f j m) (sym (add-zero k))
-  cat-add f k (suc n) m =
-      ap (cat f k) (suc-add n m)
-      ∙ ap (λ (r : List A). f k ++ r) (cat-add f (suc k) n m ∙ ap (λ (j : ℕ). cat f (suc k) n ++ cat f j m) (suc-add k n ∙ sym (add-suc k n)))
-      ∙ sym (append-assoc (f k) (cat f (suc k) n) (cat f (k + suc n) m))
+  concat-add : (f : ℕ → List A) (k n m : ℕ) → concat-tabulate f k (n + m) ≡ concat-tabulate f k n ++ concat-tabulate f (k + n) m
+  concat-add f k zero m = ap (concat-tabulate f k) (zero-add m) ∙ ap (λ (j : ℕ). concat-tabulate f j m) (sym (add-zero k))
+  concat-add f k (suc n) m =
+      ap (concat-tabulate f k) (suc-add n m)
+      ∙ ap (λ (r : List A). f k ++ r) (concat-add f (suc k) n m ∙ ap (λ (j : ℕ). concat-tabulate f (suc k) n ++ concat-tabulate f j m) (suc-add k n ∙ sym (add-suc k n)))
+      ∙ sym (append-assoc (f k) (concat-tabulate f (suc k) n) (concat-tabulate f (k + suc n) m))
 
-  pub cat-grows : (f : ℕ → List A) (i k : ℕ) → i ≤ k → length (cat f 0 i) ≤ length (cat f 0 k)
-  cat-grows f i k h =
+  pub concat-grows : (f : ℕ → List A) (i k : ℕ) → i ≤ k → length (concat-tabulate f 0 i) ≤ length (concat-tabulate f 0 k)
+  concat-grows f i k h =
       let e : k ≡ i + (k - i) = omega arith in
-      let g : length (cat f 0 k) ≡ length (cat f 0 i) + length (cat f (0 + i) (k - i)) = ap (λ (n : ℕ). length (cat f 0 n)) e ∙ ap length (cat-add f 0 i (k - i)) ∙ length-append (cat f 0 i) (cat f (0 + i) (k - i)) in
+      let g : length (concat-tabulate f 0 k) ≡ length (concat-tabulate f 0 i) + length (concat-tabulate f (0 + i) (k - i)) = ap (λ (n : ℕ). length (concat-tabulate f 0 n)) e ∙ ap length (concat-add f 0 i (k - i)) ∙ length-append (concat-tabulate f 0 i) (concat-tabulate f (0 + i) (k - i)) in
       omega arith
 
   -- ---- splice
@@ -109,12 +109,12 @@ module _ {A : Type 0} where
 
   -- a turn of a loop that writes f 0, f 1, .. from an index on
   pub fill-step : (d : List A) (from : ℕ) (f : ℕ → A) (out : List A) (j k : ℕ) (v : A)
-      → out ≡ splice d from (tab f 0 j) → k ≡ from + j → k < length d → v ≡ f j → set out k v ≡ splice d from (tab f 0 (j + 1))
+      → out ≡ splice d from (tabulate f 0 j) → k ≡ from + j → k < length d → v ≡ f j → set out k v ≡ splice d from (tabulate f 0 (j + 1))
   fill-step d from f out j k v o e h w =
       ap (λ (l : List A). set l k v) o
-      ∙ splice-snoc d from (tab f 0 j) v k (e ∙ ap (λ (n : ℕ). from + n) (sym (length-tab f 0 j))) h
-      ∙ ap (λ (x : A). splice d from (tab f 0 j ++ (x ∷ []))) w
-      ∙ ap (splice d from) (sym (tab-more f j))
+      ∙ splice-snoc d from (tabulate f 0 j) v k (e ∙ ap (λ (n : ℕ). from + n) (sym (length-tabulate f 0 j))) h
+      ∙ ap (λ (x : A). splice d from (tabulate f 0 j ++ (x ∷ []))) w
+      ∙ ap (splice d from) (sym (tabulate-more f j))
 
   -- a second part just past the first
   splice-next : (d : List A) (from : ℕ) (vs ws : List A) (i : ℕ) → i ≡ from + length vs → i ≤ length d → splice (splice d from vs) i ws ≡ splice d from (vs ++ ws)
@@ -128,21 +128,21 @@ module _ {A : Type 0} where
       ∙ ap (λ (k : ℕ). take from d ++ (vs ++ ws) ++ drop k d) (add-assoc from (length vs) (length ws) ∙ ap (λ (k : ℕ). from + k) (sym (length-append vs ws)))
 
   -- a turn of a loop that writes the parts f 0, f 1, .. one after the other
-  pub cat-step : (d : List A) (from : ℕ) (f : ℕ → List A) (out : List A) (j k : ℕ) (next : List A)
-      → out ≡ splice d from (cat f 0 j) → k ≡ from + length (cat f 0 j) → k ≤ length d → next ≡ splice out k (f j) → next ≡ splice d from (cat f 0 (j + 1))
-  cat-step d from f out j k next o e h w =
-      w ∙ ap (λ (l : List A). splice l k (f j)) o ∙ splice-next d from (cat f 0 j) (f j) k e h ∙ ap (splice d from) (sym (cat-more f j))
+  pub concat-step : (d : List A) (from : ℕ) (f : ℕ → List A) (out : List A) (j k : ℕ) (next : List A)
+      → out ≡ splice d from (concat-tabulate f 0 j) → k ≡ from + length (concat-tabulate f 0 j) → k ≤ length d → next ≡ splice out k (f j) → next ≡ splice d from (concat-tabulate f 0 (j + 1))
+  concat-step d from f out j k next o e h w =
+      w ∙ ap (λ (l : List A). splice l k (f j)) o ∙ splice-next d from (concat-tabulate f 0 j) (f j) k e h ∙ ap (splice d from) (sym (concat-more f j))
 
   -- two stores are a part of two values
   pub pair-step : (d : List A) (f : ℕ → List A) (out : List A) (i k : ℕ) (x y : A)
-      → ((j : ℕ) → length (f j) ≡ 2) → out ≡ splice d 0 (cat f 0 i) → k ≡ 2 * i → k + 2 ≤ length d → x ∷ y ∷ [] ≡ f i → set (set out k x) (k + 1) y ≡ splice d 0 (cat f 0 (i + 1))
+      → ((j : ℕ) → length (f j) ≡ 2) → out ≡ splice d 0 (concat-tabulate f 0 i) → k ≡ 2 * i → k + 2 ≤ length d → x ∷ y ∷ [] ≡ f i → set (set out k x) (k + 1) y ≡ splice d 0 (concat-tabulate f 0 (i + 1))
   pair-step d f out i k x y w o e h q =
-      let vs : List A = cat f 0 i in
-      let l : length vs ≡ i * 2 = length-cat f 2 0 i (λ j l. w j) in
+      let vs : List A = concat-tabulate f 0 i in
+      let l : length vs ≡ i * 2 = length-concat f 2 0 i (λ j l. w j) in
       let s = store-next d 0 vs out k x o (omega arith) (omega arith) in
       let m : k + 1 ≡ 0 + length (vs ++ (x ∷ [])) = simp length-append (omega arith) in
       store-next d 0 (vs ++ (x ∷ [])) (set out k x) (k + 1) y s m (omega arith)
-      ∙ ap (splice d 0) (append-assoc vs (x ∷ []) (y ∷ []) ∙ ap (λ (r : List A). vs ++ r) q ∙ sym (cat-more f i))
+      ∙ ap (splice d 0) (append-assoc vs (x ∷ []) (y ∷ []) ∙ ap (λ (r : List A). vs ++ r) q ∙ sym (concat-more f i))
 
   -- what was written is written over by a part that is as long or longer
   pub splice-over : (d : List A) (from : ℕ) (vs ws : List A) → length vs ≤ length ws → from + length ws ≤ length d → splice (splice d from vs) from ws ≡ splice d from ws

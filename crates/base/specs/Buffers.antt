@@ -5,14 +5,14 @@ use lib.ListN.{length, take, drop}
 
 module _ {A : Type 0} where
   -- f k, f (k + 1), ..: n of them
-  abbrev pub tab : (ℕ → A) → ℕ → ℕ → List A
-  tab f k zero = []
-  tab f k (suc n) = f k ∷ tab f (suc k) n
+  abbrev pub tabulate : (ℕ → A) → ℕ → ℕ → List A
+  tabulate f k zero = []
+  tabulate f k (suc n) = f k ∷ tabulate f (suc k) n
 
   -- f k ++ f (k + 1) ++ ..: n of them
-  abbrev pub cat : (ℕ → List A) → ℕ → ℕ → List A
-  cat f k zero = []
-  cat f k (suc n) = f k ++ cat f (suc k) n
+  abbrev pub concat-tabulate : (ℕ → List A) → ℕ → ℕ → List A
+  concat-tabulate f k zero = []
+  concat-tabulate f k (suc n) = f k ++ concat-tabulate f (suc k) n
 
   -- d with the values from the index `from` on replaced by vs
   abbrev pub splice : List A → ℕ → List A → List A

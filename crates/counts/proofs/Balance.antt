@@ -10,7 +10,7 @@ use lib.Seq.{getD-set-same, getD-set-other}
 use lib.Dec.{T, leb, ltb, eqb, eqb→eq, not-T, ltb→lt}
 use lib.Ieee.Fits.{and-i, and-l, and-r}
 use Rattle.base.specs.Lists.{member, Distinct, In}
-use Rattle.counts.specs.Move.{Change, select, edges, balances, Settled, allowed, changed, apply-changes, UnitMove}
+use Rattle.counts.specs.Move.{Change, select, edges, balances, Settled, is-allowed, changed, apply-changes, UnitMove}
 use Rattle.counts.specs.Region.{Constraint, constraint, holds, side-sum}
 use Rattle.base.proofs.BoolLaws.{T-or-not, clash, eq→eqb, or-left, or-right}
 use Rattle.base.proofs.ListLaws.{in→member, every-in}
@@ -59,7 +59,7 @@ total-set-in counts e v (x ∷ l) b t d = elim (T-or-not (eqb e x)) [
     rest false c q t = t
 
 -- ---- the changes one after the other
-one-try-step : (counts : List ℕ) (z : Change) (l : List ℕ) → z .0 < length counts → T (allowed counts (z .0) (z .1)) → Distinct l
+one-try-step : (counts : List ℕ) (z : Change) (l : List ℕ) → z .0 < length counts → T (is-allowed counts (z .0) (z .1)) → Distinct l
     → side-sum (set counts (z .0) (changed (z .1) (getD counts (z .0) 0))) l + one-if (downs l z) ≡ side-sum counts l + one-if (ups l z)
 one-try-step counts z l b c d = go (member (z .0) l) (z .1) (λ t v. total-set-in counts (z .0) v l b t d) (λ t v. total-set-out counts (z .0) v l t) c
   where
@@ -70,7 +70,7 @@ one-try-step counts z l b c d = go (member (z .0) l) (z .1) (λ t v. total-set-i
     go false true f h k = let p = h tt (suc (getD counts (z .0) 0)) in omega arith
     go false false f h k = let p = h tt (getD counts (z .0) 0 - 1) in omega arith
 
-pub total-apply : (r : List Change) (counts : List ℕ) (l : List ℕ) → Distinct l → Distinct (edges r) → ((z : Change) → In z r → z .0 < length counts) → ((z : Change) → In z r → T (allowed counts (z .0) (z .1)))
+pub total-apply : (r : List Change) (counts : List ℕ) (l : List ℕ) → Distinct l → Distinct (edges r) → ((z : Change) → In z r → z .0 < length counts) → ((z : Change) → In z r → T (is-allowed counts (z .0) (z .1)))
     → side-sum (apply-changes r counts) l + cnt (downs l) r ≡ side-sum counts l + cnt (ups l) r
 total-apply [] counts l d e b c = refl
 total-apply (z ∷ r) counts l d e b c =
@@ -155,7 +155,7 @@ pub move-balance : (g : List Constraint) (counts : List ℕ) (r : List Change) �
     → side-sum (apply-changes r counts) (constraint g i .a) + side-sum counts (constraint g i .b) ≡ side-sum (apply-changes r counts) (constraint g i .b) + side-sum counts (constraint g i .a)
 move-balance g counts r m i da db o =
     let there : (z : Change) → In z r → z .0 < length counts = λ z k. ltb→lt (z .0) (length counts) (every-in (λ (z : Change). ltb (z .0) (length counts)) r (m .there) z k) in
-    let down : (z : Change) → In z r → T (allowed counts (z .0) (z .1)) = every-in (λ (z : Change). allowed counts (z .0) (z .1)) r (m .down) in
+    let down : (z : Change) → In z r → T (is-allowed counts (z .0) (z .1)) = every-in (λ (z : Change). is-allowed counts (z .0) (z .1)) r (m .down) in
     let e = even-change (constraint g i) r o (m .two i) in
     let p = total-apply r counts (constraint g i .a) da (m .distinct) there down in
     let q = total-apply r counts (constraint g i .b) db (m .distinct) there down in

@@ -10,12 +10,12 @@ use lib.Seq.{getD-set-same, getD-set-other}
 use lib.Dec.{T, ltb, eqb, not-T, ltb→lt}
 use Rattle.base.specs.Lists.{In, member, Distinct}
 use Rattle.counts.specs.Region.{Constraint}
-use Rattle.counts.specs.Move.{Change, edges, allowed, changed, apply-changes, UnitMove, Makes}
+use Rattle.counts.specs.Move.{Change, edges, is-allowed, changed, apply-changes, UnitMove, Makes}
 use Rattle.base.proofs.BoolLaws.{clash, or-left, or-right, eq→eqb}
 use Rattle.base.proofs.ListLaws.{in→member, every-in}
 use Rattle.counts.proofs.MoveLaws.{edges-in}
 
-makes-cons : (z : Change) (r : List Change) (counts : List ℕ) → Distinct (edges (z ∷ r)) → z .0 < length counts → T (allowed counts (z .0) (z .1))
+makes-cons : (z : Change) (r : List Change) (counts : List ℕ) → Distinct (edges (z ∷ r)) → z .0 < length counts → T (is-allowed counts (z .0) (z .1))
     → Makes (set counts (z .0) (changed (z .1) (getD counts (z .0) 0))) r (apply-changes r (set counts (z .0) (changed (z .1) (getD counts (z .0) 0)))) → Makes counts (z ∷ r) (apply-changes (z ∷ r) counts)
 makes-cons z r counts d b c ih =
     record {
@@ -44,9 +44,9 @@ makes-cons z r counts d b c ih =
     down x q =
         subst (λ (k : Change). suc (getD (set counts (k .0) (changed (k .1) (getD counts (k .0) 0))) x 0) ≡ getD counts x 0) q
         (let e = getD-set-same counts x (getD counts x 0 - 1) 0 (subst (λ (k : Change). k .0 < length counts) (sym q) b) in
-        let v = ltb→lt 0 (getD counts x 0) (subst (λ (k : Change). T (allowed counts (k .0) (k .1))) (sym q) c) in omega arith)
+        let v = ltb→lt 0 (getD counts x 0) (subst (λ (k : Change). T (is-allowed counts (k .0) (k .1))) (sym q) c) in omega arith)
 
-pub makes-apply : (r : List Change) (counts : List ℕ) → Distinct (edges r) → ((z : Change) → In z r → z .0 < length counts) → ((z : Change) → In z r → T (allowed counts (z .0) (z .1))) → Makes counts r (apply-changes r counts)
+pub makes-apply : (r : List Change) (counts : List ℕ) → Distinct (edges r) → ((z : Change) → In z r → z .0 < length counts) → ((z : Change) → In z r → T (is-allowed counts (z .0) (z .1))) → Makes counts r (apply-changes r counts)
 makes-apply [] counts d b c = record { same-length = refl; plus = λ x i. absurd i; minus = λ x i. absurd i; other = λ x t. refl }
 makes-apply (z ∷ r) counts d b c =
     makes-cons z r counts d (b z (inl refl)) (c z (inl refl))
@@ -57,7 +57,7 @@ makes-apply (z ∷ r) counts d b c =
 
 pub makes-move : (g : List Constraint) (counts : List ℕ) (r : List Change) → UnitMove g counts r → Makes counts r (apply-changes r counts)
 makes-move g counts r m =
-    makes-apply r counts (m .distinct) (λ z i. ltb→lt (z .0) (length counts) (every-in (λ (w : Change). ltb (w .0) (length counts)) r (m .there) z i)) (every-in (λ (w : Change). allowed counts (w .0) (w .1)) r (m .down))
+    makes-apply r counts (m .distinct) (λ z i. ltb→lt (z .0) (length counts) (every-in (λ (w : Change). ltb (w .0) (length counts)) r (m .there) z i)) (every-in (λ (w : Change). is-allowed counts (w .0) (w .1)) r (m .down))
 
 -- a move changes a count
 pub move-differs : (counts : List ℕ) (r : List Change) → 0 < length r → Makes counts r (apply-changes r counts) → apply-changes r counts ≡ counts → ⊥

@@ -21,7 +21,7 @@ use Rattle.counts.specs.Search.{eps, two-eps}
 use Rattle.counts.specs.Round.{Found, find-move}
 use Rattle.counts.specs.Accept.{accepted}
 use Rattle.counts.specs.Solver.{Round, round-made, round-by, round-refused, round-with, round, round-test}
-use Rattle.counts.specs.Demand.{left, left-by-all, Told, Told-all, Demand, Ask, asked, asked-costs, sum-of}
+use Rattle.counts.specs.Demand.{left, left-by-all, RoundClaim, RoundClaims, Demand, Request, answer-to, request-costs, sum-of}
 use Rattle.counts.proofs.check.Accepted.{Accepted, accepted-ok}
 use Rattle.counts.proofs.Balance.{move-balance}
 use Rattle.base.proofs.BoolLaws.{by-cases}
@@ -116,65 +116,65 @@ round-is p verdict costs regions counts limit = go (is-passed verdict) refl
 
 -- ---- lists of rounds of any kind, whose tests, edge costs and limit are given
 
-module _ {Ask : Type 0} (regions : List ℕ) (answer : Ask → List ℕ → Round) (costs : Ask → CostModel) (test : Ask → List ℕ → Verdict) (limit : Ask → ℕ)
-    (is : (ask : Ask) (counts : List ℕ) → answer ask counts ≡ round-with places (test ask counts) (costs ask) regions counts (limit ask)) where
+module _ {Request : Type 0} (regions : List ℕ) (answer : Request → List ℕ → Round) (costs : Request → CostModel) (test : Request → List ℕ → Verdict) (limit : Request → ℕ)
+    (is : (request : Request) (counts : List ℕ) → answer request counts ≡ round-with places (test request counts) (costs request) regions counts (limit request)) where
   abbrev g : List Constraint
   g = graph places regions
 
-  its : (ask : Ask) (counts : List ℕ) → RoundIs (test ask counts) (find-move g (costs ask) counts (limit ask)) counts (answer ask counts)
-  its ask counts =
-      subst (λ (out : Round). RoundIs (test ask counts) (find-move g (costs ask) counts (limit ask)) counts out) (sym (is ask counts))
-      (round-is places (test ask counts) (costs ask) regions counts (limit ask))
+  its : (request : Request) (counts : List ℕ) → RoundIs (test request counts) (find-move g (costs request) counts (limit request)) counts (answer request counts)
+  its request counts =
+      subst (λ (out : Round). RoundIs (test request counts) (find-move g (costs request) counts (limit request)) counts out) (sym (is request counts))
+      (round-is places (test request counts) (costs request) regions counts (limit request))
 
-  pub steady-round : (counts : List ℕ) (ask : Ask) → Accepted (length counts) g → Steady g counts (answer ask counts .counts)
-  steady-round counts ask ok =
-      by-cases (is-passed (test ask counts))
-      (λ t. subst (λ (l : List ℕ). Steady g counts l) (sym (its ask counts .applied t))
-      (steady-found g counts ok (costs ask) (limit ask) (find-move g (costs ask) counts (limit ask)) (found g counts ok (costs ask) (limit ask))))
-      (λ t. subst (λ (l : List ℕ). Steady g counts l) (sym (its ask counts .untouched t)) (steady-same g counts))
+  pub steady-round : (counts : List ℕ) (request : Request) → Accepted (length counts) g → Steady g counts (answer request counts .counts)
+  steady-round counts request ok =
+      by-cases (is-passed (test request counts))
+      (λ t. subst (λ (l : List ℕ). Steady g counts l) (sym (its request counts .applied t))
+      (steady-found g counts ok (costs request) (limit request) (find-move g (costs request) counts (limit request)) (found g counts ok (costs request) (limit request))))
+      (λ t. subst (λ (l : List ℕ). Steady g counts l) (sym (its request counts .untouched t)) (steady-same g counts))
 
-  told : (counts : List ℕ) (ask : Ask) → Accepted (length counts) g → Told regions answer costs counts ask
-  told counts ask ok =
+  told : (counts : List ℕ) (request : Request) → Accepted (length counts) g → RoundClaim regions answer costs counts request
+  told counts request ok =
       record {
         changed = λ n.
-            by-cases (is-passed (test ask counts)) (λ t. moved t (found g counts ok (costs ask) (limit ask)) n) (λ t. absurd (n (its ask counts .untouched t)));
-        idle = λ t e c. still (subst T (its ask counts .accepted-as) t) (found g counts ok (costs ask) (limit ask)) e c;
+            by-cases (is-passed (test request counts)) (λ t. moved t (found g counts ok (costs request) (limit request)) n) (λ t. absurd (n (its request counts .untouched t)));
+        idle = λ t e c. still (subst T (its request counts .accepted-as) t) (found g counts ok (costs request) (limit request)) e c;
       }
     where
       b : Found
-      b = find-move g (costs ask) counts (limit ask)
+      b = find-move g (costs request) counts (limit request)
 
-      moved : T (is-passed (test ask counts)) → Finds g counts ok (costs ask) (limit ask) b → left regions answer costs counts ask ≢ counts
-          → (r : List Change) × Reading g counts r × T (lt (cost (costs ask counts) r) (neg eps)) × Makes counts r (left regions answer costs counts ask)
-      moved t (none k e) n = absurd (n (its ask counts .applied t ∙ ap (λ (l : List Change). apply-changes l counts) e))
+      moved : T (is-passed (test request counts)) → Finds g counts ok (costs request) (limit request) b → left regions answer costs counts request ≢ counts
+          → (r : List Change) × Reading g counts r × T (lt (cost (costs request counts) r) (neg eps)) × Makes counts r (left regions answer costs counts request)
+      moved t (none k e) n = absurd (n (its request counts .applied t ∙ ap (λ (l : List Change). apply-changes l counts) e))
       moved t (some r c l) n = (
         b .best,
         r,
         subst (λ (f : Float). T (lt f (neg eps))) (sym c) l,
-        subst (λ (m : List ℕ). Makes counts (b .best) m) (sym (its ask counts .applied t)) (makes-move g counts (b .best) (r .move)),
+        subst (λ (m : List ℕ). Makes counts (b .best) m) (sym (its request counts .applied t)) (makes-move g counts (b .best) (r .move)),
       )
 
-      still : T (is-passed (test ask counts)) → Finds g counts ok (costs ask) (limit ask) b → left regions answer costs counts ask ≡ counts
-          → T (not (answer ask counts .cut)) → (r : List Change) → Reading g counts r → T (lt (cost (costs ask counts) r) (neg two-eps)) → ⊥
-      still t (none k e') e c = nothing-left g counts ok (costs ask) (limit ask) (subst (λ (x : Bool). T (not x)) (its ask counts .cut-as t) c) e'
+      still : T (is-passed (test request counts)) → Finds g counts ok (costs request) (limit request) b → left regions answer costs counts request ≡ counts
+          → T (not (answer request counts .cut)) → (r : List Change) → Reading g counts r → T (lt (cost (costs request counts) r) (neg two-eps)) → ⊥
+      still t (none k e') e c = nothing-left g counts ok (costs request) (limit request) (subst (λ (x : Bool). T (not x)) (its request counts .cut-as t) c) e'
       still t (some r c' l) e c =
-          absurd (move-differs counts (b .best) (r .move .some) (makes-move g counts (b .best) (r .move)) (sym (its ask counts .applied t) ∙ e))
+          absurd (move-differs counts (b .best) (r .move .some) (makes-move g counts (b .best) (r .move)) (sym (its request counts .applied t) ∙ e))
 
   abbrev Ok : List ℕ → Type 0
   Ok counts = Accepted (length counts) g
 
-  ok-left : (counts : List ℕ) (ask : Ask) → Ok counts → Ok (answer ask counts .counts)
-  ok-left counts ask ok = subst (λ (n : ℕ). Accepted n g) (sym (steady-round counts ask ok .as-long)) ok
+  ok-left : (counts : List ℕ) (request : Request) → Ok counts → Ok (answer request counts .counts)
+  ok-left counts request ok = subst (λ (n : ℕ). Accepted n g) (sym (steady-round counts request ok .as-long)) ok
 
-  told-all : (asks : List Ask) (counts : List ℕ) → Ok counts → Told-all regions answer costs counts asks
+  told-all : (requests : List Request) (counts : List ℕ) → Ok counts → RoundClaims regions answer costs counts requests
   told-all [] counts ok = tt
-  told-all (ask ∷ asks) counts ok = (told counts ask ok, told-all asks (answer ask counts .counts) (ok-left counts ask ok))
+  told-all (request ∷ requests) counts ok = (told counts request ok, told-all requests (answer request counts .counts) (ok-left counts request ok))
 
-  pub steady-all : (asks : List Ask) (counts : List ℕ) → Ok counts → Steady g counts (left-by-all regions answer costs counts asks)
+  pub steady-all : (requests : List Request) (counts : List ℕ) → Ok counts → Steady g counts (left-by-all regions answer costs counts requests)
   steady-all [] counts ok = steady-same g counts
-  steady-all (ask ∷ asks) counts ok =
-      steady-then g counts (answer ask counts .counts) (left-by-all regions answer costs (answer ask counts .counts) asks) (steady-round counts ask ok)
-      (steady-all asks (answer ask counts .counts) (ok-left counts ask ok))
+  steady-all (request ∷ requests) counts ok =
+      steady-then g counts (answer request counts .counts) (left-by-all regions answer costs (answer request counts .counts) requests) (steady-round counts request ok)
+      (steady-all requests (answer request counts .counts) (ok-left counts request ok))
 
 -- ---- the constraints of region r
 
@@ -197,35 +197,35 @@ both-ways g before after s i c e =
 
 -- ---- the theorem
 
-module _ {Ask : Type 0} (regions : List ℕ) (answer : Ask → List ℕ → Round) (costs : Ask → CostModel) (test : Ask → List ℕ → Verdict) (limit : Ask → ℕ)
-    (is : (ask : Ask) (counts : List ℕ) → answer ask counts ≡ round-with places (test ask counts) (costs ask) regions counts (limit ask)) where
-  pub rounds-as-demanded : (counts : List ℕ) (asks : List Ask) → T (accepted places (length counts) regions) → Demand regions answer costs counts asks
-  rounds-as-demanded counts asks t =
+module _ {Request : Type 0} (regions : List ℕ) (answer : Request → List ℕ → Round) (costs : Request → CostModel) (test : Request → List ℕ → Verdict) (limit : Request → ℕ)
+    (is : (request : Request) (counts : List ℕ) → answer request counts ≡ round-with places (test request counts) (costs request) regions counts (limit request)) where
+  pub rounds-as-demanded : (counts : List ℕ) (requests : List Request) → T (accepted places (length counts) regions) → Demand regions answer costs counts requests
+  rounds-as-demanded counts requests t =
       record {
-        bottom-top = λ r h. both-ways (graph places regions) counts (left-by-all regions answer costs counts asks) steady (r * 2) _ (constraint-at places (region-count places regions) regions r h .0);
-        right-left = λ r h. both-ways (graph places regions) counts (left-by-all regions answer costs counts asks) steady (suc (r * 2)) _ (constraint-at places (region-count places regions) regions r h .1);
-        rounds = told-all regions answer costs test limit is asks counts ok;
+        bottom-top = λ r h. both-ways (graph places regions) counts (left-by-all regions answer costs counts requests) steady (r * 2) _ (constraint-at places (region-count places regions) regions r h .0);
+        right-left = λ r h. both-ways (graph places regions) counts (left-by-all regions answer costs counts requests) steady (suc (r * 2)) _ (constraint-at places (region-count places regions) regions r h .1);
+        rounds = told-all regions answer costs test limit is requests counts ok;
       }
     where
       ok : Accepted (length counts) (graph places regions)
       ok = accepted-ok places (length counts) regions t
 
-      steady : Steady (graph places regions) counts (left-by-all regions answer costs counts asks)
-      steady = steady-all regions answer costs test limit is asks counts ok
+      steady : Steady (graph places regions) counts (left-by-all regions answer costs counts requests)
+      steady = steady-all regions answer costs test limit is requests counts ok
 
 -- ---- the public rounds, of either kind
 
-abbrev pub test-of : List ℕ → Ask → List ℕ → Verdict
-test-of regions ask counts = round-test places regions (ask .spacing) counts (ask .limit)
+abbrev pub test-of : List ℕ → Request → List ℕ → Verdict
+test-of regions request counts = round-test places regions (request .spacing) counts (request .limit)
 
-abbrev pub limit-of : Ask → ℕ
-limit-of ask = ask .limit
+abbrev pub limit-of : Request → ℕ
+limit-of request = request .limit
 
-pub asked-is : (regions : List ℕ) (ask : Ask) (counts : List ℕ) → asked regions ask counts ≡ round-with places (test-of regions ask counts) (asked-costs ask) regions counts (limit-of ask)
+pub asked-is : (regions : List ℕ) (request : Request) (counts : List ℕ) → answer-to regions request counts ≡ round-with places (test-of regions request counts) (request-costs request) regions counts (limit-of request)
 unfolding round
-asked-is regions ask counts = refl
+asked-is regions request counts = refl
 
 -- Demand 3's claim on the public rounds: for accepted regions, any starting counts and any list of rounds, each of either kind.
-pub demand-3-rounds : (regions counts : List ℕ) (asks : List Ask) → T (accepted places (length counts) regions)
-    → Demand regions (asked regions) asked-costs counts asks
-demand-3-rounds regions counts asks t = rounds-as-demanded regions (asked regions) asked-costs (test-of regions) limit-of (asked-is regions) counts asks t
+pub demand-3-rounds : (regions counts : List ℕ) (requests : List Request) → T (accepted places (length counts) regions)
+    → Demand regions (answer-to regions) request-costs counts requests
+demand-3-rounds regions counts requests t = rounds-as-demanded regions (answer-to regions) request-costs (test-of regions) limit-of (asked-is regions) counts requests t

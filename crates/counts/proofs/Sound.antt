@@ -11,7 +11,7 @@ use lib.Dec.{T, leb, ltb, eqb, eqb→eq, not-T}
 use lib.Ieee.{Float, inf, add, sub, lt, neg, binary64}
 use lib.Ieee.Fits.{and-i, and-l, and-r}
 use Rattle.base.specs.Lists.{member, any, all, filter, each, Distinct, In, differs}
-use Rattle.counts.specs.Move.{Change, select, edges, balances, Settled, share, Linked, cost-from, cost, allowed, Joined, same, next, Reading}
+use Rattle.counts.specs.Move.{Change, select, edges, balances, Settled, share, Linked, cost-from, cost, is-allowed, Joined, same, next, Reading}
 use Rattle.counts.specs.Region.{Constraint, constraint, holds, incidence}
 use Rattle.counts.specs.Search.{signed, partners, others-changed, eps, State, Act, skip, turned-back, entered, record-path, keep-reading, path-is-complete, Go, try-step, visit-by, visit, enter-by, enter, unused, dfs, may-step, is-used}
 use Rattle.counts.proofs.search.Acts.{by-test}
@@ -208,7 +208,7 @@ module _ (g : List Constraint) (edge-cost : ℕ → Bool → Float) (counts : Li
     pub first : (w : Change) → In w (pre ++ x ∷ []) → w .0 ≡ x0 → w ≡ (x0, s0)
     pub distinct : Distinct (edges (pre ++ x ∷ []))
     pub there : (w : Change) → In w (pre ++ x ∷ []) → T (ltb (w .0) (length counts))
-    pub cans : (w : Change) → In w (pre ++ x ∷ []) → T (allowed counts (w .0) (w .1))
+    pub cans : (w : Change) → In w (pre ++ x ∷ []) → T (is-allowed counts (w .0) (w .1))
     pub linked : Linked g (pre ++ x ∷ [])
     pub fair : (i : ℕ) → T (is-used used i) → Settled (constraint g i) (select (holds (constraint g i)) (pre ++ x ∷ []))
     pub priced : cost edge-cost (pre ++ x ∷ []) ≡ t
@@ -226,7 +226,7 @@ module _ (g : List Constraint) (edge-cost : ℕ → Bool → Float) (counts : Li
               some = pos-snoc pre x;
               distinct = w .distinct;
               there = every (λ (z : Change). ltb (z .0) (length counts)) (pre ++ x ∷ []) (w .there);
-              down = every (λ (z : Change). allowed counts (z .0) (z .1)) (pre ++ x ∷ []) (w .cans);
+              down = every (λ (z : Change). is-allowed counts (z .0) (z .1)) (pre ++ x ∷ []) (w .cans);
               two = λ i. elim (T-or-not (is-used used i)) [
                 | inl u ↦ w .fair i u
                 | inr n ↦ subst (λ (l : List Change). Settled (constraint g i) l) (sym (select-none (holds (constraint g i)) (pre ++ x ∷ []) (λ z m h.
@@ -253,7 +253,7 @@ module _ (g : List Constraint) (edge-cost : ℕ → Bool → Float) (counts : Li
 
   -- one more edge, over the constraint i
   onward : (used : List Bool) (pre : List Change) (x z : Change) (t : Float) (i : ℕ) → Way used pre x t → T (holds (constraint g i) (x .0)) → others-changed (constraint g i) (x .0) (pre ++ x ∷ []) ≡ []
-      → In z (partners (constraint g i) (x .0) (x .1)) → T (may-step g edge-cost (allowed counts) limit x0 s0 (set used i true) (pre ++ x ∷ []) i z)
+      → In z (partners (constraint g i) (x .0) (x .1)) → T (may-step g edge-cost (is-allowed counts) limit x0 s0 (set used i true) (pre ++ x ∷ []) i z)
       → Way (set used i true) (pre ++ x ∷ []) z (add binary64 t (edge-cost (z .0) (z .1)))
   onward used pre x z t i w hx o p m =
       record {
@@ -269,7 +269,7 @@ module _ (g : List Constraint) (edge-cost : ℕ → Bool → Float) (counts : Li
         ];
         cans = λ v k. elim (in-split v (pre ++ x ∷ []) (z ∷ []) k) [
           | inl a ↦ w .cans v a
-          | inr b ↦ elim b [ inl q ↦ subst (λ (k : Change). T (allowed counts (k .0) (k .1))) (sym q) (and-r (not (any (λ (j : ℕ). differs i j && is-used (set used i true) j) (incidence g (z .0)))) (allowed counts (z .0) (z .1)) m2) | inr q ↦ absurd q ]
+          | inr b ↦ elim b [ inl q ↦ subst (λ (k : Change). T (is-allowed counts (k .0) (k .1))) (sym q) (and-r (not (any (λ (j : ℕ). differs i j && is-used (set used i true) j) (incidence g (z .0)))) (is-allowed counts (z .0) (z .1)) m2) | inr q ↦ absurd q ]
         ];
         linked = linked-snoc g pre x z (w .linked) (unlink g i (x .0) (z .0) hx (po .0));
         fair = λ j u. elim (T-or-not (eqb j i)) [
@@ -281,10 +281,10 @@ module _ (g : List Constraint) (edge-cost : ℕ → Bool → Float) (counts : Li
       }
     where
       m1 : T (not (any (λ (v : Change). eqb (v .0) (z .0)) (pre ++ x ∷ [])))
-      m1 = and-l (not (any (λ (v : Change). eqb (v .0) (z .0)) (pre ++ x ∷ []))) (not (any (λ (j : ℕ). differs i j && is-used (set used i true) j) (incidence g (z .0))) && allowed counts (z .0) (z .1)) m
+      m1 = and-l (not (any (λ (v : Change). eqb (v .0) (z .0)) (pre ++ x ∷ []))) (not (any (λ (j : ℕ). differs i j && is-used (set used i true) j) (incidence g (z .0))) && is-allowed counts (z .0) (z .1)) m
 
-      m2 : T (not (any (λ (j : ℕ). differs i j && is-used (set used i true) j) (incidence g (z .0))) && allowed counts (z .0) (z .1))
-      m2 = and-r (not (any (λ (v : Change). eqb (v .0) (z .0)) (pre ++ x ∷ []))) (not (any (λ (j : ℕ). differs i j && is-used (set used i true) j) (incidence g (z .0))) && allowed counts (z .0) (z .1)) m
+      m2 : T (not (any (λ (j : ℕ). differs i j && is-used (set used i true) j) (incidence g (z .0))) && is-allowed counts (z .0) (z .1))
+      m2 = and-r (not (any (λ (v : Change). eqb (v .0) (z .0)) (pre ++ x ∷ []))) (not (any (λ (j : ℕ). differs i j && is-used (set used i true) j) (incidence g (z .0))) && is-allowed counts (z .0) (z .1)) m
 
       new : (v : Change) → In v (pre ++ x ∷ []) → v .0 ≢ z .0
       new v k e = none-out (λ (v : Change). eqb (v .0) (z .0)) (pre ++ x ∷ []) m1 v k (eq→eqb (v .0) (z .0) e)
@@ -302,15 +302,15 @@ module _ (g : List Constraint) (edge-cost : ℕ → Bool → Float) (counts : Li
       as-before j n u =
           select-append (holds (constraint g j)) (pre ++ x ∷ []) (z ∷ [])
           ∙ ap (λ (l : List Change). select (holds (constraint g j)) (pre ++ x ∷ []) ++ l) (select-no (holds (constraint g j)) z [] (not-T (holds (constraint g j) (z .0)) (λ h.
-          none-out (λ (j : ℕ). differs i j && is-used (set used i true) j) (incidence g (z .0)) (and-l (not (any (λ (j : ℕ). differs i j && is-used (set used i true) j) (incidence g (z .0)))) (allowed counts (z .0) (z .1)) m2)
+          none-out (λ (j : ℕ). differs i j && is-used (set used i true) j) (incidence g (z .0)) (and-l (not (any (λ (j : ℕ). differs i j && is-used (set used i true) j) (incidence g (z .0)))) (is-allowed counts (z .0) (z .1)) m2)
           j (holds→incidence g j (z .0) h) (and-i (differs i j) (is-used (set used i true) j) (ne→differs i j n) u))))
           ∙ append-nil (select (holds (constraint g j)) (pre ++ x ∷ []))
 
   sound-try-step : (go : Go) → SoundGo go → (used : List Bool) (pre : List Change) (x z : Change) (t : Float) (i : ℕ) → Way used pre x t → T (holds (constraint g i) (x .0)) → others-changed (constraint g i) (x .0) (pre ++ x ∷ []) ≡ []
-      → In z (partners (constraint g i) (x .0) (x .1)) → (st : State) → Good st → Good (try-step g edge-cost (allowed counts) limit x0 s0 go (set used i true) (pre ++ x ∷ []) t i z st)
+      → In z (partners (constraint g i) (x .0) (x .1)) → (st : State) → Good st → Good (try-step g edge-cost (is-allowed counts) limit x0 s0 go (set used i true) (pre ++ x ∷ []) t i z st)
   unfolding try-step
   sound-try-step go k used pre x z t i w hx o p st h =
-      by-test Good (may-step g edge-cost (allowed counts) limit x0 s0 (set used i true) (pre ++ x ∷ []) i z) _ skip st
+      by-test Good (may-step g edge-cost (is-allowed counts) limit x0 s0 (set used i true) (pre ++ x ∷ []) i z) _ skip st
       (λ b. k (set used i true) (pre ++ x ∷ []) z (add binary64 t (edge-cost (z .0) (z .1))) (onward used pre x z t i w hx o p b) st h)
       (λ b. h)
 
@@ -337,7 +337,7 @@ module _ (g : List Constraint) (edge-cost : ℕ → Bool → Float) (counts : Li
       is-first = w .first v (select-out (λ (y : ℕ). differs (x .0) y && holds (constraint g i) y) v (pre ++ x ∷ []) (subst (λ (l : List Change). In v l) (sym o) (inl refl))) e
 
   sound-visit-by : (go : Go) → SoundGo go → (used : List Bool) (pre : List Change) (x : Change) (t : Float) (i : ℕ) → Way used pre x t → T (holds (constraint g i) (x .0)) → (os : List Change) → others-changed (constraint g i) (x .0) (pre ++ x ∷ []) ≡ os
-      → (st : State) → Good st → Good (visit-by g edge-cost (allowed counts) limit x0 s0 go used (pre ++ x ∷ []) (x .0) (x .1) t i os st)
+      → (st : State) → Good st → Good (visit-by g edge-cost (is-allowed counts) limit x0 s0 go used (pre ++ x ∷ []) (x .0) (x .1) t i os st)
   sound-visit-by go k used pre x t i w hx [] o st h = sound-each _ (partners (constraint g i) (x .0) (x .1)) (λ z p. sound-try-step go k used pre x z t i w hx o p) st h
   sound-visit-by go k used pre x t i w hx (v ∷ []) o st h =
       by-test Good (eqb (v .0) x0 && balances (constraint g i) (x0, s0) x) _ skip st
@@ -346,7 +346,7 @@ module _ (g : List Constraint) (edge-cost : ℕ → Bool → Float) (counts : Li
   sound-visit-by go k used pre x t i w hx (v ∷ v' ∷ r) o st h = h
 
   sound-enter-by : (go : Go) → SoundGo go → (used : List Bool) (pre : List Change) (x : Change) (t : Float) → Way used pre x t → (is : List ℕ) → ((i : ℕ) → In i is → T (holds (constraint g i) (x .0)))
-      → (st : State) → Good st → Good (enter-by g edge-cost (allowed counts) limit x0 s0 go used (pre ++ x ∷ []) (x .0) (x .1) t is st)
+      → (st : State) → Good st → Good (enter-by g edge-cost (is-allowed counts) limit x0 s0 go used (pre ++ x ∷ []) (x .0) (x .1) t is st)
   unfolding visit
   sound-enter-by go k used pre x t w [] hs st h = sound-record-path used pre x t w st h
   sound-enter-by go k used pre x t w (i ∷ is) hs st h =
@@ -356,11 +356,11 @@ module _ (g : List Constraint) (edge-cost : ℕ → Bool → Float) (counts : Li
   good-same st st' p q (empty a b) = empty (sym p ∙ a) (sym q ∙ b)
   good-same st st' p q (reading r c) = reading (subst (λ (l : List Change). Reading g counts l) q r) (ap (cost edge-cost) (sym q) ∙ c ∙ p)
 
-  pub sound-dfs : (k : ℕ) → SoundGo (dfs g edge-cost (allowed counts) limit x0 s0 k)
+  pub sound-dfs : (k : ℕ) → SoundGo (dfs g edge-cost (is-allowed counts) limit x0 s0 k)
   unfolding dfs enter
   sound-dfs zero used pre x t w st h = h
   sound-dfs (suc k) used pre x t w st h =
       by-test Good (leb limit (st .expansions)) turned-back _ st
       (λ b. good-same st (turned-back st) refl refl h)
-      (λ b. sound-enter-by (dfs g edge-cost (allowed counts) limit x0 s0 k) (sound-dfs k) used pre x t w (unused g edge-cost (allowed counts) limit x0 s0 used (x .0))
+      (λ b. sound-enter-by (dfs g edge-cost (is-allowed counts) limit x0 s0 k) (sound-dfs k) used pre x t w (unused g edge-cost (is-allowed counts) limit x0 s0 used (x .0))
       (λ i m. incidence→holds g i (x .0) (filter-in (λ (n : ℕ). not (is-used used n)) i (incidence g (x .0)) m .0)) (entered st) (good-same st (entered st) refl refl h))

@@ -20,49 +20,49 @@ use Rattle.counts.specs.Solver.{Round, round}
 abbrev pub sum-of : List ℕ → List ℕ → ℕ → ℕ → ℕ
 sum-of regions counts r k = side-sum counts (side places (from-region places regions r) k)
 
-module _ {Ask : Type 0} (regions : List ℕ) (answer : Ask → List ℕ → Round) (costs : Ask → CostModel) where
-  abbrev pub left : List ℕ → Ask → List ℕ
-  left counts ask = answer ask counts .counts
+module _ {Request : Type 0} (regions : List ℕ) (answer : Request → List ℕ → Round) (costs : Request → CostModel) where
+  abbrev pub left : List ℕ → Request → List ℕ
+  left counts request = answer request counts .counts
 
   -- "each later one gets them as the round before left them, refused or not"
-  abbrev pub left-by-all : List ℕ → List Ask → List ℕ
+  abbrev pub left-by-all : List ℕ → List Request → List ℕ
   left-by-all counts [] = counts
-  left-by-all counts (ask ∷ asks) = left-by-all (left counts ask) asks
+  left-by-all counts (request ∷ requests) = left-by-all (left counts request) requests
 
   -- What is claimed of one round, on the counts that it got. A move costs less than a bound if some reading does.
-  pub record Told (counts : List ℕ) (ask : Ask) : Type 0 where
+  pub record RoundClaim (counts : List ℕ) (request : Request) : Type 0 where
     -- "Each of these rounds that changes the counts makes one unit move (..) that costs less than -1e-12 and makes no count negative"
-    pub changed : left counts ask ≢ counts
-        → (r : List Change) × Reading (graph places regions) counts r × T (lt (cost (costs ask counts) r) (neg eps)) × Makes counts r (left counts ask)
+    pub changed : left counts request ≢ counts
+        → (r : List Change) × Reading (graph places regions) counts r × T (lt (cost (costs request counts) r) (neg eps)) × Makes counts r (left counts request)
     -- "Each accepted one that changes nothing and reports no search cut short leaves no unit move that costs less than -2e-12"
-    pub idle : T (is-passed (answer ask counts .verdict)) → left counts ask ≡ counts → T (not (answer ask counts .cut))
-        → (r : List Change) → Reading (graph places regions) counts r → T (lt (cost (costs ask counts) r) (neg two-eps)) → ⊥
+    pub idle : T (is-passed (answer request counts .verdict)) → left counts request ≡ counts → T (not (answer request counts .cut))
+        → (r : List Change) → Reading (graph places regions) counts r → T (lt (cost (costs request counts) r) (neg two-eps)) → ⊥
 
-  abbrev pub Told-all : List ℕ → List Ask → Type 0
-  Told-all counts [] = Unit {0}
-  Told-all counts (ask ∷ asks) = Told counts ask × Told-all (left counts ask) asks
+  abbrev pub RoundClaims : List ℕ → List Request → Type 0
+  RoundClaims counts [] = Unit {0}
+  RoundClaims counts (request ∷ requests) = RoundClaim counts request × RoundClaims (left counts request) requests
 
-  pub record Demand (counts : List ℕ) (asks : List Ask) : Type 0 where
+  pub record Demand (counts : List ℕ) (requests : List Request) : Type 0 where
     -- "after the rounds two opposite sides of a region add up to equal counts exactly when they did before the first"
     pub bottom-top : (r : ℕ) → r < region-count places regions
         → (sum-of regions counts r 0 ≡ sum-of regions counts r 2)
-        ↔ (sum-of regions (left-by-all counts asks) r 0 ≡ sum-of regions (left-by-all counts asks) r 2)
+        ↔ (sum-of regions (left-by-all counts requests) r 0 ≡ sum-of regions (left-by-all counts requests) r 2)
     pub right-left : (r : ℕ) → r < region-count places regions
         → (sum-of regions counts r 1 ≡ sum-of regions counts r 3)
-        ↔ (sum-of regions (left-by-all counts asks) r 1 ≡ sum-of regions (left-by-all counts asks) r 3)
-    pub rounds : Told-all counts asks
+        ↔ (sum-of regions (left-by-all counts requests) r 1 ≡ sum-of regions (left-by-all counts requests) r 3)
+    pub rounds : RoundClaims counts requests
 
 -- "ideals (also too few or too many) and limit are each round's own", the ideals of either kind
-pub record Ask : Type 0 where
+pub record Request : Type 0 where
   pub spacing : Spacing
   pub limit : ℕ
 
 -- the public round
-abbrev pub asked : List ℕ → Ask → List ℕ → Round
-asked regions ask counts = round regions (ask .spacing) counts (ask .limit)
+abbrev pub answer-to : List ℕ → Request → List ℕ → Round
+answer-to regions request counts = round regions (request .spacing) counts (request .limit)
 
-abbrev pub asked-costs : Ask → CostModel
-asked-costs ask = costs-of (ask .spacing)
+abbrev pub request-costs : Request → CostModel
+request-costs request = costs-of (request .spacing)
 
 -- opposite sides of every region add up to the same
 pub record Balanced (regions counts : List ℕ) : Type 0 where

@@ -23,8 +23,8 @@ select p [] = []
 select p (z ∷ zs) = cond (p (z .0)) (z ∷ select p zs) (select p zs)
 
 -- "none with -1 at count 0"
-abbrev pub allowed : List ℕ → ℕ → Bool → Bool
-allowed counts x s = s || ltb 0 (getD counts x 0)
+abbrev pub is-allowed : List ℕ → ℕ → Bool → Bool
+is-allowed counts x s = s || ltb 0 (getD counts x 0)
 
 -- "which balance: opposite sides with like signs, or one side with unlike signs"
 abbrev pub balances : Constraint → Change → Change → Bool
@@ -51,7 +51,7 @@ pub record UnitMove (g : List Constraint) (counts : List ℕ) (r : List Change) 
   pub some : 0 < length r
   pub distinct : Distinct (edges r)
   pub there : T (all (λ (z : Change). ltb (z .0) (length counts)) r)
-  pub down : T (all (λ (z : Change). allowed counts (z .0) (z .1)) r)
+  pub down : T (all (λ (z : Change). is-allowed counts (z .0) (z .1)) r)
   pub two : (i : ℕ) → Settled (constraint g i) (select (holds (constraint g i)) r)
   pub joined : (x y : ℕ) → T (member x (edges r)) → T (member y (edges r)) → Joined g (edges r) x y
 

@@ -6,7 +6,7 @@ use lib.ListN.{length, replicate}
 use lib.Ieee.{Float, inf, sub, lt, neg, binary64}
 use Rattle.base.specs.Lists.{each}
 use Rattle.counts.specs.Region.{Constraint}
-use Rattle.counts.specs.Move.{Change, EdgeCost, allowed, apply-changes}
+use Rattle.counts.specs.Move.{Change, EdgeCost, is-allowed, apply-changes}
 use Rattle.counts.specs.Cost.{CostModel}
 use Rattle.counts.specs.Search.{State, eps, run}
 
@@ -36,11 +36,11 @@ abbrev pub starts : ℕ → ℕ → List Change
 starts i zero = []
 starts i (suc n) = (i, true) ∷ (i, false) ∷ starts (suc i) n
 
-module _ (g : List Constraint) (edge-cost : EdgeCost) (allowed : ℕ → Bool → Bool) (limit : ℕ) where
+module _ (g : List Constraint) (edge-cost : EdgeCost) (is-allowed : ℕ → Bool → Bool) (limit : ℕ) where
   -- "(no -1 at count 0), each start with a fresh limit"
   unfoldable pub try-start : Change → Found → Found
   unfolding run lt sub neg
-  try-start z = cond (allowed (z .0) (z .1)) (weigh (run g edge-cost allowed limit (z .0) (z .1))) (λ b. b)
+  try-start z = cond (is-allowed (z .0) (z .1)) (weigh (run g edge-cost is-allowed limit (z .0) (z .1))) (λ b. b)
 
   -- n edges
   unfoldable pub find-augmentation : ℕ → Found
@@ -50,7 +50,7 @@ module _ (g : List Constraint) (edge-cost : EdgeCost) (allowed : ℕ → Bool �
 -- the move of one round on these counts
 unfoldable pub find-move : List Constraint → CostModel → List ℕ → ℕ → Found
 unfolding find-augmentation
-find-move g costs counts limit = find-augmentation g (costs counts) (allowed counts) limit (length counts)
+find-move g costs counts limit = find-augmentation g (costs counts) (is-allowed counts) limit (length counts)
 
 -- moves made, counts, and whether a further move was found after the last one allowed
 pub record Solved : Type 0 where

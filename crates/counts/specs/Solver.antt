@@ -25,13 +25,13 @@ use Rattle.counts.specs.declared.answer.HoldAnswer.the-variants as hold-
 -- ---- a round
 
 -- "the cost of the move made, or none"
-pub data Move : Type 0 where
-  none : Move
-  made : Float → Move
+pub data MoveMade : Type 0 where
+  none : MoveMade
+  made : Float → MoveMade
 
 pub record Round : Type 0 where
   pub verdict : Verdict
-  pub move : Move
+  pub move : MoveMade
   pub cut : Bool
   pub counts : List ℕ
 

@@ -6,7 +6,7 @@ ghost use mathlib.Core.Path.{_≡_};
 ghost use Prim.Native.Nat.{ℕ, _*_, _≤_, _<_};
 ghost use lib.ListN.{length, getD};
 ghost use Rattle.counts.specs.Cost.{range-delta, by-ranges};
-ghost use Rattle.counts.specs.inner.Tables.{none};
+ghost use Rattle.counts.specs.inner.Tables.{no-constraint};
 ghost use Rattle.counts.specs.inner.Components.{Labels, StillEqual, OneMark, Taken, EdgeRefreshed, Refreshed, renamed as renamed-to};
 
 const NO_CONSTRAINT: usize = 256;
@@ -82,7 +82,7 @@ fn number_constraints(marks: &mut [u16; 256])
 // The label of edge e is the mark of its constraints; an edge in no constraint is a part of its own.
 fn label_of(incident: &[u16; 512], marks: &[u16; 256], e: usize) -> u16
     requires { ⌜ e < 256 ⌝ }
-    ensures { λ r. ⌜ (getD (now (incident .entry)) (e * 2) 0 < none → r ≡ getD (now (marks .entry)) (getD (now (incident .entry)) (e * 2) 0) 0) ⌝ }
+    ensures { λ r. ⌜ (getD (now (incident .entry)) (e * 2) 0 < no-constraint → r ≡ getD (now (marks .entry)) (getD (now (incident .entry)) (e * 2) 0) 0) ⌝ }
 {
     let a = wide(incident[e * 2]);
     if a < NO_CONSTRAINT {

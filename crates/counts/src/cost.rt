@@ -5,7 +5,6 @@ ghost use Prim.Native.Nat.{ℕ, _≤_, _<_};
 ghost use lib.ListN.{length};
 ghost use lib.Dec.{ltb};
 ghost use lib.Ieee.{ofBits, add, sub, binary64};
-ghost use Rattle.counts.specs.Move.{allowed};
 ghost use Rattle.counts.specs.Cost.{deviation, square, step, range-deviation, range-delta, by-ranges, energy-from};
 ghost use Rattle.counts.specs.inner.Tables.{set-both, Entries};
 

@@ -15,7 +15,7 @@ ghost use lib.Dec.{T};
 ghost use Rattle.base.specs.Refusal.{is-passed, outcome};
 ghost use Rattle.counts.specs.Region.{Constraint, places, region-count, incidence};
 ghost use Rattle.counts.specs.Accept.{limits-test, pairs-test, overused-test};
-ghost use Rattle.counts.specs.inner.Tables.{the-graph, edges-of, none};
+ghost use Rattle.counts.specs.inner.Tables.{the-graph, edges-of, no-constraint};
 ghost use Rattle.counts.specs.inner.Graph.{SideTested, Tested, Sized, Placed, Filled, Built};
 
 // Edge e stands on side s of constraint ci: both go to its next place. An edge in over two constraints is only counted, for test 6.
@@ -72,7 +72,7 @@ fn place_constraints(
     uses: &mut [u16; 256],
 )
     requires { ⌜ Tested (now regions) ⌝ }
-    requires { ⌜ (now incident ≡ replicate 512 none) × (length (now own) ≡ 512) × (now uses ≡ replicate 256 0) ⌝ }
+    requires { ⌜ (now incident ≡ replicate 512 no-constraint) × (length (now own) ≡ 512) × (now uses ≡ replicate 256 0) ⌝ }
     ensures { λ _. ⌜ Filled (the-graph (now (regions .entry))) (the-graph (now (regions .entry))) (now (incident .exit)) (now (own .exit)) (now (uses .exit)) ⌝ }
 {
     let m = regions.len() / RECORD_SIZE * 2;
@@ -108,7 +108,7 @@ pub(crate) fn build_graph(
     own: &mut [u16; 512],
 ) -> Check
     requires { ⌜ T (is-passed (limits-test places n (now regions))) × T (is-passed (pairs-test places n 0 (region-count places (now regions)) (now regions))) ⌝ }
-    requires { ⌜ (now incident ≡ replicate 512 none) × (length (now own) ≡ 512) ⌝ }
+    requires { ⌜ (now incident ≡ replicate 512 no-constraint) × (length (now own) ≡ 512) ⌝ }
     ensures { λ r. ⌜ Built n (now (regions .entry)) (now (incident .exit)) (now (own .exit)) (outcome r) ⌝ }
 {
     let mut uses = [0; 256];

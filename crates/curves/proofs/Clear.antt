@@ -24,7 +24,7 @@ use Rattle.curves.specs.Crossing.{denominator, crossing-u, crossing-v, l
 use Rattle.curves.specs.Quad.{zeros}
 use Rattle.curves.specs.Grid.{Seams, Grid, grid-of, n-u, n-v, mapped, row-of, row-points, points-test, cell-test, quads-test, grid-test, grid-values, needed}
 use Rattle.curves.specs.Coons.{Outcome, unless, filled, grid-stage, patch, curve-limit, curves-limit, seam-limit, seams-limit, coons-from-parameters}
-use Rattle.curves.specs.Lay.{Field, record-test, edges-test, breaks-test, sides-test, seams-of, lay}
+use Rattle.curves.specs.Lay.{TileInput, record-test, edges-test, breaks-test, sides-test, seams-of, lay}
 use Rattle.curves.specs.declared.point.Point.{Point}
 use Rattle.curves.specs.declared.boundary.BoundaryEnds.{BoundaryEnds}
 use Rattle.curves.specs.declared.grid.Layout.{Layout}
@@ -250,14 +250,14 @@ breaks-clear : (region : List ℕ) (breaks : List Float) (k : ℕ) → Clear (br
 unfolding breaks-test
 breaks-clear region breaks k = if-clear (not (eqb (length breaks) (suc (length (side places region k))))) 27 k 0 tt
 
-sides-clear : (region : List ℕ) (n : ℕ) (f : Field) → Clear (sides-test region n f)
+sides-clear : (region : List ℕ) (n : ℕ) (f : TileInput) → Clear (sides-test region n f)
 unfolding sides-test
 sides-clear region n f =
     then-clear (then-clear (edges-clear region n 0) (then-clear (edges-clear region n 1) (then-clear (edges-clear region n 2) (edges-clear region n 3))))
     (then-clear (breaks-clear region (f .breaks0) 0)
     (then-clear (breaks-clear region (f .breaks1) 1) (then-clear (breaks-clear region (f .breaks2) 2) (breaks-clear region (f .breaks3) 3))))
 
-pub lay-clear : (region counts : List ℕ) (f : Field) (out : List Float) → EqualSeams (seams-of region counts f) → Clear (lay region counts f out .verdict)
+pub lay-clear : (region counts : List ℕ) (f : TileInput) (out : List Float) → EqualSeams (seams-of region counts f) → Clear (lay region counts f out .verdict)
 unfolding lay
 lay-clear region counts f out e =
     let tested = then-clear (record-clear region (length counts)) (then-clear (curves-limit-clear (f .bottom) (f .right) (f .top) (f .left)) (sides-clear region (length counts) f)) in

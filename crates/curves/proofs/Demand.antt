@@ -17,7 +17,7 @@ use Rattle.counts.specs.Round.{solve-zeros}
 use Rattle.counts.specs.Cost.{Spacing, costs-of, edges-of}
 use Rattle.counts.specs.Accept.{accepted, sides-fit, limits-test, regions-test}
 use Rattle.counts.specs.Solver.{max-limit, solve}
-use Rattle.counts.specs.Demand.{Ask, asked, asked-costs, left-by-all, Balanced, sum-of}
+use Rattle.counts.specs.Demand.{Request, answer-to, request-costs, left-by-all, Balanced, sum-of}
 use Rattle.counts.proofs.check.Accepted.{Accepted, accepted-ok}
 use Rattle.base.proofs.BoolLaws.{clash, eq→eqb, or-left, or-right, T-true}
 use Rattle.base.proofs.TestLaws.{then-left}
@@ -25,7 +25,7 @@ use Rattle.counts.proofs.check.Laws.{sides-first, sides-rest, side-few, limits-
 use Rattle.base.proofs.ListLaws.{in→member}
 use Rattle.counts.proofs.Rounds.{Steady, steady-all, constraint-at, demand-3-rounds, test-of, limit-of, asked-is}
 use Rattle.counts.proofs.Solving.{SolveIs, solve-is, solve-balanced, level-solved}
-use Rattle.curves.specs.Lay.{Field, seams-of, seam-of, lay}
+use Rattle.curves.specs.Lay.{TileInput, seams-of, seam-of, lay}
 use Rattle.curves.specs.Demand.{record-of, Alike, Handed, Demand-3}
 use Rattle.curves.proofs.Clear.{EqualSeams, lay-clear}
 use Rattle.curves.proofs.lay.Laws.{length-seam}
@@ -66,7 +66,7 @@ module _ (regions counts : List ℕ) (h : Handed regions counts) where
   written = solve regions (h .spacing) (h .lent) .counts
 
   abbrev after : List ℕ
-  after = left-by-all regions (asked regions) asked-costs (h .begun) (h .asks)
+  after = left-by-all regions (answer-to regions) request-costs (h .begun) (h .requests)
 
   is : SolveIs regions (h .spacing) (h .lent)
   is = solve-is regions (h .spacing) (h .lent) (h .accepted-solve)
@@ -85,8 +85,8 @@ module _ (regions counts : List ℕ) (h : Handed regions counts) where
 
   steady : Steady g (h .begun) after
   steady =
-      steady-all regions (asked regions) asked-costs (test-of regions) limit-of (asked-is regions)
-      (h .asks) (h .begun) (wider n (length (h .begun)) g long ok)
+      steady-all regions (answer-to regions) request-costs (test-of regions) limit-of (asked-is regions)
+      (h .requests) (h .begun) (wider n (length (h .begun)) g long ok)
 
   below : (i x : ℕ) → T (member x (constraint g i .a) || member x (constraint g i .b)) → x < n
   below i x t = ltb→lt x n (ok .constraint-ok i .inside x t)
@@ -165,14 +165,14 @@ same-sides n regions t r h k b =
 
 -- ---- the two ways to hand on what an accepted solve wrote, each with any list of rounds: the whole lent buffer, or the part that was written
 
-pub whole-buffer : (regions : List ℕ) (spacing : Spacing) (lent : List ℕ) (asks : List Ask) → T (is-passed (solve regions spacing lent .verdict))
-    → Handed regions (left-by-all regions (asked regions) asked-costs (solve regions spacing lent .counts) asks)
-whole-buffer regions spacing lent asks t =
-    record { spacing = spacing; lent = lent; accepted-solve = t; begun = solve regions spacing lent .counts; wrote = refl; asks = asks; left = refl }
+pub whole-buffer : (regions : List ℕ) (spacing : Spacing) (lent : List ℕ) (requests : List Request) → T (is-passed (solve regions spacing lent .verdict))
+    → Handed regions (left-by-all regions (answer-to regions) request-costs (solve regions spacing lent .counts) requests)
+whole-buffer regions spacing lent requests t =
+    record { spacing = spacing; lent = lent; accepted-solve = t; begun = solve regions spacing lent .counts; wrote = refl; requests = requests; left = refl }
 
-pub written-part : (regions : List ℕ) (spacing : Spacing) (lent : List ℕ) (asks : List Ask) → T (is-passed (solve regions spacing lent .verdict))
-    → Handed regions (left-by-all regions (asked regions) asked-costs (take (edges-of spacing) (solve regions spacing lent .counts)) asks)
-written-part regions spacing lent asks t =
+pub written-part : (regions : List ℕ) (spacing : Spacing) (lent : List ℕ) (requests : List Request) → T (is-passed (solve regions spacing lent .verdict))
+    → Handed regions (left-by-all regions (answer-to regions) request-costs (take (edges-of spacing) (solve regions spacing lent .counts)) requests)
+written-part regions spacing lent requests t =
     let n = edges-of spacing in
     record {
       spacing = spacing;
@@ -180,14 +180,14 @@ written-part regions spacing lent asks t =
       accepted-solve = t;
       begun = take n (solve regions spacing lent .counts);
       wrote = take-take n n (solve regions spacing lent .counts) (omega arith);
-      asks = asks;
+      requests = requests;
       left = refl;
     }
 
 -- ---- the theorem
 
 -- opposite seams of a tile are equally long
-equal-seams : (regions counts : List ℕ) → Handed regions counts → (r : ℕ) → r < region-count places regions → (f : Field)
+equal-seams : (regions counts : List ℕ) → Handed regions counts → (r : ℕ) → r < region-count places regions → (f : TileInput)
     → EqualSeams (seams-of (record-of regions r) counts f)
 equal-seams regions counts h r l f =
     record {
@@ -213,7 +213,7 @@ equal-seams regions counts h r l f =
 pub demand-3 : (regions : List ℕ) → Demand-3 regions
 demand-3 regions =
     record {
-      rounds = λ counts asks t. demand-3-rounds regions counts asks t;
+      rounds = λ counts requests t. demand-3-rounds regions counts requests t;
       tiles = λ counts h r l f out e.
           let v = lay (record-of regions r) counts f out .verdict .number in
           clash (eqb v 22) (eq→eqb v 22 e) (lay-clear (record-of regions r) counts f out (equal-seams regions counts h r l f) .other);

@@ -12,7 +12,7 @@ use Rattle.base.specs.Refusal.{refused, then-test, refuse-if}
 use Rattle.floats.specs.Scalar.{nought, is-finite, is-positive, clamp-unit}
 use Rattle.floats.specs.Root.{root}
 use Rattle.curves.specs.Point.{point}
-use Rattle.base.specs.Buffers.{tab}
+use Rattle.base.specs.Buffers.{tabulate}
 use Rattle.curves.specs.declared.point.Point.{Point}
 use Rattle.curves.specs.declared.curve.Knot.{Knot}
 use Rattle.curves.specs.declared.curve.Segment.{Segment}
@@ -52,7 +52,7 @@ curve points cumulative = record { points = points; cumulative = cumulative }
 
 unfoldable pub cumulative-of : List Float → List Float
 unfolding length-to
-cumulative-of points = tab (length-to points) 0 (point-count points)
+cumulative-of points = tabulate (length-to points) 0 (point-count points)
 
 -- 000's `ArcCurve::new`, of a curve that is not refused
 abbrev pub arc-curve : List Float → ArcCurve

@@ -13,8 +13,8 @@ use Rattle.counts.specs.Region.{places, record-size, region-count, from-region}
 use Rattle.counts.specs.Cost.{Spacing, edges-of}
 use Rattle.counts.specs.Accept.{accepted}
 use Rattle.counts.specs.Solver.{solve}
-use Rattle.counts.specs.Demand.{Ask, asked, asked-costs, left-by-all, Demand}
-use Rattle.curves.specs.Lay.{Field, lay}
+use Rattle.counts.specs.Demand.{Request, answer-to, request-costs, left-by-all, Demand}
+use Rattle.curves.specs.Lay.{TileInput, lay}
 
 -- "one region record of the list"
 abbrev pub record-of : List ℕ → ℕ → List ℕ
@@ -33,13 +33,13 @@ pub record Handed (regions counts : List ℕ) : Type 0 where
   -- "begun on these": counts that begin with what was written, as many as there are edges
   pub begun : List ℕ
   pub wrote : Alike (edges-of spacing) begun (solve regions spacing lent .counts)
-  pub asks : List Ask
-  pub left : Alike (edges-of spacing) counts (left-by-all regions (asked regions) asked-costs begun asks)
+  pub requests : List Request
+  pub left : Alike (edges-of spacing) counts (left-by-all regions (answer-to regions) request-costs begun requests)
 
 pub record Demand-3 (regions : List ℕ) : Type 0 where
   -- "For every accepted list of regions, the same throughout, and every list of rounds from any starting counts, each round with its own ideals and search limit, refused rounds
   -- included": opposite sides balance just if they did before, a round that changes the counts makes one unit move, and an idle one leaves none below -2e-12
-  pub rounds : (counts : List ℕ) (asks : List Ask) → T (accepted places (length counts) regions) → Demand regions (asked regions) asked-costs counts asks
+  pub rounds : (counts : List ℕ) (requests : List Request) → T (accepted places (length counts) regions) → Demand regions (answer-to regions) request-costs counts requests
   -- "lay never answers it with 22, whatever breaks, curves and output it is lent"
-  pub tiles : (counts : List ℕ) → Handed regions counts → (r : ℕ) → r < region-count places regions → (f : Field) (out : List Float)
+  pub tiles : (counts : List ℕ) → Handed regions counts → (r : ℕ) → r < region-count places regions → (f : TileInput) (out : List Float)
       → lay (record-of regions r) counts f out .verdict .number ≢ 22

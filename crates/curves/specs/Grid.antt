@@ -7,7 +7,7 @@ use Rattle.base.specs.declared.verdict.Verdict.{Verdict}
 use Rattle.base.specs.Refusal.{passed, then-test}
 use Rattle.base.specs.Answers.{Answer, good, turned-away, verdict}
 use Rattle.floats.specs.Scalar.{nought}
-use Rattle.base.specs.Buffers.{cat}
+use Rattle.base.specs.Buffers.{concat-tabulate}
 use Rattle.base.specs.Tests.{first-of}
 use Rattle.curves.specs.Point.{values}
 use Rattle.curves.specs.Curve.{point-at}
@@ -70,7 +70,7 @@ coordinates (turned-away v) = nan ∷ nan ∷ []
 
 -- the n + 1 points of a row, as x, y in turn
 unfoldable pub row-points : Row → ℕ → List Float
-row-points f n = cat (λ (i : ℕ). coordinates (f i)) 0 (n + 1)
+row-points f n = concat-tabulate (λ (i : ℕ). coordinates (f i)) 0 (n + 1)
 
 -- ---- the tests
 
@@ -116,7 +116,7 @@ quad-values a b c d = a .x ∷ a .y ∷ b .x ∷ b .y ∷ c .x ∷ c .y ∷ d .x
 
 -- the n quads between two rows of points
 unfoldable pub quads-between : List Float → List Float → ℕ → List Float
-quads-between low high n = cat (λ (i : ℕ). quad-values (point-at low i) (point-at low (i + 1)) (point-at high (i + 1)) (point-at high i)) 0 n
+quads-between low high n = concat-tabulate (λ (i : ℕ). quad-values (point-at low i) (point-at low (i + 1)) (point-at high (i + 1)) (point-at high i)) 0 n
 
 -- "x, y, +0.0 for each grid point"
 abbrev pub node-values : Point → List Float
@@ -124,7 +124,7 @@ node-values p = p .x ∷ p .y ∷ nought ∷ []
 
 -- the n + 1 points of a row
 unfoldable pub nodes-of : List Float → ℕ → List Float
-nodes-of row n = cat (λ (i : ℕ). node-values (point-at row i)) 0 (n + 1)
+nodes-of row n = concat-tabulate (λ (i : ℕ). node-values (point-at row i)) 0 (n + 1)
 
 -- what is written once row j of the points is there, after the row below it: "Quads are written row by row"; a mesh's points, "rows from the bottom"
 unfoldable pub row-part : Layout → List Float → List Float → ℕ → ℕ → List Float
@@ -138,7 +138,7 @@ grid-part layout f n j = row-part layout (row-points (f (j - 1)) n) (row-points 
 
 unfoldable pub grid-values : Layout → Grid → ℕ → ℕ → List Float
 unfolding row-points row-part
-grid-values layout f n m = cat (grid-part layout f n) 0 (m + 1)
+grid-values layout f n m = concat-tabulate (grid-part layout f n) 0 (m + 1)
 
 -- how many values that is
 unfoldable pub needed : Layout → ℕ → ℕ → ℕ

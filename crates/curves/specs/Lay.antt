@@ -16,7 +16,7 @@ use Rattle.curves.specs.Coons.{Outcome, unless, curves-limit, coons-from
 use Rattle.curves.specs.declared.grid.Layout.the-variants.{Quads}
 
 -- what lay is lent beside the record and the counts: the breaks of sides 0 to 3, and their curves
-pub record Field : Type 0 where
+pub record TileInput : Type 0 where
   pub breaks0 : List Float
   pub breaks1 : List Float
   pub breaks2 : List Float
@@ -26,8 +26,8 @@ pub record Field : Type 0 where
   pub top : List Float
   pub left : List Float
 
-abbrev pub field : List Float → List Float → List Float → List Float → List Float → List Float → List Float → List Float → Field
-field breaks0 breaks1 breaks2 breaks3 bottom right top left = record {
+abbrev pub tile-input : List Float → List Float → List Float → List Float → List Float → List Float → List Float → List Float → TileInput
+tile-input breaks0 breaks1 breaks2 breaks3 bottom right top left = record {
   breaks0 = breaks0;
   breaks1 = breaks1;
   breaks2 = breaks2;
@@ -51,7 +51,7 @@ unfolding side-seam
 seam-of region counts k breaks = side-seam breaks (counts-along counts (side places region k))
 
 -- "Sides 0 and 2 run left to right, 1 and 3 bottom to top"
-abbrev pub seams-of : List ℕ → List ℕ → Field → Seams
+abbrev pub seams-of : List ℕ → List ℕ → TileInput → Seams
 seams-of region counts f =
     seams (seam-of region counts 0 (f .breaks0)) (seam-of region counts 2 (f .breaks2)) (seam-of region counts 3 (f .breaks3)) (seam-of region counts 1 (f .breaks1))
 
@@ -71,7 +71,7 @@ unfoldable pub breaks-test : List ℕ → List Float → ℕ → Verdict
 breaks-test region breaks k = refuse-if (not (eqb (length breaks) (suc (length (side places region k))))) (refused 27 k 0)
 
 -- "3, 27 (each over sides 0 to 3)"
-unfoldable pub sides-test : List ℕ → ℕ → Field → Verdict
+unfoldable pub sides-test : List ℕ → ℕ → TileInput → Verdict
 unfolding edges-test breaks-test
 sides-test region n f =
     then-test
@@ -80,14 +80,14 @@ sides-test region n f =
     (then-test (breaks-test region (f .breaks1) 1) (then-test (breaks-test region (f .breaks2) 2) (breaks-test region (f .breaks3) 3))))
 
 -- "Lay: 1 (record, counts, curves), 3, 27 (..)"; "1 for a seam too long, then geometry" are `coons_from_parameters`'s own
-unfoldable pub lay-test : List ℕ → ℕ → Field → Verdict
+unfoldable pub lay-test : List ℕ → ℕ → TileInput → Verdict
 unfolding record-test curves-limit sides-test
 lay-test region n f =
     then-test (record-test region n) (then-test (curves-limit (f .bottom) (f .right) (f .top) (f .left)) (sides-test region n f))
 
 -- ---- lay
 
-unfoldable pub lay : List ℕ → List ℕ → Field → List Float → Outcome
+unfoldable pub lay : List ℕ → List ℕ → TileInput → List Float → Outcome
 unfolding lay-test seam-of coons-from-parameters
 lay region counts f out =
     unless (lay-test region (length counts) f) out (coons-from-parameters Quads (f .bottom) (f .right) (f .top) (f .left) (seams-of region counts f) out)

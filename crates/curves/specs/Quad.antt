@@ -6,7 +6,7 @@ use lib.Ieee.{Float}
 use Rattle.base.specs.declared.verdict.Verdict.{Verdict}
 use Rattle.base.specs.Refusal.{refused, refuse-if}
 use Rattle.floats.specs.Scalar.{nought, is-positive}
-use Rattle.base.specs.Buffers.{tab}
+use Rattle.base.specs.Buffers.{tabulate}
 use Rattle.curves.specs.Point.{signed-area}
 use Rattle.curves.specs.declared.point.Point.{Point}
 
@@ -17,4 +17,4 @@ quad-test a b c d i j = refuse-if (not (is-positive (signed-area a b c d))) (ref
 
 -- "needed output +0.0"
 abbrev pub zeros : ℕ → List Float
-zeros n = tab (λ (i : ℕ). nought) 0 n
+zeros n = tabulate (λ (i : ℕ). nought) 0 n

@@ -9,7 +9,7 @@ use lib.Ieee.{Float, nan, binary64, add, sub, mul, div, lt, ofInt}
 use Rattle.base.specs.declared.verdict.Verdict.{Verdict}
 use Rattle.base.specs.Refusal.{refused, then-test, refuse-if}
 use Rattle.floats.specs.Scalar.{one, e-9, e-12, float-abs, in-unit}
-use Rattle.base.specs.Buffers.{tab}
+use Rattle.base.specs.Buffers.{tabulate}
 use Rattle.base.specs.Tests.{first-of}
 
 -- ---- how seams are made
@@ -21,7 +21,7 @@ part j n = div binary64 (ofInt binary64 (pos j)) (ofInt binary64 (pos n))
 -- 000's `uniform_parameters`
 unfoldable pub uniform-parameters : ℕ → List Float
 unfolding div ofInt
-uniform-parameters n = tab (λ (i : ℕ). part i n) 0 (n + 1)
+uniform-parameters n = tabulate (λ (i : ℕ). part i n) 0 (n + 1)
 
 -- "Edge i with count n gives b(i) + (b(i+1) - b(i))·(j/n)"
 unfoldable pub edge-value : List Float → ℕ → ℕ → ℕ → Float
@@ -31,7 +31,7 @@ edge-value breaks i n j = add binary64 (getD breaks i nan) (mul binary64 (sub bi
 -- "for j from 0 to n-1"
 unfoldable pub edge-values : List Float → ℕ → ℕ → List Float
 unfolding edge-value
-edge-values breaks i n = tab (edge-value breaks i n) 0 n
+edge-values breaks i n = tabulate (edge-value breaks i n) 0 n
 
 -- the edges from i on, and "last stands b(k)"
 unfoldable pub seam-from : List Float → ℕ → List ℕ → List Float

@@ -26,9 +26,9 @@ use crate::patch::row_at;
 use crate::point::PointAnswer;
 use crate::quad::clear;
 use crate::rows::copy_row;
-use crate::rows::lay_row;
 use crate::rows::needed;
 use crate::rows::row_size;
+use crate::rows::write_row;
 use base::refusal::Check;
 
 // What an output holds of a grid: its quads, or its points for a mesh.
@@ -245,7 +245,7 @@ fn grid_rows(
         }
         let lower = &low[..width];
         let upper = &high[..width];
-        let below = lay_row(layout, lower, upper, n, j, at, out);
+        let below = write_row(layout, lower, upper, n, j, at, out);
         cells = cells.and(below);
         at += row_size(layout, n, j);
         copy_row(upper, low);

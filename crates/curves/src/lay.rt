@@ -9,7 +9,7 @@ ghost use Rattle.base.specs.Refusal.{outcome, is-passed, then-test};
 ghost use Rattle.counts.specs.Region.{places, side, side-sum};
 ghost use Rattle.base.specs.Buffers.{splice};
 ghost use Rattle.curves.specs.Coons.{outcome-of};
-ghost use Rattle.curves.specs.Lay.{field, counts-along, seam-of, record-test, edges-test, breaks-test, lay-test, lay};
+ghost use Rattle.curves.specs.Lay.{tile-input, counts-along, seam-of, record-test, edges-test, breaks-test, lay-test, lay};
 use crate::coons::GridAnswer;
 use crate::coons::MAX_SEAM;
 use crate::coons::check_curve_limits;
@@ -101,7 +101,7 @@ fn check_lay(
     top: &[f64],
     left: &[f64],
 ) -> Check
-    ensures { λ r. ⌜ outcome r ≡ lay-test (now (region .entry)) n (field (now (breaks0 .entry)) (now (breaks1 .entry)) (now (breaks2 .entry)) (now (breaks3 .entry)) (now (bottom .entry)) (now (right .entry)) (now (top .entry)) (now (left .entry))) ⌝ }
+    ensures { λ r. ⌜ outcome r ≡ lay-test (now (region .entry)) n (tile-input (now (breaks0 .entry)) (now (breaks1 .entry)) (now (breaks2 .entry)) (now (breaks3 .entry)) (now (bottom .entry)) (now (right .entry)) (now (top .entry)) (now (left .entry))) ⌝ }
 {
     let of_record = check_record(region, n);
     let of_curves = check_curve_limits(bottom, right, top, left);
@@ -186,7 +186,7 @@ pub fn lay_region(
     left: &[f64],
     out: &mut [f64],
 ) -> GridAnswer
-    ensures { λ r. ⌜ outcome-of r (now (out .exit)) ≡ lay (now (region .entry)) (now (counts .entry)) (field (now (breaks0 .entry)) (now (breaks1 .entry)) (now (breaks2 .entry)) (now (breaks3 .entry)) (now (bottom .entry)) (now (right .entry)) (now (top .entry)) (now (left .entry))) (now (out .entry)) ⌝ }
+    ensures { λ r. ⌜ outcome-of r (now (out .exit)) ≡ lay (now (region .entry)) (now (counts .entry)) (tile-input (now (breaks0 .entry)) (now (breaks1 .entry)) (now (breaks2 .entry)) (now (breaks3 .entry)) (now (bottom .entry)) (now (right .entry)) (now (top .entry)) (now (left .entry))) (now (out .entry)) ⌝ }
 {
     if let Check::Refused(cause) = check_lay(
         region,

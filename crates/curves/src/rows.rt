@@ -137,7 +137,7 @@ fn lay_quads(low: &[f64], high: &[f64], n: usize, j: usize, from: usize, out: &m
 }
 
 // Writes what row j of the points adds, from an index on, and tests the cells below it (25). At the lowest row `low` is not read.
-pub(crate) fn lay_row(
+pub(crate) fn write_row(
     layout: Layout,
     low: &[f64],
     high: &[f64],

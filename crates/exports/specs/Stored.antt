@@ -4,7 +4,7 @@ use mathlib.Core.List.{List, [], _∷_}
 use Prim.Native.Nat.{ℕ}
 use lib.Ieee.{Float, ofBits, binary64}
 use Rattle.base.specs.declared.verdict.Verdict.{Verdict}
-use Rattle.counts.specs.Solver.{Move, none, made, Round, Solve, Energy, Hold}
+use Rattle.counts.specs.Solver.{MoveMade, none, made, Round, Solve, Energy, Hold}
 use Rattle.base.specs.Answers.{Answer, good, turned-away}
 use Rattle.curves.specs.Coons.{Outcome}
 
@@ -28,7 +28,7 @@ abbrev pub energy-stored : Energy → List ℕ
 energy-stored e = e .verdict .first ∷ e .verdict .second ∷ []
 
 -- "the cost of the move made, or none"
-abbrev pub is-made : Move → Bool
+abbrev pub is-made : MoveMade → Bool
 is-made none = false
 is-made (made cost) = true
 
@@ -36,7 +36,7 @@ abbrev pub round-stored : Round → List ℕ
 round-stored r = r .verdict .first ∷ r .verdict .second ∷ flag (is-made (r .move)) ∷ flag (r .cut) ∷ []
 
 -- +0.0 where no move was made
-abbrev pub cost-of : Move → Float
+abbrev pub cost-of : MoveMade → Float
 cost-of none = ofBits binary64 0
 cost-of (made cost) = cost
 

@@ -10,7 +10,7 @@ ghost use Rattle.base.specs.Answers.{verdict};
 ghost use Rattle.floats.specs.Root.{root-answer};
 ghost use Rattle.curves.specs.Grid.{seams};
 ghost use Rattle.curves.specs.Coons.{coons-seamed, coons-quads};
-ghost use Rattle.curves.specs.Lay.{field, lay};
+ghost use Rattle.curves.specs.Lay.{tile-input, lay};
 ghost use Rattle.mesh.specs.Mesh.{mesh-tile-curves};
 ghost use Rattle.mesh.specs.Tile.{coons-checked, mesh-tile};
 ghost use Rattle.exports.specs.Stored.{solve-stored, hold-stored, energy-stored, round-stored, grid-stored, cost-of, root-value};
@@ -189,9 +189,9 @@ pub extern "C" fn juplatsk_lay_region(
     out: &mut [f64],
     answer: &mut [u32; 3],
 ) -> u32
-    ensures { λ r. ⌜ r ≡ lay (now (region .entry)) (now (counts .entry)) (field (now (breaks0 .entry)) (now (breaks1 .entry)) (now (breaks2 .entry)) (now (breaks3 .entry)) (now (bottom .entry)) (now (right .entry)) (now (top .entry)) (now (left .entry))) (now (out .entry)) .verdict .number ⌝ }
-    ensures { λ _. ⌜ now (answer .exit) ≡ grid-stored (lay (now (region .entry)) (now (counts .entry)) (field (now (breaks0 .entry)) (now (breaks1 .entry)) (now (breaks2 .entry)) (now (breaks3 .entry)) (now (bottom .entry)) (now (right .entry)) (now (top .entry)) (now (left .entry))) (now (out .entry))) ⌝ }
-    ensures { λ _. ⌜ now (out .exit) ≡ lay (now (region .entry)) (now (counts .entry)) (field (now (breaks0 .entry)) (now (breaks1 .entry)) (now (breaks2 .entry)) (now (breaks3 .entry)) (now (bottom .entry)) (now (right .entry)) (now (top .entry)) (now (left .entry))) (now (out .entry)) .out ⌝ }
+    ensures { λ r. ⌜ r ≡ lay (now (region .entry)) (now (counts .entry)) (tile-input (now (breaks0 .entry)) (now (breaks1 .entry)) (now (breaks2 .entry)) (now (breaks3 .entry)) (now (bottom .entry)) (now (right .entry)) (now (top .entry)) (now (left .entry))) (now (out .entry)) .verdict .number ⌝ }
+    ensures { λ _. ⌜ now (answer .exit) ≡ grid-stored (lay (now (region .entry)) (now (counts .entry)) (tile-input (now (breaks0 .entry)) (now (breaks1 .entry)) (now (breaks2 .entry)) (now (breaks3 .entry)) (now (bottom .entry)) (now (right .entry)) (now (top .entry)) (now (left .entry))) (now (out .entry))) ⌝ }
+    ensures { λ _. ⌜ now (out .exit) ≡ lay (now (region .entry)) (now (counts .entry)) (tile-input (now (breaks0 .entry)) (now (breaks1 .entry)) (now (breaks2 .entry)) (now (breaks3 .entry)) (now (bottom .entry)) (now (right .entry)) (now (top .entry)) (now (left .entry))) (now (out .entry)) .out ⌝ }
 {
     let made = curves::lay::lay_region(
         region,

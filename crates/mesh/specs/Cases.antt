@@ -12,7 +12,7 @@ use Rattle.counts.specs.Region.{places}
 use Rattle.counts.specs.Cost.{real, Spacing, by, within}
 use Rattle.counts.specs.Solver.{none, made, Round, round, Solve, solve}
 use Rattle.floats.specs.Scalar.{nought, half, one}
-use Rattle.base.specs.Buffers.{tab}
+use Rattle.base.specs.Buffers.{tabulate}
 use Rattle.base.specs.Answers.{Answer, good}
 use Rattle.floats.specs.Root.{root-answer}
 use Rattle.curves.specs.Point.{signed-area}
@@ -45,7 +45,7 @@ pub data Case : Type 0 where
 -- the areas of n quads that an output begins with
 unfoldable pub areas : List Float → ℕ → List Float
 unfolding signed-area
-areas out n = tab (λ (k : ℕ). signed-area (point-at out (4 * k)) (point-at out (4 * k + 1)) (point-at out (4 * k + 2)) (point-at out (4 * k + 3))) 0 n
+areas out n = tabulate (λ (k : ℕ). signed-area (point-at out (4 * k)) (point-at out (4 * k + 1)) (point-at out (4 * k + 2)) (point-at out (4 * k + 3))) 0 n
 
 abbrev pub Holds : Case → Type 0
 Holds (solved regions spacing lent o) = solve regions spacing lent ≡ o
@@ -62,11 +62,11 @@ All-hold (c ∷ cs) = Holds c × All-hold cs
 -- ---- A to G: one count more is lent than is needed
 
 -- a side in its record
-abbrev pub side : List ℕ → List ℕ
-side edges = length edges ∷ edges ++ replicate (places - length edges) 0
+abbrev pub side-record : List ℕ → List ℕ
+side-record edges = length edges ∷ edges ++ replicate (places - length edges) 0
 
 abbrev pub region : List ℕ → List ℕ → List ℕ → List ℕ → List ℕ
-region bottom right top left = side bottom ++ side right ++ side top ++ side left
+region bottom right top left = side-record bottom ++ side-record right ++ side-record top ++ side-record left
 
 abbrev pub reals : List ℕ → List Float
 reals [] = []
@@ -78,29 +78,29 @@ alone edge = edge ∷ []
 abbrev pub lent-counts : ℕ → List ℕ
 lent-counts n = replicate n 9 ++ 7 ∷ []
 
-abbrev pub accepted : List ℕ → List ℕ → ℕ → List ℕ → Case
-accepted regions ideals moves counts =
+abbrev pub solves-to : List ℕ → List ℕ → ℕ → List ℕ → Case
+solves-to regions ideals moves counts =
     solved regions (by (reals ideals)) (lent-counts (length ideals)) (record { verdict = passed; moves = moves; counts = counts ++ 7 ∷ [] })
 
 abbrev pub case-A : Case
 case-A =
-    accepted (region (alone 0) (alone 1) (alone 2) (alone 3) ++ region (alone 4) (alone 5) (alone 6) (alone 1)) (4 ∷ 2 ∷ 4 ∷ 2 ∷ 2 ∷ 2 ∷ 2 ∷ [])
+    solves-to (region (alone 0) (alone 1) (alone 2) (alone 3) ++ region (alone 4) (alone 5) (alone 6) (alone 1)) (4 ∷ 2 ∷ 4 ∷ 2 ∷ 2 ∷ 2 ∷ 2 ∷ [])
     8 (4 ∷ 2 ∷ 4 ∷ 2 ∷ 2 ∷ 2 ∷ 2 ∷ [])
 
 abbrev pub case-B : Case
-case-B = accepted (region (alone 0) (alone 1) (alone 2) (alone 3)) (5 ∷ 3 ∷ 1 ∷ 3 ∷ []) 4 (1 ∷ 3 ∷ 1 ∷ 3 ∷ [])
+case-B = solves-to (region (alone 0) (alone 1) (alone 2) (alone 3)) (5 ∷ 3 ∷ 1 ∷ 3 ∷ []) 4 (1 ∷ 3 ∷ 1 ∷ 3 ∷ [])
 
 abbrev pub case-C : Case
-case-C = accepted (region (alone 0) (alone 1) (2 ∷ 3 ∷ []) (alone 4)) (4 ∷ 1 ∷ 2 ∷ 2 ∷ 1 ∷ []) 5 (4 ∷ 1 ∷ 2 ∷ 2 ∷ 1 ∷ [])
+case-C = solves-to (region (alone 0) (alone 1) (2 ∷ 3 ∷ []) (alone 4)) (4 ∷ 1 ∷ 2 ∷ 2 ∷ 1 ∷ []) 5 (4 ∷ 1 ∷ 2 ∷ 2 ∷ 1 ∷ [])
 
 abbrev pub case-D : Case
-case-D = accepted [] [] 0 []
+case-D = solves-to [] [] 0 []
 
 abbrev pub case-E : Case
-case-E = accepted (region (alone 0) [] [] []) (alone 3) 0 (alone 0)
+case-E = solves-to (region (alone 0) [] [] []) (alone 3) 0 (alone 0)
 
 abbrev pub case-F : Case
-case-F = accepted (region (alone 0) [] (alone 1) [] ++ region (alone 0) [] (alone 1) []) (1 ∷ 1 ∷ []) 1 (1 ∷ 1 ∷ [])
+case-F = solves-to (region (alone 0) [] (alone 1) [] ++ region (alone 0) [] (alone 1) []) (1 ∷ 1 ∷ []) 1 (1 ∷ 1 ∷ [])
 
 abbrev pub case-G : Case
 case-G =

@@ -7,7 +7,7 @@ use lib.Dec.{leb}
 use lib.Ieee.{Float}
 use Rattle.base.specs.declared.verdict.Verdict.{Verdict}
 use Rattle.base.specs.Refusal.{is-passed}
-use Rattle.base.specs.Buffers.{tab, cat, splice}
+use Rattle.base.specs.Buffers.{tabulate, concat-tabulate, splice}
 use Rattle.curves.specs.Coons.{Outcome, outcome-of, coons-nodes}
 use Rattle.curves.specs.declared.coons.GridAnswer.{GridAnswer}
 
@@ -32,18 +32,18 @@ cell n j i = grid-index n i j ∷ grid-index n (i + 1) j ∷ grid-index n (i + 1
 
 unfoldable pub row-cells : ℕ → ℕ → List ℕ
 unfolding cell
-row-cells n j = cat (cell n j) 0 n
+row-cells n j = concat-tabulate (cell n j) 0 n
 
 unfoldable pub mesh-cells : ℕ → ℕ → List ℕ
 unfolding row-cells
-mesh-cells n m = cat (row-cells n) 0 m
+mesh-cells n m = concat-tabulate (row-cells n) 0 m
 
 abbrev pub needed-cells : ℕ → ℕ → ℕ
 needed-cells n m = 4 * (m * n)
 
 -- "Point indices become 0 where coordinates become +0.0."
 abbrev pub no-cells : ℕ → List ℕ
-no-cells k = tab (λ (i : ℕ). 0) 0 k
+no-cells k = tabulate (λ (i : ℕ). 0) 0 k
 
 -- 23 to 25: "needed output +0.0"
 abbrev pub zeroes : Verdict → Bool

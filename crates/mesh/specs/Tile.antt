@@ -12,13 +12,13 @@ use Rattle.mesh.specs.Loop.{loop-test, piece}
 use Rattle.mesh.specs.Mesh.{Mesh, mesh-tile-curves}
 
 -- "n_u and n_v at most 1,024": 1, which comes before 12
-unfoldable pub cells-test : ℕ → ℕ → Verdict
-cells-test n m = refuse-if (ltb 1024 n || ltb 1024 m) (refused 1 0 0)
+unfoldable pub cell-limits-test : ℕ → ℕ → Verdict
+cell-limits-test n m = refuse-if (ltb 1024 n || ltb 1024 m) (refused 1 0 0)
 
 -- "1, 12"; the tests from 26 on are those of the four curves
 unfoldable pub tile-test : List Float → ℕ → ℕ → Verdict
-unfolding cells-test loop-test
-tile-test boundary n m = then-test (cells-test n m) (loop-test boundary)
+unfolding cell-limits-test loop-test
+tile-test boundary n m = then-test (cell-limits-test n m) (loop-test boundary)
 
 unfoldable pub coons-checked : List Float → ℕ → ℕ → List Float → Outcome
 unfolding tile-test piece

@@ -10,7 +10,7 @@ use lib.ListN.{length, getD, set, take, length-set}
 use lib.Seq.{getD-set-other}
 use lib.Dec.{T, eqb, eqb→eq, ltb, not-T}
 use Rattle.base.specs.Lists.{In, member, Distinct}
-use Rattle.counts.specs.Move.{Change, edges, allowed, changed, apply-changes}
+use Rattle.counts.specs.Move.{Change, edges, is-allowed, changed, apply-changes}
 use Rattle.counts.specs.inner.Tables.{decoded, all-decoded, path-of}
 use Rattle.counts.specs.inner.RoundContract.{CanApply}
 use Rattle.base.proofs.BoolLaws.{clash, or-split, or-left, or-right, eq→eqb}

@@ -13,7 +13,7 @@ use lib.Ieee.{Float, nan}
 use Rattle.base.specs.Lists.{In, Distinct, each}
 use Rattle.base.specs.Refusal.{is-passed}
 use Rattle.counts.specs.Region.{Constraint, constraint, holds, graph, places}
-use Rattle.counts.specs.Move.{Change, EdgeCost, edges, allowed}
+use Rattle.counts.specs.Move.{Change, EdgeCost, edges, is-allowed}
 use Rattle.counts.specs.Cost.{CostModel}
 use Rattle.counts.specs.inner.Tables.{Entries, the-graph, cost-in, allowed-in}
 use Rattle.counts.specs.Search.{State, run}
@@ -27,51 +27,51 @@ use Rattle.counts.proofs.search.Same.{run-same}
 
 -- ---- tables filled edge by edge
 
-pub entry-cost : (counts : List ℕ) (model : CostModel) (costs : List Float) (may : List Bool) (y : ℕ) (s : Bool) → Entries counts model costs may y → cost-in costs y s ≡ model counts y s
-entry-cost counts model costs may y true r = r .plus-cost
-entry-cost counts model costs may y false r = ap (λ (k : ℕ). getD costs k nan) (add-zero (y * 2)) ∙ r .minus-cost
+pub entry-cost : (counts : List ℕ) (model : CostModel) (costs : List Float) (allowed : List Bool) (y : ℕ) (s : Bool) → Entries counts model costs allowed y → cost-in costs y s ≡ model counts y s
+entry-cost counts model costs allowed y true r = r .plus-cost
+entry-cost counts model costs allowed y false r = ap (λ (k : ℕ). getD costs k nan) (add-zero (y * 2)) ∙ r .minus-cost
 
-pub entry-may : (counts : List ℕ) (model : CostModel) (costs : List Float) (may : List Bool) (y : ℕ) (s : Bool) → Entries counts model costs may y → allowed-in may y s ≡ allowed counts y s
-entry-may counts model costs may y true r = r .plus-may
-entry-may counts model costs may y false r = ap (λ (k : ℕ). getD may k false) (add-zero (y * 2)) ∙ r .minus-may
+pub entry-allowed : (counts : List ℕ) (model : CostModel) (costs : List Float) (allowed : List Bool) (y : ℕ) (s : Bool) → Entries counts model costs allowed y → allowed-in allowed y s ≡ is-allowed counts y s
+entry-allowed counts model costs allowed y true r = r .plus-allowed
+entry-allowed counts model costs allowed y false r = ap (λ (k : ℕ). getD allowed k false) (add-zero (y * 2)) ∙ r .minus-allowed
 
-pub priced : (counts : List ℕ) (model : CostModel) (costs : List Float) (may : List Bool) → ((y : ℕ) → y < length counts → Entries counts model costs may y)
-    → (length costs ≡ 512) × (length may ≡ 512) → Priced model counts costs may
-priced counts model costs may e l =
+pub priced : (counts : List ℕ) (model : CostModel) (costs : List Float) (allowed : List Bool) → ((y : ℕ) → y < length counts → Entries counts model costs allowed y)
+    → (length costs ≡ 512) × (length allowed ≡ 512) → Priced model counts costs allowed
+priced counts model costs allowed e l =
     record {
       costs-long = l .0;
-      may-long = l .1;
-      cost-is = λ y s h. entry-cost counts model costs may y s (e y h);
-      may-is = λ y s h. entry-may counts model costs may y s (e y h);
+      allowed-long = l .1;
+      cost-is = λ y s h. entry-cost counts model costs allowed y s (e y h);
+      allowed-is = λ y s h. entry-allowed counts model costs allowed y s (e y h);
     }
 
 -- ---- costs that agree below n find the same
 
-module _ (g : List Constraint) (n : ℕ) (ok : Accepted n g) (limit : ℕ) (cost cost' : EdgeCost) (may may' : ℕ → Bool → Bool)
-    (same-cost : (y : ℕ) (s : Bool) → y < n → cost y s ≡ cost' y s) (same-may : (y : ℕ) (s : Bool) → y < n → may y s ≡ may' y s) where
-  start-same : (z : Change) (b : Found) → z .0 < n → try-start g cost may limit z b ≡ try-start g cost' may' limit z b
+module _ (g : List Constraint) (n : ℕ) (ok : Accepted n g) (limit : ℕ) (cost cost' : EdgeCost) (allowed allowed' : ℕ → Bool → Bool)
+    (same-cost : (y : ℕ) (s : Bool) → y < n → cost y s ≡ cost' y s) (same-allowed : (y : ℕ) (s : Bool) → y < n → allowed y s ≡ allowed' y s) where
+  start-same : (z : Change) (b : Found) → z .0 < n → try-start g cost allowed limit z b ≡ try-start g cost' allowed' limit z b
   unfolding try-start
   start-same z b h =
-      ap (λ (t : Bool). cond t (weigh (run g cost may limit (z .0) (z .1))) (λ b. b) b) (same-may (z .0) (z .1) h)
-      ∙ ap (λ (st : State). cond (may' (z .0) (z .1)) (weigh st) (λ b. b) b)
-      (run-same g cost cost' may may' limit (z .0) (z .1) (λ (y : ℕ). ltb y n) (λ i x y hx hy k. ok .constraint-ok i .inside y hy)
-      (λ y s k. same-cost y s (ltb→lt y n k)) (λ y s k. same-may y s (ltb→lt y n k)) (lt→ltb (z .0) n h))
+      ap (λ (t : Bool). cond t (weigh (run g cost allowed limit (z .0) (z .1))) (λ b. b) b) (same-allowed (z .0) (z .1) h)
+      ∙ ap (λ (st : State). cond (allowed' (z .0) (z .1)) (weigh st) (λ b. b) b)
+      (run-same g cost cost' allowed allowed' limit (z .0) (z .1) (λ (y : ℕ). ltb y n) (λ i x y hx hy k. ok .constraint-ok i .inside y hy)
+      (λ y s k. same-cost y s (ltb→lt y n k)) (λ y s k. same-allowed y s (ltb→lt y n k)) (lt→ltb (z .0) n h))
 
-  starts-same : (l : List Change) (b : Found) → ((z : Change) → In z l → z .0 < n) → each (try-start g cost may limit) l b ≡ each (try-start g cost' may' limit) l b
+  starts-same : (l : List Change) (b : Found) → ((z : Change) → In z l → z .0 < n) → each (try-start g cost allowed limit) l b ≡ each (try-start g cost' allowed' limit) l b
   starts-same [] b h = refl
   starts-same (z ∷ l) b h =
-      ap (each (try-start g cost may limit) l) (start-same z b (h z (inl refl))) ∙ starts-same l (try-start g cost' may' limit z b) (λ w i. h w (inr i))
+      ap (each (try-start g cost allowed limit) l) (start-same z b (h z (inl refl))) ∙ starts-same l (try-start g cost' allowed' limit z b) (λ w i. h w (inr i))
 
-  pub find-same : find-augmentation g cost may limit n ≡ find-augmentation g cost' may' limit n
+  pub find-same : find-augmentation g cost allowed limit n ≡ find-augmentation g cost' allowed' limit n
   unfolding find-augmentation
   find-same = starts-same (starts 0 n) nothing-found (λ z i. subst (λ (m : ℕ). z .0 < m) (zero-add n) (starts-below 0 n z i))
 
-pub by-tables : (regions : List ℕ) (costs : CostModel) (counts : List ℕ) (limit : ℕ) (table : List Float) (may : List Bool) → Accepted (length counts) (the-graph regions)
-    → Priced costs counts table may
-    → find-augmentation (the-graph regions) (cost-in table) (allowed-in may) limit (length counts) ≡ find-move (the-graph regions) costs counts limit
+pub by-tables : (regions : List ℕ) (costs : CostModel) (counts : List ℕ) (limit : ℕ) (table : List Float) (allowed : List Bool) → Accepted (length counts) (the-graph regions)
+    → Priced costs counts table allowed
+    → find-augmentation (the-graph regions) (cost-in table) (allowed-in allowed) limit (length counts) ≡ find-move (the-graph regions) costs counts limit
 unfolding find-move
-by-tables regions costs counts limit table may ok p =
-    find-same (the-graph regions) (length counts) ok limit (cost-in table) (costs counts) (allowed-in may) (allowed counts) (p .cost-is) (p .may-is)
+by-tables regions costs counts limit table allowed ok p =
+    find-same (the-graph regions) (length counts) ok limit (cost-in table) (costs counts) (allowed-in allowed) (is-allowed counts) (p .cost-is) (p .allowed-is)
 
 -- ---- what is found can be made
 
@@ -90,7 +90,7 @@ can-apply g costs counts limit ok small = go (found g counts ok costs limit)
         record {
           distinct = r .move .distinct;
           below = λ z i. ltb→lt (z .0) (length counts) (every-in (λ (w : Change). ltb (w .0) (length counts)) (b .best) (r .move .there) z i);
-          down = λ z i. every-in (λ (w : Change). allowed counts (w .0) (w .1)) (b .best) (r .move .down) z i;
+          down = λ z i. every-in (λ (w : Change). is-allowed counts (w .0) (w .1)) (b .best) (r .move .down) z i;
           small = small;
         }
 
@@ -101,9 +101,9 @@ not-known zero c e = let z : T false = subst T (sym e) tt in z
 not-known (suc n) zero e = let z : T false = subst T (sym e) tt in z
 not-known (suc n) (suc c) e = not-known n c e
 
-pub nothing-known : (regions : List ℕ) (costs : List Float) (may : List Bool) (limit : ℕ) (kept : List Float) (cut known : List Bool) → length kept ≡ 512 → length cut ≡ 512 → known ≡ replicate 512 false
-    → Remembered regions costs may limit kept cut known
-nothing-known regions costs may limit kept cut known k t e =
+pub nothing-known : (regions : List ℕ) (costs : List Float) (allowed : List Bool) (limit : ℕ) (kept : List Float) (cut known : List Bool) → length kept ≡ 512 → length cut ≡ 512 → known ≡ replicate 512 false
+    → Remembered regions costs allowed limit kept cut known
+nothing-known regions costs allowed limit kept cut known k t e =
     record {
       kept-long = k;
       cut-long = t;

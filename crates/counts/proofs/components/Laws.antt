@@ -12,7 +12,7 @@ use lib.Seq.{getD-set-same, getD-set-other}
 use lib.Dec.{T, eqb, ltb, eqb→eq, ltb→lt, nltb→le}
 use lib.Ieee.{Float, nan}
 use Rattle.counts.specs.Cost.{CostModel}
-use Rattle.counts.specs.inner.Tables.{set-both, Entries, none}
+use Rattle.counts.specs.inner.Tables.{set-both, Entries, no-constraint}
 use Rattle.counts.specs.inner.Components.{At, Labels, renamed, StillEqual, OneMark, Taken, Outside, EdgeRefreshed, Refreshed}
 use Rattle.base.proofs.BoolLaws.{by-cases, eq→eqb, cond-yes, clash}
 use Rattle.counts.proofs.cost.Laws.{both-plus, both-minus, both-other, length-both, entries-kept, entries-new}
@@ -55,7 +55,7 @@ join-more incident marks marks' e s old =
 
 -- ---- labels
 
-pub taken-more : (incident marks labels : List ℕ) (e v : ℕ) → e < length labels → (getD incident (e * 2) 0 < none → v ≡ getD marks (getD incident (e * 2) 0) 0)
+pub taken-more : (incident marks labels : List ℕ) (e v : ℕ) → e < length labels → (getD incident (e * 2) 0 < no-constraint → v ≡ getD marks (getD incident (e * 2) 0) 0)
     → ((x : ℕ) → x < e → Taken incident marks labels x) → (x : ℕ) → x < e + 1 → Taken incident marks (set labels e v) x
 taken-more incident marks labels e v h is old =
     below-more (Taken incident marks (set labels e v)) e
@@ -66,8 +66,8 @@ pub labelled : (n : ℕ) (incident marks labels : List ℕ) → ((x : ℕ) → x
 labelled n incident marks labels one-mark taken i x y hi hx hy ax ay = at x hx ax ∙ sym (at y hy ay)
   where
     at : (z : ℕ) → z < n → At incident i z → getD labels z 0 ≡ getD marks i 0
-    at z h (inl e) = taken z h (subst (λ (k : ℕ). k < none) (sym e) hi) ∙ ap (λ (k : ℕ). getD marks k 0) e
-    at z h (inr p) = taken z h (p .0) ∙ one-mark z h (p .0) (subst (λ (k : ℕ). k < none) (sym (p .1)) hi) ∙ ap (λ (k : ℕ). getD marks k 0) (p .1)
+    at z h (inl e) = taken z h (subst (λ (k : ℕ). k < no-constraint) (sym e) hi) ∙ ap (λ (k : ℕ). getD marks k 0) e
+    at z h (inr p) = taken z h (p .0) ∙ one-mark z h (p .0) (subst (λ (k : ℕ). k < no-constraint) (sym (p .1)) hi) ∙ ap (λ (k : ℕ). getD marks k 0) (p .1)
 
 -- ---- the edges of one part
 
@@ -84,38 +84,38 @@ forgotten l e k h q =
     odd : (k ≡ e * 2 → ⊥) → k ≡ e * 2 + 1
     odd n = omega (arith, q, n)
 
-module _ (labels : List ℕ) (part : ℕ) (counts : List ℕ) (model : CostModel) (costs : List Float) (may known : List Bool) where
+module _ (labels : List ℕ) (part : ℕ) (counts : List ℕ) (model : CostModel) (costs : List Float) (allowed known : List Bool) where
   abbrev So-far : ℕ → List Float → List Bool → List Bool → Type 0
-  So-far m = Refreshed m labels part counts model costs may known
+  So-far m = Refreshed m labels part counts model costs allowed known
 
-  pub refresh-none : length costs ≡ 512 → length may ≡ 512 → length known ≡ 512 → So-far 0 costs may known
+  pub refresh-none : length costs ≡ 512 → length allowed ≡ 512 → length known ≡ 512 → So-far 0 costs allowed known
   refresh-none c m k =
       record {
         costs-long = c;
-        may-long = m;
+        allowed-long = m;
         known-long = k;
         fresh = λ y l. absurd (omega arith);
         same-cost = λ k o. refl;
-        same-may = λ k o. refl;
+        same-allowed = λ k o. refl;
         still-known = λ k q. (λ l. absurd (omega arith), q);
       }
 
-  pub refresh-done : (e m : ℕ) → e ≡ m → (costs₁ : List Float) (may₁ known₁ : List Bool) → So-far e costs₁ may₁ known₁ → So-far m costs₁ may₁ known₁
-  refresh-done e m q costs₁ may₁ known₁ r = subst (λ (k : ℕ). So-far k costs₁ may₁ known₁) q r
+  pub refresh-done : (e m : ℕ) → e ≡ m → (costs₁ : List Float) (allowed₁ known₁ : List Bool) → So-far e costs₁ allowed₁ known₁ → So-far m costs₁ allowed₁ known₁
+  refresh-done e m q costs₁ allowed₁ known₁ r = subst (λ (k : ℕ). So-far k costs₁ allowed₁ known₁) q r
 
-  module _ (e : ℕ) (h : e < 256) (costs₁ : List Float) (may₁ known₁ : List Bool) (r : So-far e costs₁ may₁ known₁) where
+  module _ (e : ℕ) (h : e < 256) (costs₁ : List Float) (allowed₁ known₁ : List Bool) (r : So-far e costs₁ allowed₁ known₁) where
     wider : (k : ℕ) → Outside (e + 1) labels part (k / 2) → Outside e labels part (k / 2)
     wider k o l = o (omega (arith, l))
 
-    not-here : getD labels e 0 ≢ part → So-far (e + 1) costs₁ may₁ known₁
+    not-here : getD labels e 0 ≢ part → So-far (e + 1) costs₁ allowed₁ known₁
     not-here n =
         record {
           costs-long = r .costs-long;
-          may-long = r .may-long;
+          allowed-long = r .allowed-long;
           known-long = r .known-long;
-          fresh = below-more (λ (y : ℕ). getD labels y 0 ≡ part → Entries counts model costs₁ may₁ y) e (r .fresh) (λ q. absurd (n q));
+          fresh = below-more (λ (y : ℕ). getD labels y 0 ≡ part → Entries counts model costs₁ allowed₁ y) e (r .fresh) (λ q. absurd (n q));
           same-cost = λ k o. r .same-cost k (wider k o);
-          same-may = λ k o. r .same-may k (wider k o);
+          same-allowed = λ k o. r .same-allowed k (wider k o);
           still-known = λ k q. (
             outside-more e labels part (k / 2) (r .still-known k q .0) (λ u. subst (λ (y : ℕ). getD labels y 0 ≢ part) (sym u) n),
             r .still-known k q .1,
@@ -141,30 +141,30 @@ module _ (labels : List ℕ) (part : ℕ) (counts : List ℕ) (model : CostModel
           let s = r .still-known k (sym (both-other known₁ e k false false false n) ∙ q) in
           (outside-more e labels part (k / 2) (s .0) (λ u. absurd (n u)), s .1)
 
-      pub here : So-far (e + 1) (set-both costs₁ e a b) (set-both may₁ e true t) (set-both known₁ e false false)
+      pub here : So-far (e + 1) (set-both costs₁ e a b) (set-both allowed₁ e true t) (set-both known₁ e false false)
       here =
           record {
             costs-long = length-both costs₁ e a b ∙ r .costs-long;
-            may-long = length-both may₁ e true t ∙ r .may-long;
+            allowed-long = length-both allowed₁ e true t ∙ r .allowed-long;
             known-long = length-both known₁ e false false ∙ r .known-long;
-            fresh = below-more (λ (y : ℕ). getD labels y 0 ≡ part → Entries counts model (set-both costs₁ e a b) (set-both may₁ e true t) y) e
-                (λ y l q. entries-kept counts model costs₁ may₁ e a b t y (λ u. omega (arith, u, l)) (r .fresh y l q))
-                (λ q. entries-new counts model costs₁ may₁ e a b t (let l = r .costs-long in omega (arith, l, h)) (let l = r .may-long in omega (arith, l, h))
+            fresh = below-more (λ (y : ℕ). getD labels y 0 ≡ part → Entries counts model (set-both costs₁ e a b) (set-both allowed₁ e true t) y) e
+                (λ y l q. entries-kept counts model costs₁ allowed₁ e a b t y (λ u. omega (arith, u, l)) (r .fresh y l q))
+                (λ q. entries-new counts model costs₁ allowed₁ e a b t (let l = r .costs-long in omega (arith, l, h)) (let l = r .allowed-long in omega (arith, l, h))
                 (is true) (is false) refl);
             same-cost = λ k o. both-other costs₁ e k a b nan (elsewhere k o) ∙ r .same-cost k (wider k o);
-            same-may = λ k o. both-other may₁ e k true t false (elsewhere k o) ∙ r .same-may k (wider k o);
+            same-allowed = λ k o. both-other allowed₁ e k true t false (elsewhere k o) ∙ r .same-allowed k (wider k o);
             still-known = still;
           }
 
-    pub refresh-more : (price : Bool → Float) (costs₂ : List Float) (may₂ known₂ : List Bool) → ((d : Bool) → price d ≡ model counts e d)
-        → EdgeRefreshed (getD labels e 0) part (getD counts e 0) price e costs₁ may₁ known₁ costs₂ may₂ known₂ → So-far (e + 1) costs₂ may₂ known₂
-    refresh-more price costs₂ may₂ known₂ is (inl q) = carried (q .1) (q .2) (q .3) (not-here (q .0))
+    pub refresh-more : (price : Bool → Float) (costs₂ : List Float) (allowed₂ known₂ : List Bool) → ((d : Bool) → price d ≡ model counts e d)
+        → EdgeRefreshed (getD labels e 0) part (getD counts e 0) price e costs₁ allowed₁ known₁ costs₂ allowed₂ known₂ → So-far (e + 1) costs₂ allowed₂ known₂
+    refresh-more price costs₂ allowed₂ known₂ is (inl q) = carried (q .1) (q .2) (q .3) (not-here (q .0))
       where
-        carried : costs₂ ≡ costs₁ → may₂ ≡ may₁ → known₂ ≡ known₁ → So-far (e + 1) costs₁ may₁ known₁ → So-far (e + 1) costs₂ may₂ known₂
+        carried : costs₂ ≡ costs₁ → allowed₂ ≡ allowed₁ → known₂ ≡ known₁ → So-far (e + 1) costs₁ allowed₁ known₁ → So-far (e + 1) costs₂ allowed₂ known₂
         carried c m k w =
-            subst (λ (l : List Float). So-far (e + 1) l may₂ known₂) (sym c)
-            (subst (λ (l : List Bool). So-far (e + 1) costs₁ l known₂) (sym m) (subst (λ (l : List Bool). So-far (e + 1) costs₁ may₁ l) (sym k) w))
-    refresh-more price costs₂ may₂ known₂ is (inr q) =
-        subst (λ (l : List Float). So-far (e + 1) l may₂ known₂) (sym (q .1))
+            subst (λ (l : List Float). So-far (e + 1) l allowed₂ known₂) (sym c)
+            (subst (λ (l : List Bool). So-far (e + 1) costs₁ l known₂) (sym m) (subst (λ (l : List Bool). So-far (e + 1) costs₁ allowed₁ l) (sym k) w))
+    refresh-more price costs₂ allowed₂ known₂ is (inr q) =
+        subst (λ (l : List Float). So-far (e + 1) l allowed₂ known₂) (sym (q .1))
         (subst (λ (l : List Bool). So-far (e + 1) (set-both costs₁ e (a price is (q .0)) (b price is (q .0))) l known₂) (sym (q .2))
-        (subst (λ (l : List Bool). So-far (e + 1) (set-both costs₁ e (a price is (q .0)) (b price is (q .0))) (set-both may₁ e true (t price is (q .0))) l) (sym (q .3)) (here price is (q .0))))
+        (subst (λ (l : List Bool). So-far (e + 1) (set-both costs₁ e (a price is (q .0)) (b price is (q .0))) (set-both allowed₁ e true (t price is (q .0))) l) (sym (q .3)) (here price is (q .0))))

@@ -10,7 +10,7 @@ use lib.ListN.{length, getD, set, drop, length-set, drop-of-length-le}
 use lib.Seq.{getD-set-same, getD-set-other}
 use lib.Dec.{ltb}
 use lib.Ieee.{Float, nan, add, binary64}
-use Rattle.counts.specs.Move.{allowed}
+use Rattle.counts.specs.Move.{is-allowed}
 use Rattle.floats.specs.Scalar.{one}
 use Rattle.counts.specs.Cost.{real, deviation, square, range-delta, CostModel, by-ranges, Local, energy-from}
 use Rattle.counts.specs.inner.Tables.{set-both, Entries}
@@ -42,45 +42,45 @@ length-both l e a b = length-set (set l (e * 2 + 1) a) (e * 2) b ∙ length-set 
 
 -- ---- the entries of one edge
 
-module _ (counts : List ℕ) (model : CostModel) (costs : List Float) (may : List Bool) (e : ℕ) (a b : Float) (t : Bool) where
+module _ (counts : List ℕ) (model : CostModel) (costs : List Float) (allowed : List Bool) (e : ℕ) (a b : Float) (t : Bool) where
   abbrev costs-then : List Float
   costs-then = set-both costs e a b
 
   abbrev may-then : List Bool
-  may-then = set-both may e true t
+  may-then = set-both allowed e true t
 
-  pub entries-kept : (y : ℕ) → y ≢ e → Entries counts model costs may y → Entries counts model costs-then may-then y
+  pub entries-kept : (y : ℕ) → y ≢ e → Entries counts model costs allowed y → Entries counts model costs-then may-then y
   entries-kept y n old =
       record {
         plus-cost = both-other costs e (y * 2 + 1) a b nan (λ q. n (omega (arith, q))) ∙ old .plus-cost;
         minus-cost = both-other costs e (y * 2) a b nan (λ q. n (omega (arith, q))) ∙ old .minus-cost;
-        plus-may = both-other may e (y * 2 + 1) true t false (λ q. n (omega (arith, q))) ∙ old .plus-may;
-        minus-may = both-other may e (y * 2) true t false (λ q. n (omega (arith, q))) ∙ old .minus-may;
+        plus-allowed = both-other allowed e (y * 2 + 1) true t false (λ q. n (omega (arith, q))) ∙ old .plus-allowed;
+        minus-allowed = both-other allowed e (y * 2) true t false (λ q. n (omega (arith, q))) ∙ old .minus-allowed;
       }
 
-  pub entries-new : e * 2 + 1 < length costs → e * 2 + 1 < length may → a ≡ model counts e true → b ≡ model counts e false → t ≡ allowed counts e false → Entries counts model costs-then may-then e
+  pub entries-new : e * 2 + 1 < length costs → e * 2 + 1 < length allowed → a ≡ model counts e true → b ≡ model counts e false → t ≡ is-allowed counts e false → Entries counts model costs-then may-then e
   entries-new h k p q r =
       record {
         plus-cost = both-plus costs e a b nan h ∙ p;
         minus-cost = both-minus costs e a b nan h ∙ q;
-        plus-may = both-plus may e true t false k;
-        minus-may = both-minus may e true t false k ∙ r;
+        plus-allowed = both-plus allowed e true t false k;
+        minus-allowed = both-minus allowed e true t false k ∙ r;
       }
 
 -- a turn of the loop that fills the tables: edge e has the entries of its price
-pub entries-more : (counts : List ℕ) (model : CostModel) (costs : List Float) (may : List Bool) (e : ℕ) (price : Bool → Float) (costs' : List Float) (may' : List Bool)
-    → e * 2 + 1 < length costs → e * 2 + 1 < length may → ((d : Bool) → price d ≡ model counts e d)
-    → (costs' ≡ set-both costs e (price true) (price false)) × (may' ≡ set-both may e true (ltb 0 (getD counts e 0)))
-    → ((y : ℕ) → y < e → Entries counts model costs may y) → (y : ℕ) → y < e + 1 → Entries counts model costs' may' y
-entries-more counts model costs may e price costs' may' h k i q old y l =
+pub entries-more : (counts : List ℕ) (model : CostModel) (costs : List Float) (allowed : List Bool) (e : ℕ) (price : Bool → Float) (costs' : List Float) (allowed' : List Bool)
+    → e * 2 + 1 < length costs → e * 2 + 1 < length allowed → ((d : Bool) → price d ≡ model counts e d)
+    → (costs' ≡ set-both costs e (price true) (price false)) × (allowed' ≡ set-both allowed e true (ltb 0 (getD counts e 0)))
+    → ((y : ℕ) → y < e → Entries counts model costs allowed y) → (y : ℕ) → y < e + 1 → Entries counts model costs' allowed' y
+entries-more counts model costs allowed e price costs' allowed' h k i q old y l =
     let a = price true in
     let b = price false in
     let t = ltb 0 (getD counts e 0) in
-    let here : Entries counts model (set-both costs e a b) (set-both may e true t) y =
-    below-more (Entries counts model (set-both costs e a b) (set-both may e true t)) e
-    (λ z m. entries-kept counts model costs may e a b t z (λ u. omega (arith, u, m)) (old z m))
-    (entries-new counts model costs may e a b t h k (i true) (i false) refl) y l in
-    subst (λ (m : List Bool). Entries counts model costs' m y) (sym (q .1)) (subst (λ (c : List Float). Entries counts model c (set-both may e true t) y) (sym (q .0)) here)
+    let here : Entries counts model (set-both costs e a b) (set-both allowed e true t) y =
+    below-more (Entries counts model (set-both costs e a b) (set-both allowed e true t)) e
+    (λ z m. entries-kept counts model costs allowed e a b t z (λ u. omega (arith, u, m)) (old z m))
+    (entries-new counts model costs allowed e a b t h k (i true) (i false) refl) y l in
+    subst (λ (m : List Bool). Entries counts model costs' m y) (sym (q .1)) (subst (λ (c : List Float). Entries counts model c (set-both allowed e true t) y) (sym (q .0)) here)
 
 -- the price of an edge by its range, whatever stands past the ends of the lists
 pub range-price : (counts : List ℕ) (least most : List Float) (e : ℕ) (d d' : Float) → e < length least → e < length most

@@ -17,7 +17,7 @@ use Rattle.base.specs.declared.verdict.Verdict.{Verdict}
 use Rattle.base.specs.Refusal.{passed, refused, outcome, verdict-of, then-test, refuse-if, is-passed}
 use Rattle.counts.specs.Region.{Constraint, places, region-count, constraint, holds, incidence}
 use Rattle.counts.specs.Accept.{records-whole, sides-fit, limits-test, pairs-test, overused-test}
-use Rattle.counts.specs.inner.Tables.{the-graph, none, edges-of, across, StandsOn, Tables}
+use Rattle.counts.specs.inner.Tables.{the-graph, no-constraint, edges-of, across, StandsOn, Tables}
 use Rattle.counts.specs.inner.Graph.{first-side, second-side, side-of, PairTested, Tested, Placed, Filled}
 use Rattle.base.specs.declared.refusal.Check.the-variants.{Passed, Refused}
 use Rattle.base.specs.declared.refusal.Refusal.the-variants.{EdgeOverused}
@@ -230,18 +230,18 @@ tables n regions incident own uses t1 t3 t6 f =
           | inr t ↦ short (incidence (the-graph regions) y) (λ i j. clash (ltb y n) (ok i .inside y (incidence→holds (the-graph regions) i y j)) t)
         ]
 
-    stands-at : (y k : ℕ) → y < 256 → k < 2 → getD incident (y * 2 + k) 0 < none
+    stands-at : (y k : ℕ) → y < 256 → k < 2 → getD incident (y * 2 + k) 0 < no-constraint
         → StandsOn regions (getD incident (y * 2 + k) 0) y (getD own (y * 2 + k) 0)
     stands-at y k ly lk h =
         let i = getD incident (y * 2 + k) 0 in
         let e = f .incident-is y k ly lk in
-        let j = getD-in (incidence (the-graph regions) y) k none (subst (λ (m : ℕ). m < none) e h) in
+        let j = getD-in (incidence (the-graph regions) y) k no-constraint (subst (λ (m : ℕ). m < no-constraint) e h) in
         let held = incidence→holds (the-graph regions) i y (subst (λ (m : ℕ). In m (incidence (the-graph regions) y)) (sym e) j) in
         let r = in-range i y held in
         subst (StandsOn regions i y) (sym (f .own-is y k ly lk h)) (stands-on regions i y (tested n regions t1 t3 .pair-tested i r) r)
 
-    stands : (p : ℕ) → p < 512 → getD incident p 0 < none → StandsOn regions (getD incident p 0) (p / 2) (getD own p 0)
+    stands : (p : ℕ) → p < 512 → getD incident p 0 < no-constraint → StandsOn regions (getD incident p 0) (p / 2) (getD own p 0)
     stands p l h =
         let e : p / 2 * 2 + p % 2 ≡ p = omega arith in
         subst (λ (q : ℕ). StandsOn regions (getD incident q 0) (p / 2) (getD own q 0)) e
-        (stands-at (p / 2) (p % 2) (omega arith) (omega arith) (subst (λ (q : ℕ). getD incident q 0 < none) (sym e) h))
+        (stands-at (p / 2) (p % 2) (omega arith) (omega arith) (subst (λ (q : ℕ). getD incident q 0 < no-constraint) (sym e) h))

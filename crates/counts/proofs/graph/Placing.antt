@@ -14,7 +14,7 @@ use lib.Dec.{T, eqb, eqb→eq}
 use lib.Ieee.Fits.{and-i, and-l, and-r}
 use Rattle.base.specs.Lists.{member}
 use Rattle.counts.specs.Region.{Constraint, constraint, holds, incidence}
-use Rattle.counts.specs.inner.Tables.{none}
+use Rattle.counts.specs.inner.Tables.{no-constraint}
 use Rattle.counts.specs.inner.Graph.{first-side, second-side, side-of, Sized, Placed, Filled}
 use Rattle.base.proofs.BoolLaws.{T-or-not, clash, eq→eqb, cond-yes, cond-no}
 use Rattle.base.proofs.ListLaws.{member-append, one-in, in-one, length-grown, getD-grown}
@@ -169,19 +169,19 @@ pub uses-few : {g : List Constraint} (i : ℕ) {incident own uses : List ℕ} �
 uses-few {g} i f y ly = let e = f .counted y ly in let h = length-incidence 0 (take i g) y in let k = length-take i g in omega (arith, e, h, k)
 
 -- the side that stands beside a constraint is the one on which the edge stands in it
-own-kept : (f : ℕ → ℕ) (i s s' n o : ℕ) (p q : Bool) → (T p → s ≡ f i) → (T q → s' ≡ f i) → (n < none → o ≡ f n)
-    → cond q i (cond p i n) < none → cond q s' (cond p s o) ≡ f (cond q i (cond p i n))
+own-kept : (f : ℕ → ℕ) (i s s' n o : ℕ) (p q : Bool) → (T p → s ≡ f i) → (T q → s' ≡ f i) → (n < no-constraint → o ≡ f n)
+    → cond q i (cond p i n) < no-constraint → cond q s' (cond p s o) ≡ f (cond q i (cond p i n))
 own-kept f i s s' n o p true hp hq h l = hq tt
 own-kept f i s s' n o true false hp hq h l = hp tt
 own-kept f i s s' n o false false hp hq h l = h l
 
-pub filled-none : (g : List Constraint) (incident own uses : List ℕ) → incident ≡ replicate 512 none → length own ≡ 512 → uses ≡ replicate 256 0
+pub filled-none : (g : List Constraint) (incident own uses : List ℕ) → incident ≡ replicate 512 no-constraint → length own ≡ 512 → uses ≡ replicate 256 0
     → Filled g [] incident own uses
 filled-none g incident own uses ei size eu =
     record {
       sized =
           record {
-            incident-size = ap length ei ∙ length-replicate {A = ℕ} 512 none;
+            incident-size = ap length ei ∙ length-replicate {A = ℕ} 512 no-constraint;
             own-size = size;
             uses-size = ap length eu ∙ length-replicate {A = ℕ} 256 0;
           };
@@ -190,8 +190,8 @@ filled-none g incident own uses ei size eu =
       own-is = λ y k ly lk h. let e = empty y k ly lk in absurd (omega (arith, e));
     }
   where
-    empty : (y k : ℕ) → y < 256 → k < 2 → getD incident (y * 2 + k) 0 ≡ none
-    empty y k ly lk = ap (λ (l : List ℕ). getD l (y * 2 + k) 0) ei ∙ getD-replicate 512 (y * 2 + k) none 0 (omega arith)
+    empty : (y k : ℕ) → y < 256 → k < 2 → getD incident (y * 2 + k) 0 ≡ no-constraint
+    empty y k ly lk = ap (λ (l : List ℕ). getD l (y * 2 + k) 0) ei ∙ getD-replicate 512 (y * 2 + k) no-constraint 0 (omega arith)
 
 pub filled-more : (g : List Constraint) (i : ℕ) (incident own uses incident1 own1 uses1 incident2 own2 uses2 : List ℕ) → i < length g
     → ((y : ℕ) → T (member y (constraint g i .a)) → T (member y (constraint g i .b)) → ⊥)
@@ -210,9 +210,9 @@ filled-more g i incident own uses incident1 own1 uses1 incident2 own2 uses2 li a
           ∙ ap (λ (l : List ℕ). length l) (sym (incidence-take g i y li));
       incident-is = λ y k ly lk.
           incident-now y k ly lk
-          ∙ both-placed (in-a y) (in-b y) (length (before y)) k i (getD (before y) k none) (apart y)
-          ∙ getD-grown (before y) i k none (holds (constraint g i) y)
-          ∙ ap (λ (l : List ℕ). getD l k none) (sym (incidence-take g i y li));
+          ∙ both-placed (in-a y) (in-b y) (length (before y)) k i (getD (before y) k no-constraint) (apart y)
+          ∙ getD-grown (before y) i k no-constraint (holds (constraint g i) y)
+          ∙ ap (λ (l : List ℕ). getD l k no-constraint) (sym (incidence-take g i y li));
       own-is = own-now;
     }
   where
@@ -230,7 +230,7 @@ filled-more g i incident own uses incident1 own1 uses1 incident2 own2 uses2 li a
 
     incident-now : (y k : ℕ) → y < 256 → k < 2
         → getD incident2 (y * 2 + k) 0
-        ≡ cond (in-b y && eqb (length (before y) + cond (in-a y) 1 0) k) i (cond (in-a y && eqb (length (before y)) k) i (getD (before y) k none))
+        ≡ cond (in-b y && eqb (length (before y) + cond (in-a y) 1 0) k) i (cond (in-a y && eqb (length (before y)) k) i (getD (before y) k no-constraint))
     incident-now y k ly lk =
         b .incident-at y k ly lk
         ∙ ap (λ (u : ℕ). cond (in-b y && eqb u k) i (getD incident1 (y * 2 + k) 0)) (count1 y ly)
@@ -239,7 +239,7 @@ filled-more g i incident own uses incident1 own1 uses1 incident2 own2 uses2 li a
         ∙ ap (λ (u : ℕ). cond (in-a y && eqb u k) i (getD incident (y * 2 + k) 0)) (f .counted y ly)
         ∙ ap (λ (w : ℕ). cond (in-a y && eqb (length (before y)) k) i w) (f .incident-is y k ly lk))
 
-    own-now : (y k : ℕ) → y < 256 → k < 2 → getD incident2 (y * 2 + k) 0 < none → getD own2 (y * 2 + k) 0 ≡ side-of g y (getD incident2 (y * 2 + k) 0)
+    own-now : (y k : ℕ) → y < 256 → k < 2 → getD incident2 (y * 2 + k) 0 < no-constraint → getD own2 (y * 2 + k) 0 ≡ side-of g y (getD incident2 (y * 2 + k) 0)
     own-now y k ly lk h =
         let p = in-a y && eqb (getD uses y 0) k in
         let q = in-b y && eqb (getD uses1 y 0) k in
@@ -250,5 +250,5 @@ filled-more g i incident own uses incident1 own1 uses1 incident2 own2 uses2 li a
         (λ t. sym (ap (λ (w : ℕ). first-side i + w) (cond-yes (in-a y) 0 2 (and-l (in-a y) (eqb (getD uses y 0) k) t)) ∙ add-zero (first-side i)))
         (λ t. sym (ap (λ (w : ℕ). first-side i + w) (cond-no (in-a y) 0 2 (λ u. apart y u (and-l (in-b y) (eqb (getD uses1 y 0) k) t)))))
         (f .own-is y k ly lk)
-        (subst (λ (n : ℕ). n < none) e h)
+        (subst (λ (n : ℕ). n < no-constraint) e h)
         ∙ ap (side-of g y) (sym e)

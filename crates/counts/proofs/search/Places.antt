@@ -16,7 +16,7 @@ use lib.Ieee.{Float, nan}
 use Rattle.base.specs.Lists.{In}
 use Rattle.counts.specs.Region.{Constraint, constraint, holds, incidence, incidence-from}
 use Rattle.counts.specs.Move.{Change}
-use Rattle.counts.specs.inner.Tables.{Other, StandsOn, Tables, across, after, all-decoded, alone, before, cost-in, decoded, encoded, none, path-of, the-graph}
+use Rattle.counts.specs.inner.Tables.{Other, StandsOn, Tables, across, after, all-decoded, alone, before, cost-in, decoded, encoded, no-constraint, path-of, the-graph}
 use Rattle.base.proofs.BoolLaws.{T-true, clash, not-T-false}
 use Rattle.counts.proofs.region.Constraints.{holds→incidence, incidence-out, incidence→holds}
 
@@ -94,73 +94,73 @@ rising k (c ∷ g) x a b r e = go (holds c x) (rising (suc k) g x a b r) e
         omega (arith, s, t)
     go false f q = f q
 
-in-or-none : (l : List ℕ) (k : ℕ) → In (getD l k none) l ⊎ (getD l k none ≡ none)
+in-or-none : (l : List ℕ) (k : ℕ) → In (getD l k no-constraint) l ⊎ (getD l k no-constraint ≡ no-constraint)
 in-or-none [] k = inr refl
 in-or-none (x ∷ l) zero = inl (inl refl)
 in-or-none (x ∷ l) (suc k) = elim (in-or-none l k) [ inl i ↦ inl (inr i) | inr e ↦ inr e ]
 
 module _ (regions incident own : List ℕ) (tables : Tables regions incident own) where
-  entry-is : (p : ℕ) → p < 512 → getD incident p 0 ≡ getD (incidence (the-graph regions) (p / 2)) (p % 2) none
+  entry-is : (p : ℕ) → p < 512 → getD incident p 0 ≡ getD (incidence (the-graph regions) (p / 2)) (p % 2) no-constraint
   entry-is p h = ap (λ (k : ℕ). getD incident k 0) (let q : p ≡ p / 2 * 2 + p % 2 = omega arith in q) ∙ tables .incident-is (p / 2) (p % 2) (omega (arith, h)) (omega arith)
 
-  pub entry-most : (p : ℕ) → p < 512 → getD incident p 0 ≤ none
-  entry-most p h = subst (λ (k : ℕ). k ≤ none) (sym (entry-is p h)) (go (in-or-none (incidence (the-graph regions) (p / 2)) (p % 2)))
+  pub entry-most : (p : ℕ) → p < 512 → getD incident p 0 ≤ no-constraint
+  entry-most p h = subst (λ (k : ℕ). k ≤ no-constraint) (sym (entry-is p h)) (go (in-or-none (incidence (the-graph regions) (p / 2)) (p % 2)))
     where
-      go : {i : ℕ} → In i (incidence (the-graph regions) (p / 2)) ⊎ (i ≡ none) → i ≤ none
+      go : {i : ℕ} → In i (incidence (the-graph regions) (p / 2)) ⊎ (i ≡ no-constraint) → i ≤ no-constraint
       go {i} (inl m) = let b = tables .numbered i (p / 2) (incidence→holds (the-graph regions) i (p / 2) m) in omega (arith, b)
       go {i} (inr e) = omega (arith, e)
 
-  pub entry-holds : (p : ℕ) → p < 512 → getD incident p 0 < none → T (holds (constraint (the-graph regions) (getD incident p 0)) (p / 2))
+  pub entry-holds : (p : ℕ) → p < 512 → getD incident p 0 < no-constraint → T (holds (constraint (the-graph regions) (getD incident p 0)) (p / 2))
   entry-holds p h l = incidence→holds (the-graph regions) (getD incident p 0) (p / 2) (subst (λ (k : ℕ). In k (incidence (the-graph regions) (p / 2))) (sym (entry-is p h)) (go (in-or-none (incidence (the-graph regions) (p / 2)) (p % 2))))
     where
-      go : In (getD (incidence (the-graph regions) (p / 2)) (p % 2) none) (incidence (the-graph regions) (p / 2)) ⊎ (getD (incidence (the-graph regions) (p / 2)) (p % 2) none ≡ none) → In (getD (incidence (the-graph regions) (p / 2)) (p % 2) none) (incidence (the-graph regions) (p / 2))
+      go : In (getD (incidence (the-graph regions) (p / 2)) (p % 2) no-constraint) (incidence (the-graph regions) (p / 2)) ⊎ (getD (incidence (the-graph regions) (p / 2)) (p % 2) no-constraint ≡ no-constraint) → In (getD (incidence (the-graph regions) (p / 2)) (p % 2) no-constraint) (incidence (the-graph regions) (p / 2))
       go (inl m) = m
       go (inr e) = let q = entry-is p h in absurd (omega (arith, e, q, l))
 
   -- the constraints of an edge, by the entries at its two places
   module _ (y : ℕ) (h : y < 256) where
-    first-is : getD incident (y * 2) 0 ≡ getD (incidence (the-graph regions) y) 0 none
+    first-is : getD incident (y * 2) 0 ≡ getD (incidence (the-graph regions) y) 0 no-constraint
     first-is = ap (λ (k : ℕ). getD incident k 0) (let q : y * 2 ≡ y * 2 + 0 = omega arith in q) ∙ tables .incident-is y 0 h (omega arith)
 
-    second-is : getD incident (y * 2 + 1) 0 ≡ getD (incidence (the-graph regions) y) 1 none
+    second-is : getD incident (y * 2 + 1) 0 ≡ getD (incidence (the-graph regions) y) 1 no-constraint
     second-is = tables .incident-is y 1 h (omega arith)
 
-    low-in : (l : List ℕ) → incidence (the-graph regions) y ≡ l → (k : ℕ) → In k l → k < none
+    low-in : (l : List ℕ) → incidence (the-graph regions) y ≡ l → (k : ℕ) → In k l → k < no-constraint
     low-in l e k m = tables .numbered k y (incidence→holds (the-graph regions) k y (subst (λ (s : List ℕ). In k s) (sym e) m))
 
-    pub no-constraint : getD incident (y * 2) 0 ≡ none → incidence (the-graph regions) y ≡ []
-    no-constraint q = go (incidence (the-graph regions) y) refl
+    pub in-none : getD incident (y * 2) 0 ≡ no-constraint → incidence (the-graph regions) y ≡ []
+    in-none q = go (incidence (the-graph regions) y) refl
       where
         go : (l : List ℕ) → incidence (the-graph regions) y ≡ l → l ≡ []
         go [] e = refl
         go (a ∷ l) e =
             let b = low-in (a ∷ l) e a (inl refl) in
-            let f = sym q ∙ first-is ∙ ap (λ (s : List ℕ). getD s 0 none) e in
+            let f = sym q ∙ first-is ∙ ap (λ (s : List ℕ). getD s 0 no-constraint) e in
             absurd (omega (arith, b, f))
 
-    pub some-constraint : getD incident (y * 2) 0 ≢ none → incidence (the-graph regions) y ≢ []
-    some-constraint n e = n (first-is ∙ ap (λ (s : List ℕ). getD s 0 none) e)
+    pub some-constraint : getD incident (y * 2) 0 ≢ no-constraint → incidence (the-graph regions) y ≢ []
+    some-constraint n e = n (first-is ∙ ap (λ (s : List ℕ). getD s 0 no-constraint) e)
 
-    pub one-constraint : getD incident (y * 2) 0 < none → getD incident (y * 2 + 1) 0 ≡ none → incidence (the-graph regions) y ≡ getD incident (y * 2) 0 ∷ []
+    pub one-constraint : getD incident (y * 2) 0 < no-constraint → getD incident (y * 2 + 1) 0 ≡ no-constraint → incidence (the-graph regions) y ≡ getD incident (y * 2) 0 ∷ []
     one-constraint p q = go (incidence (the-graph regions) y) refl
       where
         go : (l : List ℕ) → incidence (the-graph regions) y ≡ l → l ≡ getD incident (y * 2) 0 ∷ []
-        go [] e = let f = first-is ∙ ap (λ (s : List ℕ). getD s 0 none) e in absurd (omega (arith, p, f))
-        go (a ∷ []) e = ap {B = List ℕ} (λ (k : ℕ). k ∷ []) (sym (first-is ∙ ap (λ (s : List ℕ). getD s 0 none) e))
+        go [] e = let f = first-is ∙ ap (λ (s : List ℕ). getD s 0 no-constraint) e in absurd (omega (arith, p, f))
+        go (a ∷ []) e = ap {B = List ℕ} (λ (k : ℕ). k ∷ []) (sym (first-is ∙ ap (λ (s : List ℕ). getD s 0 no-constraint) e))
         go (a ∷ b ∷ l) e =
             let c = low-in (a ∷ b ∷ l) e b (inr (inl refl)) in
-            let f = sym q ∙ second-is ∙ ap (λ (s : List ℕ). getD s 1 none) e in
+            let f = sym q ∙ second-is ∙ ap (λ (s : List ℕ). getD s 1 no-constraint) e in
             absurd (omega (arith, c, f))
 
-    pub two-constraints : getD incident (y * 2 + 1) 0 < none → incidence (the-graph regions) y ≡ getD incident (y * 2) 0 ∷ getD incident (y * 2 + 1) 0 ∷ []
+    pub two-constraints : getD incident (y * 2 + 1) 0 < no-constraint → incidence (the-graph regions) y ≡ getD incident (y * 2) 0 ∷ getD incident (y * 2 + 1) 0 ∷ []
     two-constraints p = go (incidence (the-graph regions) y) refl
       where
         go : (l : List ℕ) → incidence (the-graph regions) y ≡ l → l ≡ getD incident (y * 2) 0 ∷ getD incident (y * 2 + 1) 0 ∷ []
-        go [] e = let f = second-is ∙ ap (λ (s : List ℕ). getD s 1 none) e in absurd (omega (arith, p, f))
-        go (a ∷ []) e = let f = second-is ∙ ap (λ (s : List ℕ). getD s 1 none) e in absurd (omega (arith, p, f))
+        go [] e = let f = second-is ∙ ap (λ (s : List ℕ). getD s 1 no-constraint) e in absurd (omega (arith, p, f))
+        go (a ∷ []) e = let f = second-is ∙ ap (λ (s : List ℕ). getD s 1 no-constraint) e in absurd (omega (arith, p, f))
         go (a ∷ b ∷ []) e =
-            ap {B = List ℕ} (λ (k : ℕ). k ∷ b ∷ []) (sym (first-is ∙ ap (λ (s : List ℕ). getD s 0 none) e))
-            ∙ ap {B = List ℕ} (λ (k : ℕ). getD incident (y * 2) 0 ∷ k ∷ []) (sym (second-is ∙ ap (λ (s : List ℕ). getD s 1 none) e))
+            ap {B = List ℕ} (λ (k : ℕ). k ∷ b ∷ []) (sym (first-is ∙ ap (λ (s : List ℕ). getD s 0 no-constraint) e))
+            ∙ ap {B = List ℕ} (λ (k : ℕ). getD incident (y * 2) 0 ∷ k ∷ []) (sym (second-is ∙ ap (λ (s : List ℕ). getD s 1 no-constraint) e))
         go (a ∷ b ∷ c ∷ l) e = let q = tables .thin y in let r = ap length e in absurd (omega (arith, q, r))
 
   -- constraint i of edge y stands at its first place or at its second, and the other one at the other
@@ -177,20 +177,20 @@ module _ (regions incident own : List ℕ) (tables : Tables regions incident own
 
       go : (l : List ℕ) → incidence (the-graph regions) y ≡ l → In i l → TwoPlaces i y
       go [] e m = absurd m
-      go (a ∷ []) e (inl q) = inl (first-is y low ∙ ap (λ (s : List ℕ). getD s 0 none) e ∙ sym q, alone (second-is y low ∙ ap (λ (s : List ℕ). getD s 1 none) e) (e ∙ ap {B = List ℕ} (λ (k : ℕ). k ∷ []) (sym q)))
+      go (a ∷ []) e (inl q) = inl (first-is y low ∙ ap (λ (s : List ℕ). getD s 0 no-constraint) e ∙ sym q, alone (second-is y low ∙ ap (λ (s : List ℕ). getD s 1 no-constraint) e) (e ∙ ap {B = List ℕ} (λ (k : ℕ). k ∷ []) (sym q)))
       go (a ∷ []) e (inr m) = absurd m
       go (a ∷ b ∷ []) e (inl q) =
-          let one = second-is y low ∙ ap (λ (s : List ℕ). getD s 1 none) e in
+          let one = second-is y low ∙ ap (λ (s : List ℕ). getD s 1 no-constraint) e in
           let up = rising 0 (the-graph regions) y a b [] e in
           inl (
-            first-is y low ∙ ap (λ (s : List ℕ). getD s 0 none) e ∙ sym q,
+            first-is y low ∙ ap (λ (s : List ℕ). getD s 0 no-constraint) e ∙ sym q,
             subst (λ (k : ℕ). Other (the-graph regions) y i k) (sym one) (after (low-in y low (a ∷ b ∷ []) e b (inr (inl refl))) (λ r. omega (arith, up, q, r)) (e ∙ ap {B = List ℕ} (λ (k : ℕ). k ∷ b ∷ []) (sym q))),
           )
       go (a ∷ b ∷ []) e (inr (inl q)) =
-          let zeroth = first-is y low ∙ ap (λ (s : List ℕ). getD s 0 none) e in
+          let zeroth = first-is y low ∙ ap (λ (s : List ℕ). getD s 0 no-constraint) e in
           let up = rising 0 (the-graph regions) y a b [] e in
           inr (
-            second-is y low ∙ ap (λ (s : List ℕ). getD s 1 none) e ∙ sym q,
+            second-is y low ∙ ap (λ (s : List ℕ). getD s 1 no-constraint) e ∙ sym q,
             (λ r. omega (arith, up, q, zeroth, r)),
             subst (λ (k : ℕ). Other (the-graph regions) y i k) (sym zeroth) (before (low-in y low (a ∷ b ∷ []) e a (inl refl)) (λ r. omega (arith, up, q, r)) (e ∙ ap {B = List ℕ} (λ (k : ℕ). a ∷ k ∷ []) (sym q))),
           )
@@ -207,12 +207,12 @@ other-in g y i o j (alone e q) m = elim (subst (λ (l : List ℕ). In j l) q m) 
 other-in g y i o j (after l n q) m = elim (subst (λ (l : List ℕ). In j l) q m) [ inl a ↦ inl a | inr (inl a) ↦ inr a | inr (inr a) ↦ absurd a ]
 other-in g y i o j (before l n q) m = elim (subst (λ (l : List ℕ). In j l) q m) [ inl a ↦ inr a | inr (inl a) ↦ inl a | inr (inr a) ↦ absurd a ]
 
-pub other-held : (g : List Constraint) (y i o : ℕ) → Other g y i o → o ≢ none → T (holds (constraint g o) y)
+pub other-held : (g : List Constraint) (y i o : ℕ) → Other g y i o → o ≢ no-constraint → T (holds (constraint g o) y)
 other-held g y i o (alone e q) n = absurd (n e)
 other-held g y i o (after l d q) n = incidence→holds g o y (subst (λ (l : List ℕ). In o l) (sym q) (inr (inl refl)))
 other-held g y i o (before l d q) n = incidence→holds g o y (subst (λ (l : List ℕ). In o l) (sym q) (inl refl))
 
-pub other-differs : (g : List Constraint) (y i o : ℕ) → Other g y i o → i < none → i ≢ o
+pub other-differs : (g : List Constraint) (y i o : ℕ) → Other g y i o → i < no-constraint → i ≢ o
 other-differs g y i o (alone e q) l = λ r. omega (arith, e, l, r)
 other-differs g y i o (after h n q) l = λ r. n (sym r)
 other-differs g y i o (before h n q) l = λ r. n (sym r)
@@ -224,7 +224,7 @@ module _ (regions incident own : List ℕ) (y i : ℕ) (tables : Tables regions 
   low = tables .few i y h
 
   abbrev IsOther : ℕ → Type 0
-  IsOther p = (p < 512) × (p / 2 ≡ y) × (getD incident p 0 ≤ none) × Other (the-graph regions) y i (getD incident p 0)
+  IsOther p = (p < 512) × (p / 2 ≡ y) × (getD incident p 0 ≤ no-constraint) × Other (the-graph regions) y i (getD incident p 0)
 
   abbrev IsPlace : ℕ → Type 0
   IsPlace p = (p < 512) × (p / 2 ≡ y) × (getD incident p 0 ≡ i)

@@ -17,14 +17,14 @@ use Rattle.base.specs.Lists.{In, all, each, filter}
 use Rattle.counts.specs.Region.{Constraint, constraint, holds, incidence}
 use Rattle.counts.specs.Move.{Change}
 use Rattle.counts.specs.Search.{Act, State, dfs, enter, enter-by, entered, eps, free, fresh, is-used, others-changed, run, skip, turned-back}
-use Rattle.counts.specs.inner.Tables.{Other, Tables, all-decoded, allowed-in, cost-in, decoded, none, path-of, state-of, the-graph}
+use Rattle.counts.specs.inner.Tables.{Other, Tables, all-decoded, allowed-in, cost-in, decoded, no-constraint, path-of, state-of, the-graph}
 use Rattle.counts.specs.inner.SearchContract.{Crossed, CrossedAll, Entered, MayCross, Searched, crossing-of, dfs-of, entry-by, entry-of, fresh-state, no-marks, start-cost, visit-of}
 use Rattle.counts.specs.declared.search.SearchState.{SearchState}
 use Rattle.base.proofs.BoolLaws.{T-true, clash, false-T, not-T-false}
 use Rattle.counts.proofs.search.Used.{free-set}
 use Rattle.counts.proofs.region.Constraints.{holds→incidence, incidence→holds}
 use Rattle.counts.proofs.search.Laws.{dfs-enters, dfs-turned-back, record-high, record-kept}
-use Rattle.counts.proofs.search.Places.{entry-holds, entry-most, no-constraint, one-change, one-constraint, other-differs, other-first, other-held, other-in, other-same, other-second, same-entry, some-constraint, two-constraints}
+use Rattle.counts.proofs.search.Places.{entry-holds, entry-most, in-none, one-change, one-constraint, other-differs, other-first, other-held, other-in, other-same, other-second, same-entry, some-constraint, two-constraints}
 use Rattle.counts.proofs.search.Scan.{hit-self}
 use Rattle.counts.proofs.search.Marks.{dfs-like}
 
@@ -37,11 +37,11 @@ marks-made = refl
 
 marks-long : length no-marks ≡ 257
 unfolding no-marks
-marks-long = length-set (replicate 257 false) none true ∙ length-replicate 257 false
+marks-long = length-set (replicate 257 false) no-constraint true ∙ length-replicate 257 false
 
-marks-open : (i : ℕ) → i < none → is-used no-marks i ≡ false
+marks-open : (i : ℕ) → i < no-constraint → is-used no-marks i ≡ false
 unfolding no-marks
-marks-open i h = getD-set-other (replicate 257 false) none i true true (λ q. omega (arith, h, q)) ∙ getD-replicate 257 i false true (omega (arith, h))
+marks-open i h = getD-set-other (replicate 257 false) no-constraint i true true (λ q. omega (arith, h, q)) ∙ getD-replicate 257 i false true (omega (arith, h))
 
 free-replicate : (n : ℕ) → free (replicate n false) ≡ n
 free-replicate zero = refl
@@ -50,7 +50,7 @@ free-replicate (suc n) = ap suc (free-replicate n)
 marks-free : free no-marks ≡ 256
 unfolding no-marks
 marks-free =
-    let q = free-set (replicate 257 false) none (false-T (is-used (replicate 257 false) none) (getD-replicate 257 none false true (omega arith))) in
+    let q = free-set (replicate 257 false) no-constraint (false-T (is-used (replicate 257 false) no-constraint) (getD-replicate 257 no-constraint false true (omega arith))) in
     let r = free-replicate 257 in
     omega (arith, q, r)
 
@@ -89,7 +89,7 @@ module _ (regions incident own : List ℕ) (costs : List Float) (limit start : �
     next = record { kept = st .kept; expansions = st .expansions + 1; len = st .len; cut = st .cut }
 
     -- there is a constraint to cross
-    pub entered-held : start < 512 → getD incident (start / 2 * 2) 0 ≢ none → Entered regions costs limit start path best st (set path 0 start) best next
+    pub entered-held : start < 512 → getD incident (start / 2 * 2) 0 ≢ no-constraint → Entered regions costs limit start path best st (set path 0 start) best next
     entered-held small n = record { path-is = refl; best-kept = refl; short = λ s. s; answer = once ∙ go (incidence (the-graph regions) (start / 2)) refl }
       where
         go : (is : List ℕ) → incidence (the-graph regions) (start / 2) ≡ is → entered (state-of st best) ≡ entry-of regions costs limit start (state-of st best)
@@ -97,9 +97,9 @@ module _ (regions incident own : List ℕ) (costs : List Float) (limit start : �
         go (i ∷ is) e = went-on (i ∷ is) e
 
     -- a free edge: the one change is complete
-    module _ (small : start < 512) (is-free : getD incident (start / 2 * 2) 0 ≡ none) (t : Float) (is-cost : t ≡ start-cost regions costs limit start) where
+    module _ (small : start < 512) (is-free : getD incident (start / 2 * 2) 0 ≡ no-constraint) (t : Float) (is-cost : t ≡ start-cost regions costs limit start) where
       alone : incidence (the-graph regions) (start / 2) ≡ []
-      alone = no-constraint regions incident own tables (start / 2) (omega (arith, small)) is-free
+      alone = in-none regions incident own tables (start / 2) (omega (arith, small)) is-free
 
       cheap : {b : Bool} → lt t (sub binary64 (st .kept) eps) ≡ b → lt (start-cost regions costs limit start) (sub binary64 (st .kept) eps) ≡ b
       cheap q = ap (λ (v : Float). lt v (sub binary64 (st .kept) eps)) (sym is-cost) ∙ q
@@ -174,7 +174,7 @@ module _ (regions incident own : List ℕ) (costs : List Float) (allowed : List 
 
   -- ---- a crossing from the start
 
-  pub may-start : (used : List Bool) (path : List ℕ) (p home : ℕ) → used ≡ no-marks → length path ≡ 257 → getD path 0 0 ≡ start → p < 512 → p / 2 ≡ edge → getD incident p 0 < none → Other g edge (getD incident p 0) home → home ≤ none
+  pub may-start : (used : List Bool) (path : List ℕ) (p home : ℕ) → used ≡ no-marks → length path ≡ 257 → getD path 0 0 ≡ start → p < 512 → p / 2 ≡ edge → getD incident p 0 < no-constraint → Other g edge (getD incident p 0) home → home ≤ no-constraint
       → MayCross g incident used path 1 p home
   may-start used path p home us long at-start small here real other most =
       subst (λ (u : List Bool). MayCross g incident u path 1 p home) (sym us)
@@ -224,16 +224,16 @@ module _ (regions incident own : List ℕ) (costs : List Float) (allowed : List 
     pub crossed-cut : st .cut ≡ true → CrossedAll regions costs allowed limit start used path best st used path best st
     crossed-cut e = stays (ap (λ (b : Bool). cond b skip (each visit-at (incidence g edge)) (state-of st best)) (sym e))
 
-    pub crossed-none : start < 512 → st .cut ≡ false → getD incident (edge * 2) 0 ≡ none → CrossedAll regions costs allowed limit start used path best st used path best st
-    crossed-none small whole e = stays (crosses st best whole [] (no-constraint regions incident own tables edge (omega (arith, small)) e))
+    pub crossed-none : start < 512 → st .cut ≡ false → getD incident (edge * 2) 0 ≡ no-constraint → CrossedAll regions costs allowed limit start used path best st used path best st
+    crossed-none small whole e = stays (crosses st best whole [] (in-none regions incident own tables edge (omega (arith, small)) e))
 
   -- `first` and `second` are the entries at the start's two places, and the first is a constraint
   module _ (used : List Bool) (path best : List ℕ) (us : used ≡ no-marks) (path-long : length path ≡ 257) (best-long : length best ≡ 257) (at-start : getD path 0 0 ≡ start) (small : start < 512)
-      (first second : ℕ) (is-first : first ≡ getD incident (edge * 2) 0) (is-second : second ≡ getD incident (edge * 2 + 1) 0) (crossable : first ≢ none) where
+      (first second : ℕ) (is-first : first ≡ getD incident (edge * 2) 0) (is-second : second ≡ getD incident (edge * 2 + 1) 0) (crossable : first ≢ no-constraint) where
     low : edge < 256
     low = omega (arith, small)
 
-    first-real : getD incident (edge * 2) 0 < none
+    first-real : getD incident (edge * 2) 0 < no-constraint
     first-real = let m = entry-most regions incident own tables (edge * 2) (omega (arith, small)) in omega (arith, m, is-first, crossable)
 
     first-held : T (holds (constraint g (getD incident (edge * 2) 0)) edge)
@@ -246,11 +246,11 @@ module _ (regions incident own : List ℕ) (costs : List Float) (allowed : List 
         let m = o .2 in
         may-start used path (edge * 2) second us path-long at-start (omega (arith, small)) (omega arith) first-real (other-same is-second (o .3)) (omega (arith, m, is-second))
 
-    second-real : second ≢ none → getD incident (edge * 2 + 1) 0 < none
+    second-real : second ≢ no-constraint → getD incident (edge * 2 + 1) 0 < no-constraint
     second-real n = let m = entry-most regions incident own tables (edge * 2 + 1) (omega (arith, small)) in omega (arith, m, is-second, n)
 
     -- the second one, with the first constraint as `home`
-    pub second-crossing : (used' : List Bool) (path' : List ℕ) → used' ≡ used → take 1 path' ≡ take 1 path → length path' ≡ length path → second ≢ none → MayCross g incident used' path' 1 (edge * 2 + 1) first
+    pub second-crossing : (used' : List Bool) (path' : List ℕ) → used' ≡ used → take 1 path' ≡ take 1 path → length path' ≡ length path → second ≢ no-constraint → MayCross g incident used' path' 1 (edge * 2 + 1) first
     second-crossing used' path' uk pk lk n =
         let q : (edge * 2 + 1) / 2 ≡ edge = omega arith in
         let held = subst (λ (y : ℕ). T (holds (constraint g (getD incident (edge * 2 + 1) 0)) y)) q (entry-holds regions incident own tables (edge * 2 + 1) (omega (arith, small)) (second-real n)) in
@@ -260,7 +260,7 @@ module _ (regions incident own : List ℕ) (costs : List Float) (allowed : List 
         may-start used' path' (edge * 2 + 1) first (uk ∙ us) (lk ∙ path-long) (same-entry 1 path' path 0 pk (omega arith) ∙ at-start) (omega (arith, small)) q (second-real n) (other-same is-first (o .3)) (omega (arith, m, is-first))
 
     module _ (st : SearchState) (t : Float) (is-cost : t ≡ cost) (whole : st .cut ≡ false) where
-      pub crossed-one : (used' : List Bool) (path' best' : List ℕ) (r : SearchState) → second ≡ none
+      pub crossed-one : (used' : List Bool) (path' best' : List ℕ) (r : SearchState) → second ≡ no-constraint
           → Crossed regions incident costs allowed limit used path best 1 (edge * 2) t st used' path' best' r → CrossedAll regions costs allowed limit start used path best st used' path' best' r
       crossed-one used' path' best' r e c =
           record {
@@ -273,7 +273,7 @@ module _ (regions incident own : List ℕ) (costs : List Float) (allowed : List 
                 ∙ crosses st best whole (getD incident (edge * 2) 0 ∷ []) (one-constraint regions incident own tables edge low first-real (sym is-second ∙ e));
           }
 
-      pub crossed-two : (used' : List Bool) (path' best' : List ℕ) (r : SearchState) (used'' : List Bool) (path'' best'' : List ℕ) (r' : SearchState) → second ≢ none
+      pub crossed-two : (used' : List Bool) (path' best' : List ℕ) (r : SearchState) (used'' : List Bool) (path'' best'' : List ℕ) (r' : SearchState) → second ≢ no-constraint
           → Crossed regions incident costs allowed limit used path best 1 (edge * 2) t st used' path' best' r → Crossed regions incident costs allowed limit used' path' best' 1 (edge * 2 + 1) t r used'' path'' best'' r'
           → CrossedAll regions costs allowed limit start used path best st used'' path'' best'' r'
       crossed-two used' path' best' r used'' path'' best'' r' e c d =

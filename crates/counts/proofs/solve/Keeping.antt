@@ -11,22 +11,22 @@ use lib.Dec.{T, eqb, ltb, not-T, eqb→eq, lt→ltb, ltb→lt, nltb→le}
 use lib.Ieee.{Float, nan}
 use Rattle.base.specs.Lists.{In, member}
 use Rattle.counts.specs.Region.{constraint, holds, incidence}
-use Rattle.counts.specs.Move.{Change, Joined, same, next, edges, allowed, apply-changes}
+use Rattle.counts.specs.Move.{Change, Joined, same, next, edges, is-allowed, apply-changes}
 use Rattle.counts.specs.Cost.{CostModel, Local}
 use Rattle.counts.specs.Search.{State, run}
 use Rattle.counts.specs.Round.{Found, find-move}
-use Rattle.counts.specs.inner.Tables.{the-graph, decoded, encoded, path-of, cost-in, allowed-in, none, Tables}
+use Rattle.counts.specs.inner.Tables.{the-graph, decoded, encoded, path-of, cost-in, allowed-in, no-constraint, Tables}
 use Rattle.counts.specs.inner.Components.{At, Labels, Outside, Refreshed}
 use Rattle.counts.specs.inner.RoundContract.{CanApply, Result, Ready, search-of, nothing-searched}
 use Rattle.counts.proofs.check.Accepted.{Accepted}
 use Rattle.counts.proofs.augment.Applying.{apply-length, apply-other}
 use Rattle.base.proofs.BoolLaws.{by-cases, clash, or-split, or-left, or-right, eq→eqb}
 use Rattle.counts.proofs.Find.{none as found-none, some}
-use Rattle.counts.proofs.augment.Finding.{entry-cost, entry-may}
+use Rattle.counts.proofs.augment.Finding.{entry-cost, entry-allowed}
 use Rattle.counts.proofs.region.Constraints.{link, holds→incidence}
 use Rattle.base.proofs.ListLaws.{in→member, member→in, nothing-in}
 use Rattle.counts.proofs.MoveLaws.{edges-in}
-use Rattle.counts.proofs.search.Places.{two-places, entry-most, no-constraint, start-in}
+use Rattle.counts.proofs.search.Places.{two-places, entry-most, in-none, start-in}
 use Rattle.counts.proofs.Rounds.{Finds, found}
 use Rattle.counts.proofs.search.Same.{run-same}
 
@@ -41,12 +41,12 @@ held-at regions incident own tables i x h = elim (two-places regions incident ow
     low : x < 256
     low = tables .few i x h
 
-    first-there : getD incident (x * 2) 0 < none
+    first-there : getD incident (x * 2) 0 < no-constraint
     first-there =
-        by-cases (ltb (getD incident (x * 2) 0) none) (λ t. ltb→lt (getD incident (x * 2) 0) none t)
+        by-cases (ltb (getD incident (x * 2) 0) no-constraint) (λ t. ltb→lt (getD incident (x * 2) 0) no-constraint t)
         (λ t. let m = entry-most regions incident own tables (x * 2) (omega (arith, low)) in
-        let k = nltb→le (getD incident (x * 2) 0) none t in
-        absurd (nothing-in i (incidence (the-graph regions) x) (holds→incidence (the-graph regions) i x h) (no-constraint regions incident own tables x low (omega (arith, m, k)))))
+        let k = nltb→le (getD incident (x * 2) 0) no-constraint t in
+        absurd (nothing-in i (incidence (the-graph regions) x) (holds→incidence (the-graph regions) i x h) (in-none regions incident own tables x low (omega (arith, m, k)))))
 
 module _ (regions incident own labels : List ℕ) (n : ℕ) (tables : Tables regions incident own) (ok : Accepted n (the-graph regions)) (lab : Labels n incident labels) where
   -- edges that one constraint holds have one label
@@ -61,9 +61,9 @@ module _ (regions incident own labels : List ℕ) (n : ℕ) (tables : Tables reg
 
   -- ---- results outside of one part
 
-  module _ (part : ℕ) (costs costs' : List Float) (may may' : List Bool)
+  module _ (part : ℕ) (costs costs' : List Float) (allowed allowed' : List Bool)
       (same-cost : (k : ℕ) → Outside n labels part (k / 2) → getD costs' k nan ≡ getD costs k nan)
-      (same-may : (k : ℕ) → Outside n labels part (k / 2) → getD may' k false ≡ getD may k false) where
+      (same-allowed : (k : ℕ) → Outside n labels part (k / 2) → getD allowed' k false ≡ getD allowed k false) where
     abbrev untouched : ℕ → Bool
     untouched y = not (ltb y n) || not (eqb (getD labels y 0) part)
 
@@ -89,16 +89,16 @@ module _ (regions incident own labels : List ℕ) (n : ℕ) (tables : Tables reg
     pub cost-same : (y : ℕ) (s : Bool) → Outside n labels part y → cost-in costs' y s ≡ cost-in costs y s
     cost-same y s o = same-cost (encoded y s) (subst (λ (k : ℕ). Outside n labels part k) (sym (half y s)) o)
 
-    pub may-same : (y : ℕ) (s : Bool) → Outside n labels part y → allowed-in may' y s ≡ allowed-in may y s
-    may-same y s o = same-may (encoded y s) (subst (λ (k : ℕ). Outside n labels part k) (sym (half y s)) o)
+    pub may-same : (y : ℕ) (s : Bool) → Outside n labels part y → allowed-in allowed' y s ≡ allowed-in allowed y s
+    may-same y s o = same-allowed (encoded y s) (subst (λ (k : ℕ). Outside n labels part k) (sym (half y s)) o)
 
-    pub search-same : (limit c : ℕ) → Outside n labels part (c / 2) → search-of regions costs may limit c ≡ search-of regions costs' may' limit c
+    pub search-same : (limit c : ℕ) → Outside n labels part (c / 2) → search-of regions costs allowed limit c ≡ search-of regions costs' allowed' limit c
     unfolding search-of
     search-same limit c o =
         let s = eqb (c % 2) 1 in
-        ap (λ (b : Bool). cond b (run (the-graph regions) (cost-in costs) (allowed-in may) limit (c / 2) s) nothing-searched) (sym (may-same (c / 2) s o))
-        ∙ ap (λ (st : State). cond (allowed-in may' (c / 2) s) st nothing-searched)
-        (run-same (the-graph regions) (cost-in costs) (cost-in costs') (allowed-in may) (allowed-in may') limit (c / 2) s untouched closed
+        ap (λ (b : Bool). cond b (run (the-graph regions) (cost-in costs) (allowed-in allowed) limit (c / 2) s) nothing-searched) (sym (may-same (c / 2) s o))
+        ∙ ap (λ (st : State). cond (allowed-in allowed' (c / 2) s) st nothing-searched)
+        (run-same (the-graph regions) (cost-in costs) (cost-in costs') (allowed-in allowed) (allowed-in allowed') limit (c / 2) s untouched closed
         (λ y t u. sym (cost-same y t (out y u))) (λ y t u. sym (may-same y t (out y u))) (back (c / 2) o))
 
 -- ---- the move found touches one part
@@ -119,10 +119,10 @@ one-part regions incident own labels counts model limit tables ok lab z w iz iw 
 
 -- ---- the tables after a move
 
-module _ (regions incident own labels counts after : List ℕ) (model : CostModel) (limit part : ℕ) (costs costs' : List Float) (may may' : List Bool) (kept : List Float) (cut known known' : List Bool) (r : List Change)
+module _ (regions incident own labels counts after : List ℕ) (model : CostModel) (limit part : ℕ) (costs costs' : List Float) (allowed allowed' : List Bool) (kept : List Float) (cut known known' : List Bool) (r : List Change)
     (local : Local model) (tables : Tables regions incident own) (ok : Accepted (length counts) (the-graph regions)) (lab : Labels (length counts) incident labels)
-    (ready : Ready regions model limit counts costs may kept cut known) (made : after ≡ apply-changes r counts)
-    (touched : (z : Change) → In z r → getD labels (z .0) 0 ≡ part) (fresh : Refreshed (length counts) labels part after model costs may known costs' may' known') where
+    (ready : Ready regions model limit counts costs allowed kept cut known) (made : after ≡ apply-changes r counts)
+    (touched : (z : Change) → In z r → getD labels (z .0) 0 ≡ part) (fresh : Refreshed (length counts) labels part after model costs allowed known costs' allowed' known') where
   in-change : (x : ℕ) (l : List Change) → In x (edges l) → (z : Change) × In z l × (x ≡ z .0)
   in-change x [] i = absurd i
   in-change x (z ∷ l) (inl e) = (z, inl refl, e)
@@ -138,31 +138,31 @@ module _ (regions incident own labels counts after : List ℕ) (model : CostMode
 
   cost-now : (y : ℕ) (s : Bool) → y < length after → cost-in costs' y s ≡ model after y s
   cost-now y s h =
-      by-cases (eqb (getD labels y 0) part) (λ t. entry-cost after model costs' may' y s (fresh .fresh y (inside y h) (eqb→eq (getD labels y 0) part t)))
+      by-cases (eqb (getD labels y 0) part) (λ t. entry-cost after model costs' allowed' y s (fresh .fresh y (inside y h) (eqb→eq (getD labels y 0) part t)))
       (λ t. let n : getD labels y 0 ≢ part = λ q. clash (eqb (getD labels y 0) part) (eq→eqb (getD labels y 0) part q) t in
-      cost-same regions incident own labels (length counts) tables ok lab part costs costs' may may' (fresh .same-cost) (fresh .same-may) y s (λ l. n)
+      cost-same regions incident own labels (length counts) tables ok lab part costs costs' allowed allowed' (fresh .same-cost) (fresh .same-allowed) y s (λ l. n)
       ∙ ready .priced .cost-is y s (inside y h)
       ∙ sym (local counts after y s (count-same y n)))
 
-  may-now : (y : ℕ) (s : Bool) → y < length after → allowed-in may' y s ≡ allowed after y s
+  may-now : (y : ℕ) (s : Bool) → y < length after → allowed-in allowed' y s ≡ is-allowed after y s
   may-now y s h =
-      by-cases (eqb (getD labels y 0) part) (λ t. entry-may after model costs' may' y s (fresh .fresh y (inside y h) (eqb→eq (getD labels y 0) part t)))
+      by-cases (eqb (getD labels y 0) part) (λ t. entry-allowed after model costs' allowed' y s (fresh .fresh y (inside y h) (eqb→eq (getD labels y 0) part t)))
       (λ t. let n : getD labels y 0 ≢ part = λ q. clash (eqb (getD labels y 0) part) (eq→eqb (getD labels y 0) part q) t in
-      may-same regions incident own labels (length counts) tables ok lab part costs costs' may may' (fresh .same-cost) (fresh .same-may) y s (λ l. n)
-      ∙ ready .priced .may-is y s (inside y h)
+      may-same regions incident own labels (length counts) tables ok lab part costs costs' allowed allowed' (fresh .same-cost) (fresh .same-allowed) y s (λ l. n)
+      ∙ ready .priced .allowed-is y s (inside y h)
       ∙ ap (λ (k : ℕ). s || ltb 0 k) (sym (count-same y n)))
 
-  still-right : (c : ℕ) → c < 512 → getD known' c false ≡ true → Result regions costs' may' limit c kept cut
+  still-right : (c : ℕ) → c < 512 → getD known' c false ≡ true → Result regions costs' allowed' limit c kept cut
   still-right c h q =
       let k = fresh .still-known c q in
       let old = ready .remembered .right c h (k .1) in
-      let e = search-same regions incident own labels (length counts) tables ok lab part costs costs' may may' (fresh .same-cost) (fresh .same-may) limit c (k .0) in
+      let e = search-same regions incident own labels (length counts) tables ok lab part costs costs' allowed allowed' (fresh .same-cost) (fresh .same-allowed) limit c (k .0) in
       record { kept-is = old .kept-is ∙ ap (λ (st : State). st .kept) e; cut-is = old .cut-is ∙ ap (λ (st : State). st .cut) e }
 
-  pub ready-again : Ready regions model limit after costs' may' kept cut known'
+  pub ready-again : Ready regions model limit after costs' allowed' kept cut known'
   ready-again =
       record {
-        priced = record { costs-long = fresh .costs-long; may-long = fresh .may-long; cost-is = cost-now; may-is = may-now };
+        priced = record { costs-long = fresh .costs-long; allowed-long = fresh .allowed-long; cost-is = cost-now; allowed-is = may-now };
         remembered =
             record {
               kept-long = ready .remembered .kept-long;
@@ -173,11 +173,11 @@ module _ (regions incident own labels counts after : List ℕ) (model : CostMode
       }
 
 -- what the code refreshes is the part of the move's first change
-pub refreshed-by : (labels counts after : List ℕ) (model : CostModel) (costs costs' : List Float) (may may' known known' : List Bool) (r : List Change) (c d : ℕ) → after ≡ apply-changes r counts → c ≡ d
-    → Refreshed (length after) labels (getD labels (c / 2) 0) after model costs may known costs' may' known' → Refreshed (length counts) labels (getD labels (d / 2) 0) after model costs may known costs' may' known'
-refreshed-by labels counts after model costs costs' may may' known known' r c d made q f =
-    subst (λ (n : ℕ). Refreshed n labels (getD labels (d / 2) 0) after model costs may known costs' may' known') (ap length made ∙ apply-length r counts)
-    (subst (λ (k : ℕ). Refreshed (length after) labels (getD labels (k / 2) 0) after model costs may known costs' may' known') q f)
+pub refreshed-by : (labels counts after : List ℕ) (model : CostModel) (costs costs' : List Float) (allowed allowed' known known' : List Bool) (r : List Change) (c d : ℕ) → after ≡ apply-changes r counts → c ≡ d
+    → Refreshed (length after) labels (getD labels (c / 2) 0) after model costs allowed known costs' allowed' known' → Refreshed (length counts) labels (getD labels (d / 2) 0) after model costs allowed known costs' allowed' known'
+refreshed-by labels counts after model costs costs' allowed allowed' known known' r c d made q f =
+    subst (λ (n : ℕ). Refreshed n labels (getD labels (d / 2) 0) after model costs allowed known costs' allowed' known') (ap length made ∙ apply-length r counts)
+    (subst (λ (k : ℕ). Refreshed (length after) labels (getD labels (k / 2) 0) after model costs allowed known costs' allowed' known') q f)
 
 -- the edge of the first change
 pub first-below : (counts best : List ℕ) (len : ℕ) → CanApply counts (path-of len best) → 0 < len → length best ≡ 257 → getD best 0 0 / 2 < length counts

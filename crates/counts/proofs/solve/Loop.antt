@@ -76,17 +76,17 @@ abbrev round-at : List ℕ → CostModel → List ℕ → ℕ → Found
 round-at regions model counts limit = find-move (the-graph regions) model counts limit
 
 -- what the loop keeps: the rest of the solve from here is the whole solve
-pub record Progress (regions : List ℕ) (model : CostModel) (limit : ℕ) (start counts : List ℕ) (moves : ℕ) (costs : List Float) (may used : List Bool) (path best : List ℕ) (kept : List Float) (cut known : List Bool) : Type 0 where
+pub record Progress (regions : List ℕ) (model : CostModel) (limit : ℕ) (start counts : List ℕ) (moves : ℕ) (costs : List Float) (allowed used : List Bool) (path best : List ℕ) (kept : List Float) (cut known : List Bool) : Type 0 where
   pub rest : solve-from (the-graph regions) model limit (max-moves - moves) moves counts
       ≡ solve-from (the-graph regions) model limit max-moves 0 start
   pub allowed-moves : moves ≤ max-moves
   pub bounded : (x : ℕ) → getD counts x 0 ≤ moves
   pub as-long : length counts ≡ length start
   pub buffers : Buffers used path best
-  pub ready : Ready regions model limit counts costs may kept cut known
+  pub ready : Ready regions model limit counts costs allowed kept cut known
 
-module _ (regions : List ℕ) (model : CostModel) (limit : ℕ) (start counts : List ℕ) (moves : ℕ) (costs : List Float) (may used : List Bool) (path best : List ℕ) (kept : List Float) (cut known : List Bool)
-    (t : RoundInput regions start) (s : Progress regions model limit start counts moves costs may used path best kept cut known) where
+module _ (regions : List ℕ) (model : CostModel) (limit : ℕ) (start counts : List ℕ) (moves : ℕ) (costs : List Float) (allowed used : List Bool) (path best : List ℕ) (kept : List Float) (cut known : List Bool)
+    (t : RoundInput regions start) (s : Progress regions model limit start counts moves costs allowed used path best kept cut known) where
   pub still-tested : RoundInput regions counts
   still-tested =
       record {
@@ -150,10 +150,10 @@ module _ (regions : List ℕ) (model : CostModel) (limit : ℕ) (start counts : 
       (λ u. let e = m .other x u in omega arith)
 
   pub solve-goes-on : (z : Change) (l : List Change) → round-at regions model counts limit .best ≡ z ∷ l → moves ≢ max-moves
-      → (after : List ℕ) (costs' : List Float) (may' used' : List Bool) (path' best' : List ℕ) (kept' : List Float) (cut' known' : List Bool)
-      → after ≡ apply-changes (round-at regions model counts limit .best) counts → Buffers used' path' best' → Ready regions model limit after costs' may' kept' cut' known'
-      → Progress regions model limit start after (moves + 1) costs' may' used' path' best' kept' cut' known'
-  solve-goes-on z l e n after costs' may' used' path' best' kept' cut' known' a b z' =
+      → (after : List ℕ) (costs' : List Float) (allowed' used' : List Bool) (path' best' : List ℕ) (kept' : List Float) (cut' known' : List Bool)
+      → after ≡ apply-changes (round-at regions model counts limit .best) counts → Buffers used' path' best' → Ready regions model limit after costs' allowed' kept' cut' known'
+      → Progress regions model limit start after (moves + 1) costs' allowed' used' path' best' kept' cut' known'
+  solve-goes-on z l e n after costs' allowed' used' path' best' kept' cut' known' a b z' =
       let h = s .allowed-moves in
       let q : suc (max-moves - (moves + 1)) ≡ max-moves - moves = omega arith in
       record {
@@ -170,10 +170,10 @@ module _ (regions : List ℕ) (model : CostModel) (limit : ℕ) (start counts : 
         ready = z';
       }
 
-pub solving-starts : (regions : List ℕ) (model : CostModel) (limit : ℕ) (start : List ℕ) (costs : List Float) (may used : List Bool) (path best : List ℕ) (kept : List Float) (cut known : List Bool)
-    → start ≡ replicate (length start) 0 → Buffers used path best → Ready regions model limit start costs may kept cut known
-    → Progress regions model limit start start 0 costs may used path best kept cut known
-solving-starts regions model limit start costs may used path best kept cut known e b z =
+pub solving-starts : (regions : List ℕ) (model : CostModel) (limit : ℕ) (start : List ℕ) (costs : List Float) (allowed used : List Bool) (path best : List ℕ) (kept : List Float) (cut known : List Bool)
+    → start ≡ replicate (length start) 0 → Buffers used path best → Ready regions model limit start costs allowed kept cut known
+    → Progress regions model limit start start 0 costs allowed used path best kept cut known
+solving-starts regions model limit start costs allowed used path best kept cut known e b z =
     record {
       rest = refl;
       allowed-moves = omega arith;
@@ -186,10 +186,10 @@ solving-starts regions model limit start costs may used path best kept cut known
 -- ---- the move found, handed to apply_changes
 
 -- what the tables give is the move of the definition
-pub move-is : (regions : List ℕ) (model : CostModel) (counts : List ℕ) (limit : ℕ) (costs : List Float) (may used : List Bool) (path best : List ℕ) (kept : List Float) (cut known : List Bool) (r : FoundMove) → RoundInput regions counts
-    → Priced model counts costs may → FoundIn regions costs may limit (length counts) used path best kept cut known r → found-of r best ≡ round-at regions model counts limit
-move-is regions model counts limit costs may used path best kept cut known r t p f =
-    f .answer ∙ by-tables regions model counts limit costs may (tested-ok regions counts t) p
+pub move-is : (regions : List ℕ) (model : CostModel) (counts : List ℕ) (limit : ℕ) (costs : List Float) (allowed used : List Bool) (path best : List ℕ) (kept : List Float) (cut known : List Bool) (r : FoundMove) → RoundInput regions counts
+    → Priced model counts costs allowed → FoundIn regions costs allowed limit (length counts) used path best kept cut known r → found-of r best ≡ round-at regions model counts limit
+move-is regions model counts limit costs allowed used path best kept cut known r t p f =
+    f .answer ∙ by-tables regions model counts limit costs allowed (tested-ok regions counts t) p
 
 pub move-can : (regions : List ℕ) (model : CostModel) (counts : List ℕ) (limit : ℕ) (r : FoundMove) (best : List ℕ) (len : ℕ) → RoundInput regions counts
     → found-of r best ≡ round-at regions model counts limit → len ≡ r .len → r .len ≤ 257 → length best ≡ 257
@@ -209,16 +209,16 @@ move-made regions model counts after limit r best len is same e =
     e ∙ ap (λ (m : List Change). apply-changes m counts) (best-path r best (round-at regions model counts limit) is len same)
 
 -- the tables after the move stand for the counts after it
-pub stays-ready : (regions incident own labels : List ℕ) (model : CostModel) (limit : ℕ) (start counts after : List ℕ) (costs costs' : List Float) (may may' used : List Bool) (path best : List ℕ) (kept : List Float) (cut known known' : List Bool) (r : FoundMove) (len : ℕ)
-    → Local model → Tables regions incident own → Labels (length start) incident labels → length counts ≡ length start → RoundInput regions counts → Priced model counts costs may
-    → FoundIn regions costs may limit (length counts) used path best kept cut known r → len ≡ r .len → len ≢ 0 → after ≡ apply-changes (path-of len best) counts
-    → Refreshed (length counts) labels (getD labels (getD best 0 0 / 2) 0) after model costs may known costs' may' known' → Ready regions model limit after costs' may' kept cut known'
-stays-ready regions incident own labels model limit start counts after costs costs' may may' used path best kept cut known known' r len local tables lab long t p f same n now fresh =
+pub stays-ready : (regions incident own labels : List ℕ) (model : CostModel) (limit : ℕ) (start counts after : List ℕ) (costs costs' : List Float) (allowed allowed' used : List Bool) (path best : List ℕ) (kept : List Float) (cut known known' : List Bool) (r : FoundMove) (len : ℕ)
+    → Local model → Tables regions incident own → Labels (length start) incident labels → length counts ≡ length start → RoundInput regions counts → Priced model counts costs allowed
+    → FoundIn regions costs allowed limit (length counts) used path best kept cut known r → len ≡ r .len → len ≢ 0 → after ≡ apply-changes (path-of len best) counts
+    → Refreshed (length counts) labels (getD labels (getD best 0 0 / 2) 0) after model costs allowed known costs' allowed' known' → Ready regions model limit after costs' allowed' kept cut known'
+stays-ready regions incident own labels model limit start counts after costs costs' allowed allowed' used path best kept cut known known' r len local tables lab long t p f same n now fresh =
     let ok = tested-ok regions counts t in
     let l : Labels (length counts) incident labels = λ i x y hi hx hy. lab i x y hi (omega (arith, hx, long)) (omega (arith, hy, long)) in
-    let is = move-is regions model counts limit costs may used path best kept cut known r t p f in
+    let is = move-is regions model counts limit costs allowed used path best kept cut known r t p f in
     let b : In (decoded (getD best 0 0)) (path-of len best) = start-in best len (omega (arith, n)) (let q = f .buffers .best-long in omega (arith, q)) in
     let first : In (decoded (getD best 0 0)) (round-at regions model counts limit .best) = subst (λ (m : List Change). In (decoded (getD best 0 0)) m) (best-path r best (round-at regions model counts limit) is len same) b in
-    ready-again regions incident own labels counts after model limit (getD labels (getD best 0 0 / 2) 0) costs costs' may may' kept cut known known' (round-at regions model counts limit .best) local tables ok l
+    ready-again regions incident own labels counts after model limit (getD labels (getD best 0 0 / 2) 0) costs costs' allowed allowed' kept cut known known' (round-at regions model counts limit .best) local tables ok l
     (record { priced = p; remembered = f .remembered }) (move-made regions model counts after limit r best len is same now)
     (λ z i. one-part regions incident own labels counts model limit tables ok l z (decoded (getD best 0 0)) i first) fresh

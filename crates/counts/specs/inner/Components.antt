@@ -9,17 +9,17 @@ use lib.ListN.{length, getD}
 use lib.Dec.{eqb, ltb}
 use lib.Ieee.{Float, nan}
 use Rattle.counts.specs.Cost.{CostModel}
-use Rattle.counts.specs.inner.Tables.{set-both, Entries, none}
+use Rattle.counts.specs.inner.Tables.{set-both, Entries, no-constraint}
 
 -- ---- labels
 
 -- edge x has constraint i at one of its two places
 abbrev pub At : List ℕ → ℕ → ℕ → Type 0
-At incident i x = (getD incident (x * 2) 0 ≡ i) ⊎ ((getD incident (x * 2) 0 < none) × (getD incident (x * 2 + 1) 0 ≡ i))
+At incident i x = (getD incident (x * 2) 0 ≡ i) ⊎ ((getD incident (x * 2) 0 < no-constraint) × (getD incident (x * 2 + 1) 0 ≡ i))
 
 -- of n edges, those in one constraint have one label
 abbrev pub Labels : ℕ → List ℕ → List ℕ → Type 0
-Labels n incident labels = (i x y : ℕ) → i < none → x < n → y < n → At incident i x → At incident i y → getD labels x 0 ≡ getD labels y 0
+Labels n incident labels = (i x y : ℕ) → i < no-constraint → x < n → y < n → At incident i x → At incident i y → getD labels x 0 ≡ getD labels y 0
 
 -- label `from` becomes `to`
 abbrev pub renamed : ℕ → ℕ → ℕ → ℕ
@@ -33,12 +33,12 @@ pub record StillEqual (marks marks' : List ℕ) : Type 0 where
 -- the two constraints of edge x, if it has two, have one mark
 abbrev pub OneMark : List ℕ → List ℕ → ℕ → Type 0
 OneMark incident marks x =
-    getD incident (x * 2) 0 < none → getD incident (x * 2 + 1) 0 < none
+    getD incident (x * 2) 0 < no-constraint → getD incident (x * 2 + 1) 0 < no-constraint
     → getD marks (getD incident (x * 2) 0) 0 ≡ getD marks (getD incident (x * 2 + 1) 0) 0
 
 -- edge x, if it is in a constraint, has the mark of its first one
 abbrev pub Taken : List ℕ → List ℕ → List ℕ → ℕ → Type 0
-Taken incident marks labels x = getD incident (x * 2) 0 < none → getD labels x 0 ≡ getD marks (getD incident (x * 2) 0) 0
+Taken incident marks labels x = getD incident (x * 2) 0 < no-constraint → getD labels x 0 ≡ getD marks (getD incident (x * 2) 0) 0
 
 -- ---- what a move touches
 
@@ -48,17 +48,17 @@ Outside m labels part y = y < m → getD labels y 0 ≢ part
 
 -- edge e has new entries, by what its changes cost now, and its starts are forgotten, if its label is this one
 abbrev pub EdgeRefreshed : ℕ → ℕ → ℕ → (Bool → Float) → ℕ → List Float → List Bool → List Bool → List Float → List Bool → List Bool → Type 0
-EdgeRefreshed label part s price e costs may known costs' may' known' =
-    ((label ≢ part) × (costs' ≡ costs) × (may' ≡ may) × (known' ≡ known))
-    ⊎ ((label ≡ part) × (costs' ≡ set-both costs e (price true) (price false)) × (may' ≡ set-both may e true (ltb 0 s))
+EdgeRefreshed label part s price e costs allowed known costs' allowed' known' =
+    ((label ≢ part) × (costs' ≡ costs) × (allowed' ≡ allowed) × (known' ≡ known))
+    ⊎ ((label ≡ part) × (costs' ≡ set-both costs e (price true) (price false)) × (allowed' ≡ set-both allowed e true (ltb 0 s))
     × (known' ≡ set-both known e false false))
 
 -- the first m edges that have this label have the entries of these counts, and their starts are forgotten; all else is as it was
-pub record Refreshed (m : ℕ) (labels : List ℕ) (part : ℕ) (counts : List ℕ) (model : CostModel) (costs : List Float) (may known : List Bool) (costs' : List Float) (may' known' : List Bool) : Type 0 where
+pub record Refreshed (m : ℕ) (labels : List ℕ) (part : ℕ) (counts : List ℕ) (model : CostModel) (costs : List Float) (allowed known : List Bool) (costs' : List Float) (allowed' known' : List Bool) : Type 0 where
   pub costs-long : length costs' ≡ 512
-  pub may-long : length may' ≡ 512
+  pub allowed-long : length allowed' ≡ 512
   pub known-long : length known' ≡ 512
-  pub fresh : (y : ℕ) → y < m → getD labels y 0 ≡ part → Entries counts model costs' may' y
+  pub fresh : (y : ℕ) → y < m → getD labels y 0 ≡ part → Entries counts model costs' allowed' y
   pub same-cost : (k : ℕ) → Outside m labels part (k / 2) → getD costs' k nan ≡ getD costs k nan
-  pub same-may : (k : ℕ) → Outside m labels part (k / 2) → getD may' k false ≡ getD may k false
+  pub same-allowed : (k : ℕ) → Outside m labels part (k / 2) → getD allowed' k false ≡ getD allowed k false
   pub still-known : (k : ℕ) → getD known' k false ≡ true → Outside m labels part (k / 2) × (getD known k false ≡ true)

@@ -11,7 +11,7 @@ use Rattle.base.specs.declared.verdict.Verdict.{Verdict}
 use Rattle.base.specs.Refusal.{is-passed}
 use Rattle.counts.specs.Region.{Constraint, places, region-count, constraint, incidence}
 use Rattle.counts.specs.Accept.{max-regions, max-edges, overused-test}
-use Rattle.counts.specs.inner.Tables.{the-graph, none, edges-of, Tables}
+use Rattle.counts.specs.inner.Tables.{the-graph, no-constraint, edges-of, Tables}
 
 abbrev pub first-side : ℕ → ℕ
 first-side i = i / 2 * 4 + i % 2
@@ -65,9 +65,9 @@ side-of g y i = first-side i + cond (member y (constraint g i .a)) 0 2
 pub record Filled (g placed : List Constraint) (incident own uses : List ℕ) : Type 0 where
   pub sized : Sized incident own uses
   pub counted : (y : ℕ) → y < 256 → getD uses y 0 ≡ length (incidence placed y)
-  pub incident-is : (y k : ℕ) → y < 256 → k < 2 → getD incident (y * 2 + k) 0 ≡ getD (incidence placed y) k none
+  pub incident-is : (y k : ℕ) → y < 256 → k < 2 → getD incident (y * 2 + k) 0 ≡ getD (incidence placed y) k no-constraint
   pub own-is :
-      (y k : ℕ) → y < 256 → k < 2 → getD incident (y * 2 + k) 0 < none → getD own (y * 2 + k) 0 ≡ side-of g y (getD incident (y * 2 + k) 0)
+      (y k : ℕ) → y < 256 → k < 2 → getD incident (y * 2 + k) 0 < no-constraint → getD own (y * 2 + k) 0 ≡ side-of g y (getD incident (y * 2 + k) 0)
 
 -- what `build_graph` leaves for n edges: 6's verdict, and the search's tables if that is that it passed
 pub record Built (n : ℕ) (regions incident own : List ℕ) (verdict : Verdict) : Type 0 where

@@ -14,7 +14,7 @@ use Rattle.base.specs.Lists.{any, each, differs}
 use Rattle.counts.specs.Region.{Constraint, constraint, holds, own-side, opposite-side, incidence}
 use Rattle.counts.specs.Move.{Change, select}
 use Rattle.counts.specs.Search.{Go, Act, State, skip, turned-back, entered, record-path, signed, others-changed, is-used, free, try-step, visit, dfs, run}
-use Rattle.counts.specs.inner.Tables.{decoded, path-of, state-of, the-graph, cost-in, allowed-in, none, Other, Tables}
+use Rattle.counts.specs.inner.Tables.{decoded, path-of, state-of, the-graph, cost-in, allowed-in, no-constraint, Other, Tables}
 use Rattle.counts.specs.declared.search.SearchState.{SearchState}
 use Rattle.counts.specs.declared.search.Changed.{Changed}
 use Rattle.counts.specs.declared.search.Changed.the-variants.{Nothing, One, Many}
@@ -65,9 +65,9 @@ module _ (regions : List ℕ) (costs : List Float) (allowed : List Bool) (limit 
 
 -- `home`, the start's constraint that is still open, none if it has none
 pub record Home (g : List Constraint) (used : List Bool) (path : List ℕ) (home : ℕ) : Type 0 where
-  pub at-start : home ≢ none → T (holds (constraint g home) (getD path 0 0 / 2))
-  pub unmet : home ≢ none → is-used used home ≡ false
-  pub at-most : home ≤ none
+  pub at-start : home ≢ no-constraint → T (holds (constraint g home) (getD path 0 0 / 2))
+  pub unmet : home ≢ no-constraint → is-used used home ≡ false
+  pub at-most : home ≤ no-constraint
 
 -- `dfs` is to cross the unused constraint at place p of the last of n changes
 pub record MayCross (g : List Constraint) (incident : List ℕ) (used : List Bool) (path : List ℕ) (n p home : ℕ) : Type 0 where
@@ -77,7 +77,7 @@ pub record MayCross (g : List Constraint) (incident : List ℕ) (used : List Boo
   pub path-long : length path ≡ 257
   pub small : p < 512
   pub here : getD path (n - 1) 0 / 2 ≡ p / 2
-  pub real : getD incident p 0 < none
+  pub real : getD incident p 0 < no-constraint
   pub unused : is-used used (getD incident p 0) ≡ false
   pub away : (i : ℕ) → is-used used i ≡ false → i ≢ home → others-changed (constraint g i) (p / 2) (path-of n path) ≡ []
   pub mine : (i : ℕ) → is-used used i ≡ false → i ≢ home → T (holds (constraint g i) (p / 2)) → i ≡ getD incident p 0
@@ -121,13 +121,13 @@ pub record Stepped (regions : List ℕ) (costs : List Float) (allowed : List Boo
 abbrev pub Ended : List Float → ℕ → List ℕ → List ℕ → ℕ → ℕ → Float → ℕ → SearchState → List ℕ → List ℕ → SearchState → Type 0
 Ended costs limit path best n d t home st path' best' r =
     (regions incident own : List ℕ) (allowed used : List Bool) (e i : ℕ) → Tables regions incident own → MayStep (the-graph regions) used path n e i d home
-    → d / 2 ≢ e → getD allowed d false ≡ true → Other (the-graph regions) (d / 2) i none → Stepped regions costs allowed limit used path best n e i d t st used path' best' r
+    → d / 2 ≢ e → getD allowed d false ≡ true → Other (the-graph regions) (d / 2) i no-constraint → Stepped regions costs allowed limit used path best n e i d t st used path' best' r
 
 -- ---- the whole search from one start
 
 -- the marks that it starts with: no constraint is used yet, and `none` always counts as used
 unfoldable pub no-marks : List Bool
-no-marks = set (replicate 257 false) none true
+no-marks = set (replicate 257 false) no-constraint true
 
 -- the state that it starts with
 abbrev pub fresh-state : SearchState

@@ -11,7 +11,7 @@ use lib.Dec.{eqb, ltb, T}
 use lib.Ieee.{Float, nan}
 use Rattle.base.specs.Lists.{member, any, differs}
 use Rattle.counts.specs.Region.{Constraint, places, graph, constraint, holds, own-side, opposite-side, incidence}
-use Rattle.counts.specs.Move.{Change, EdgeCost, select, allowed}
+use Rattle.counts.specs.Move.{Change, EdgeCost, select, is-allowed}
 use Rattle.counts.specs.Cost.{CostModel}
 use Rattle.counts.specs.Search.{State, Go, Act, skip, signed, others-changed, is-used, try-step, visit, dfs}
 use Rattle.counts.specs.declared.search.SearchState.{SearchState}
@@ -46,22 +46,22 @@ abbrev pub cost-in : List Float → EdgeCost
 cost-in costs x s = getD costs (encoded x s) nan
 
 abbrev pub allowed-in : List Bool → ℕ → Bool → Bool
-allowed-in allowed x s = getD allowed (encoded x s) false
+allowed-in is-allowed x s = getD is-allowed (encoded x s) false
 
 -- the two entries of edge e, for +1 and for -1, at 2 * e + 1 and at 2 * e
 abbrev pub set-both : {A : Type 0} → List A → ℕ → A → A → List A
 set-both l e plus minus = set (set l (e * 2 + 1) plus) (e * 2) minus
 
 -- the entries of edge x in a round's tables: what +1 and -1 cost, and whether each is allowed, at 2 * x + 1 and at 2 * x
-pub record Entries (counts : List ℕ) (model : CostModel) (costs : List Float) (may : List Bool) (x : ℕ) : Type 0 where
+pub record Entries (counts : List ℕ) (model : CostModel) (costs : List Float) (allowed : List Bool) (x : ℕ) : Type 0 where
   pub plus-cost : getD costs (x * 2 + 1) nan ≡ model counts x true
   pub minus-cost : getD costs (x * 2) nan ≡ model counts x false
-  pub plus-may : getD may (x * 2 + 1) false ≡ allowed counts x true
-  pub minus-may : getD may (x * 2) false ≡ allowed counts x false
+  pub plus-allowed : getD allowed (x * 2 + 1) false ≡ is-allowed counts x true
+  pub minus-allowed : getD allowed (x * 2) false ≡ is-allowed counts x false
 
 -- stands for "no constraint" in a table, and is the number of a constraint that is always used
-abbrev pub none : ℕ
-none = 256
+abbrev pub no-constraint : ℕ
+no-constraint = 256
 
 -- the edges of side s, sides counted over all records
 abbrev pub edges-of : List ℕ → ℕ → List ℕ
@@ -73,9 +73,9 @@ across s = cond (ltb (s % 4) 2) (s + 2) (s - 2)
 
 -- y is in constraint i, and o is its other constraint, or none
 pub data Other (g : List Constraint) (y i o : ℕ) : Type 0 where
-  alone : o ≡ none → incidence g y ≡ i ∷ [] → Other g y i o
-  after : o < none → o ≢ i → incidence g y ≡ i ∷ o ∷ [] → Other g y i o
-  before : o < none → o ≢ i → incidence g y ≡ o ∷ i ∷ [] → Other g y i o
+  alone : o ≡ no-constraint → incidence g y ≡ i ∷ [] → Other g y i o
+  after : o < no-constraint → o ≢ i → incidence g y ≡ i ∷ o ∷ [] → Other g y i o
+  before : o < no-constraint → o ≢ i → incidence g y ≡ o ∷ i ∷ [] → Other g y i o
 
 -- edge x of constraint i stands on side s
 pub record StandsOn (regions : List ℕ) (i x s : ℕ) : Type 0 where
@@ -93,6 +93,6 @@ pub record Tables (regions incident own : List ℕ) : Type 0 where
   pub parted : (i y : ℕ) → T (member y (constraint (the-graph regions) i .a)) → T (member y (constraint (the-graph regions) i .b)) → ⊥
   pub few : (i y : ℕ) → T (holds (constraint (the-graph regions) i) y) → y < 256
   pub numbered : (i y : ℕ) → T (holds (constraint (the-graph regions) i) y) → i < 256
-  pub incident-is : (y k : ℕ) → y < 256 → k < 2 → getD incident (y * 2 + k) 0 ≡ getD (incidence (the-graph regions) y) k none
+  pub incident-is : (y k : ℕ) → y < 256 → k < 2 → getD incident (y * 2 + k) 0 ≡ getD (incidence (the-graph regions) y) k no-constraint
   pub thin : (y : ℕ) → length (incidence (the-graph regions) y) ≤ 2
-  pub stands : (p : ℕ) → p < 512 → getD incident p 0 < none → StandsOn regions (getD incident p 0) (p / 2) (getD own p 0)
+  pub stands : (p : ℕ) → p < 512 → getD incident p 0 < no-constraint → StandsOn regions (getD incident p 0) (p / 2) (getD own p 0)

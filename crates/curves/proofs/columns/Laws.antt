@@ -6,7 +6,7 @@ use native.Mathlib.Nat.{zero-add}
 use native.Mathlib.Omega.{arith}
 use lib.ListN.{length, getD, set, List·getD-append}
 use lib.Ieee.{Float, nan}
-use Rattle.base.specs.Buffers.{cat, splice}
+use Rattle.base.specs.Buffers.{concat-tabulate, splice}
 use Rattle.floats.specs.Scalar.{clamp-unit}
 use Rattle.curves.specs.Curve.{ArcCurve}
 use Rattle.curves.specs.Point.{values}
@@ -16,7 +16,7 @@ use Rattle.curves.specs.declared.boundary.Ends.{Ends}
 use Rattle.curves.specs.declared.patch.Column.{Column}
 use Rattle.curves.specs.declared.patch.Row.{Row}
 use Rattle.curves.specs.declared.point.Point.{Point}
-use Rattle.base.proofs.BufferLaws.{splice-none, store-next, length-cat, getD-cat, cat-step, pair-step}
+use Rattle.base.proofs.BufferLaws.{splice-none, store-next, length-concat, getD-concat, concat-step, pair-step}
 
 module _ {A : Type 0} where
   pub store-nine : (d : List A) (from : ℕ) (a b c e f g h i j : A) → from + 9 ≤ length d
@@ -49,20 +49,20 @@ module _ (bottom top : ArcCurve) (b t : Ends) (seam : List Float) where
   worked-out i u c e f = ap (column-values u) f ∙ ap (λ (x : Float). column-values x (column-at bottom top b t x)) e
 
   -- a turn of the loop that fills the table
-  pub next-column : (d table next : List Float) (i from : ℕ) (u : Float) (c : Column) → table ≡ splice d 0 (cat (seam-column bottom top b t seam) 0 i) → from ≡ 9 * i → from ≤ length d
-      → u ≡ clamp-unit (getD seam i nan) → c ≡ column-at bottom top b t u → next ≡ splice table from (column-values u c) → next ≡ splice d 0 (cat (seam-column bottom top b t seam) 0 (i + 1))
+  pub next-column : (d table next : List Float) (i from : ℕ) (u : Float) (c : Column) → table ≡ splice d 0 (concat-tabulate (seam-column bottom top b t seam) 0 i) → from ≡ 9 * i → from ≤ length d
+      → u ≡ clamp-unit (getD seam i nan) → c ≡ column-at bottom top b t u → next ≡ splice table from (column-values u c) → next ≡ splice d 0 (concat-tabulate (seam-column bottom top b t seam) 0 (i + 1))
   next-column d table next i from u c o k h e f w =
-      let l : length (cat (seam-column bottom top b t seam) 0 i) ≡ i * 9 = length-cat (seam-column bottom top b t seam) 9 0 i (λ j l. length-column j) in
-      cat-step d 0 (seam-column bottom top b t seam) table i from next o (omega arith) h (w ∙ ap (splice table from) (worked-out i u c e f))
+      let l : length (concat-tabulate (seam-column bottom top b t seam) 0 i) ≡ i * 9 = length-concat (seam-column bottom top b t seam) 9 0 i (λ j l. length-column j) in
+      concat-step d 0 (seam-column bottom top b t seam) table i from next o (omega arith) h (w ∙ ap (splice table from) (worked-out i u c e f))
 
-  module _ (d table : List Float) (n : ℕ) (o : table ≡ splice d 0 (cat (seam-column bottom top b t seam) 0 n)) where
+  module _ (d table : List Float) (n : ℕ) (o : table ≡ splice d 0 (concat-tabulate (seam-column bottom top b t seam) 0 n)) where
     value-at : (i r : ℕ) → i < n → r < 9 → getD table (9 * i + r) nan ≡ getD (seam-column bottom top b t seam i) r nan
     value-at i r h q =
         let g = seam-column bottom top b t seam in
-        let l : length (cat g 0 n) ≡ n * 9 = length-cat g 9 0 n (λ j l. length-column j) in
+        let l : length (concat-tabulate g 0 n) ≡ n * 9 = length-concat g 9 0 n (λ j l. length-column j) in
         ap (λ (x : List Float). getD x (9 * i + r) nan) o
-        ∙ List·getD-append (cat g 0 n) _ nan (9 * i + r) (omega arith)
-        ∙ getD-cat g 9 0 n i r nan length-column h q
+        ∙ List·getD-append (concat-tabulate g 0 n) _ nan (9 * i + r) (omega arith)
+        ∙ getD-concat g 9 0 n i r nan length-column h q
         ∙ ap (λ (x : ℕ). getD (g x) r nan) (zero-add i)
 
     -- the table that the loop leaves
@@ -84,9 +84,9 @@ abbrev pub level-point : List Float → Row → Float → ℕ → List Float
 level-point table row v i = values (patch-point (stored-column table (9 * i)) row (getD table (9 * i) nan) v)
 
 -- a turn of the loop that writes them
-pub next-point : (d points table : List Float) (row : Row) (v : Float) (i k from : ℕ) (column : Column) (p : Point) → points ≡ splice d 0 (cat (level-point table row v) 0 i)
+pub next-point : (d points table : List Float) (row : Row) (v : Float) (i k from : ℕ) (column : Column) (p : Point) → points ≡ splice d 0 (concat-tabulate (level-point table row v) 0 i)
     → k ≡ 2 * i → k + 2 ≤ length d → from ≡ 9 * i → column ≡ stored-column table from → p ≡ patch-point column row (getD table from nan) v
-    → set (set points k (p .x)) (k + 1) (p .y) ≡ splice d 0 (cat (level-point table row v) 0 (i + 1))
+    → set (set points k (p .x)) (k + 1) (p .y) ≡ splice d 0 (concat-tabulate (level-point table row v) 0 (i + 1))
 next-point d points table row v i k from column p o e h f q w =
     let z : values p ≡ level-point table row v i =
     ap values w

@@ -24,7 +24,7 @@ use Rattle.curves.specs.Grid.{Seams, seams, n-u, n-v, Grid, grid-of, gri
 use Rattle.curves.specs.Coons.{Outcome, outcome-of, refusal, unless, filled, seams-and-room-test, grid-stage, curve-limit, curves-limit, seam-limit, seams-limit, cells-limit, coons-from-parameters}
 use Rattle.curves.specs.declared.grid.Layout.{Layout}
 use Rattle.curves.specs.declared.coons.GridAnswer.the-variants as grid-answer
-use Rattle.base.proofs.BufferLaws.{length-tab, take-splice}
+use Rattle.base.proofs.BufferLaws.{length-tabulate, take-splice}
 use Rattle.curves.proofs.grid.Filled.{good-grid, no-grid}
 
 -- ---- an answer, by the tests before it
@@ -140,7 +140,7 @@ seams-let-by b t l r p =
 
 pub length-even : (n : ℕ) → length (uniform-parameters n) ≡ n + 1
 unfolding uniform-parameters
-length-even n = length-tab _ 0 (n + 1)
+length-even n = length-tabulate _ 0 (n + 1)
 
 -- the front of the buffer that they were written to
 pub even-part : (n : ℕ) (d xs : List Float) → xs ≡ splice d 0 (uniform-parameters n) → take (n + 1) xs ≡ uniform-parameters n

@@ -14,7 +14,7 @@ use Rattle.floats.specs.Scalar.{is-finite}
 use Rattle.base.specs.Buffers.{splice}
 use Rattle.curves.specs.Curve.{point-count, point-at, distance, length-to, total-length, cumulative-of, all-finite, total-test, curve-test}
 use Rattle.curves.specs.declared.point.Point.{Point}
-use Rattle.base.proofs.BufferLaws.{length-tab, take-splice}
+use Rattle.base.proofs.BufferLaws.{length-tabulate, take-splice}
 
 -- ---- every value is finite
 
@@ -48,7 +48,7 @@ length-more points k run step p q e f g h =
 
 pub length-cumulative : (points : List Float) → length (cumulative-of points) ≡ point-count points
 unfolding cumulative-of
-length-cumulative points = length-tab (length-to points) 0 (point-count points)
+length-cumulative points = length-tabulate (length-to points) 0 (point-count points)
 
 -- what a buffer holds in front, once the table is written there
 pub written : (points d xs : List Float) → xs ≡ splice d 0 (cumulative-of points) → take (point-count points) xs ≡ cumulative-of points

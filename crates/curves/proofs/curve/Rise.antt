@@ -18,7 +18,7 @@ use Rattle.base.specs.Refusal.{refused, is-passed, then-test, refuse-if}
 use Rattle.base.proofs.BoolLaws.{T-true, not-T-false}
 use Rattle.base.proofs.TestLaws.{then-left, then-right, not-refused}
 use Rattle.floats.specs.Scalar.{nought, is-finite, is-positive}
-use Rattle.base.specs.Buffers.{tab}
+use Rattle.base.specs.Buffers.{tabulate}
 use Rattle.floats.specs.Root.{among, rounded, root}
 use Rattle.curves.specs.Curve.{point-count, point-at, distance, length-to, total-length, cumulative-of, Rising, Sampled, all-finite, total-test, curve-test}
 use Rattle.curves.specs.declared.point.Point.{Point}
@@ -159,7 +159,7 @@ run-rises points k t = run-next points k (run-among points k (add-finite binary6
 
 -- ---- the table
 
-getD-tab : {A : Type 0} (f : ℕ → A) (k n i : ℕ) (z : A) → i < n → getD (tab f k n) i z ≡ f (k + i)
+getD-tab : {A : Type 0} (f : ℕ → A) (k n i : ℕ) (z : A) → i < n → getD (tabulate f k n) i z ≡ f (k + i)
 getD-tab f k zero i z h = absurd (omega arith)
 getD-tab f k (suc n) zero z h = ap f (sym (add-zero k))
 getD-tab f k (suc n) (suc i) z h = getD-tab f (suc k) n i z (le-of-suc-le-suc h) ∙ ap f (suc-add k i ∙ sym (add-suc k i))

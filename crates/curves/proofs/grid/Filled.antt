@@ -13,7 +13,7 @@ use Rattle.base.specs.declared.refusal.Check.{Check}
 use Rattle.base.specs.declared.refusal.Check.the-variants.{Passed, Refused}
 use Rattle.base.specs.declared.refusal.Refusal.{Refusal}
 use Rattle.base.proofs.TestLaws.{refusal-number, chain-stops, chain-goes-on, first-start, first-next, first-stops, first-done, follows, refuses}
-use Rattle.base.specs.Buffers.{cat, splice}
+use Rattle.base.specs.Buffers.{concat-tabulate, splice}
 use Rattle.base.specs.Tests.{first-of}
 use Rattle.curves.specs.Quad.{zeros}
 use Rattle.curves.specs.Grid.{Row, Grid, row-points, row-test, points-test, quads-test, grid-test, grid-part, grid-values, needed}
@@ -73,13 +73,13 @@ module _ (f : Grid) (n m : ℕ) where
     left-filled last o e = e ∙ ap (λ (x : Outcome). x .out) (follows good-grid no-grid Passed (grid-test f n m) refl o)
 
     -- the rows that were laid before a refused one
-    pub laid-until : (j : ℕ) (out : List Float) (c : Check) (cause : Refusal) → c ≡ Refused cause → j ≤ m + 1 → out ≡ splice d 0 (cat (grid-part layout f n) 0 j) → Laid layout f n m d out (outcome c)
+    pub laid-until : (j : ℕ) (out : List Float) (c : Check) (cause : Refusal) → c ≡ Refused cause → j ≤ m + 1 → out ≡ splice d 0 (concat-tabulate (grid-part layout f n) 0 j) → Laid layout f n m d out (outcome c)
     unfolding outcome
     laid-until j out c cause e h o =
         record { rows = j; up-to = h; all = λ t. absurd (subst T (ap is-passed (ap outcome e) ∙ refusal-number cause) t); written = o }
 
     -- all rows laid
-    pub laid-all : (j : ℕ) (out : List Float) (c : Check) → m < j → j ≤ m + 1 → out ≡ splice d 0 (cat (grid-part layout f n) 0 j) → Laid layout f n m d out (outcome c)
+    pub laid-all : (j : ℕ) (out : List Float) (c : Check) → m < j → j ≤ m + 1 → out ≡ splice d 0 (concat-tabulate (grid-part layout f n) 0 j) → Laid layout f n m d out (outcome c)
     laid-all j out c h k o = record { rows = j; up-to = k; all = λ t. omega arith; written = o }
 
     -- what is left once a refusal has cleared the needed output

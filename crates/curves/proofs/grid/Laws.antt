@@ -12,7 +12,7 @@ use Rattle.base.specs.Refusal.{passed, outcome, is-passed}
 use Rattle.base.specs.declared.refusal.Check.the-variants.{Passed, Refused}
 use Rattle.base.specs.declared.refusal.Refusal.{Refusal}
 use Rattle.base.specs.Answers.{Answer, good, turned-away, verdict}
-use Rattle.base.specs.Buffers.{cat, splice}
+use Rattle.base.specs.Buffers.{concat-tabulate, splice}
 use Rattle.base.specs.Tests.{first-of}
 use Rattle.floats.specs.Scalar.{clamp-unit}
 use Rattle.curves.specs.Point.{point, values, point-of}
@@ -28,7 +28,7 @@ use Rattle.curves.specs.declared.patch.Row.{Row as PatchRow}
 use Rattle.curves.specs.declared.point.Point.{Point}
 use Rattle.curves.specs.declared.point.PointAnswer.{PointAnswer}
 use Rattle.curves.specs.declared.point.PointAnswer.the-variants.{At, Refused as NoPoint}
-use Rattle.base.proofs.BufferLaws.{splice-none, length-cat, cat-same, getD-cat, pair-step, splice-past}
+use Rattle.base.proofs.BufferLaws.{splice-none, length-concat, concat-same, getD-concat, pair-step, splice-past}
 use Rattle.base.proofs.TestLaws.{first-start, first-next, first-stops, first-done, first-same, first-all, first-each}
 use Rattle.curves.proofs.crossing.Laws.{There, crossing-there}
 use Rattle.curves.proofs.patch.Laws.{split-patch}
@@ -70,7 +70,7 @@ length-coordinates (turned-away v) = refl
 
 -- the points before i are written and have passed
 abbrev pub Begun : Row → ℕ → List Float → ℕ → List Float → Type 0
-Begun f n d i row = (row ≡ splice d 0 (cat (λ (k : ℕ). coordinates (f k)) 0 i)) × (row-test f n ≡ first-of (λ (k : ℕ). verdict (f k)) i (n + 1 - i))
+Begun f n d i row = (row ≡ splice d 0 (concat-tabulate (λ (k : ℕ). coordinates (f k)) 0 i)) × (row-test f n ≡ first-of (λ (k : ℕ). verdict (f k)) i (n + 1 - i))
 
 module _ (f : Row) (n : ℕ) (d : List Float) where
   pub row-begins : Begun f n d 0 d
@@ -96,7 +96,7 @@ module _ (f : Row) (n : ℕ) (d : List Float) where
 
   pub row-ends : (i : ℕ) (row : List Float) → Begun f n d i row → i ≡ n + 1 → (passed ≡ row-test f n) × (row ≡ splice d 0 (row-points f n))
   unfolding row-points
-  row-ends i row s e = (first-done (λ (k : ℕ). verdict (f k)) i (n + 1) (omega arith) ∙ sym (s .1), s .0 ∙ ap (λ (k : ℕ). splice d 0 (cat (λ (k : ℕ). coordinates (f k)) 0 k)) e)
+  row-ends i row s e = (first-done (λ (k : ℕ). verdict (f k)) i (n + 1) (omega arith) ∙ sym (s .1), s .0 ∙ ap (λ (k : ℕ). splice d 0 (concat-tabulate (λ (k : ℕ). coordinates (f k)) 0 k)) e)
 
 -- ---- the points of a patch in the place of the crossings
 
@@ -104,12 +104,12 @@ abbrev pub mapped-point : BoundaryCurves → List Float → ℕ → List Float
 mapped-point c row i = values (coons-point c (point-at row i .x) (point-at row i .y))
 
 -- a turn of the loop that puts them there: what it reads is still as it was
-pub next-mapped : (c : BoundaryCurves) (b t : Ends) (d row : List Float) (i k : ℕ) (column : Column) (across : PatchRow) (p : Point) → row ≡ splice d 0 (cat (mapped-point c d) 0 i) → k ≡ 2 * i → k + 2 ≤ length d
+pub next-mapped : (c : BoundaryCurves) (b t : Ends) (d row : List Float) (i k : ℕ) (column : Column) (across : PatchRow) (p : Point) → row ≡ splice d 0 (concat-tabulate (mapped-point c d) 0 i) → k ≡ 2 * i → k + 2 ≤ length d
     → b ≡ curve-ends (c .bottom) → t ≡ curve-ends (c .top) → column ≡ column-at (c .bottom) (c .top) b t (getD row k nan) → across ≡ row-at (c .right) (c .left) (getD row (k + 1) nan)
-    → p ≡ patch-point column across (getD row k nan) (getD row (k + 1) nan) → set (set row k (p .x)) (k + 1) (p .y) ≡ splice d 0 (cat (mapped-point c d) 0 (i + 1))
+    → p ≡ patch-point column across (getD row k nan) (getD row (k + 1) nan) → set (set row k (p .x)) (k + 1) (p .y) ≡ splice d 0 (concat-tabulate (mapped-point c d) 0 (i + 1))
 next-mapped c b t d row i k column across p o e h eb et ec er ep =
-    let vs : List Float = cat (mapped-point c d) 0 i in
-    let l : length vs ≡ i * 2 = length-cat (mapped-point c d) 2 0 i (λ j l. refl) in
+    let vs : List Float = concat-tabulate (mapped-point c d) 0 i in
+    let l : length vs ≡ i * 2 = length-concat (mapped-point c d) 2 0 i (λ j l. refl) in
     let u : getD row k nan ≡ getD d (2 * i) nan = ap (λ (x : List Float). getD x k nan) o ∙ splice-past d vs k nan (omega arith) ∙ ap (λ (x : ℕ). getD d x nan) e in
     let v : getD row (k + 1) nan ≡ getD d (2 * i + 1) nan = ap (λ (x : List Float). getD x (k + 1) nan) o ∙ splice-past d vs (k + 1) nan (omega arith) ∙ ap (λ (x : ℕ). getD d (x + 1) nan) e in
     let q : values p ≡ mapped-point c d i =
@@ -136,7 +136,7 @@ module _ (c : BoundaryCurves) (bottom top : List Float) (a b : Float) (j : ℕ) 
         let f : ℕ → List Float = λ (k : ℕ). coordinates (crossings bottom top a b j k) in
         sym (getD-take (2 * (n + 1)) row (2 * i + r) nan (omega arith))
         ∙ ap (λ (x : List Float). getD x (2 * i + r) nan) e
-        ∙ getD-cat f 2 0 (n + 1) i r nan (λ k. length-coordinates (crossings bottom top a b j k)) (omega arith) q
+        ∙ getD-concat f 2 0 (n + 1) i r nan (λ k. length-coordinates (crossings bottom top a b j k)) (omega arith) q
         ∙ ap (λ (x : ℕ). getD (f x) r nan) (zero-add i)
 
     passed-at : (i : ℕ) → i ≤ n → T (is-passed (verdict (crossings bottom top a b j i)))
@@ -155,7 +155,7 @@ module _ (c : BoundaryCurves) (bottom top : List Float) (a b : Float) (j : ℕ) 
   pub mapped-row : (n : ℕ) (row : List Float) → T (is-passed (row-test (crossings bottom top a b j) n)) → take (2 * (n + 1)) row ≡ row-points (crossings bottom top a b j) n
       → mapped-points c row n ≡ row-points (row-of c bottom top a b j) n
   unfolding mapped-points row-points
-  mapped-row n row t e = cat-same (mapped-point c row) (λ (i : ℕ). coordinates (row-of c bottom top a b j i)) 0 (n + 1) (mapped-at n row t e)
+  mapped-row n row t e = concat-same (mapped-point c row) (λ (i : ℕ). coordinates (row-of c bottom top a b j i)) 0 (n + 1) (mapped-at n row t e)
 
 -- ---- a level line, whose crossings lie at the seam's values
 
@@ -178,6 +178,6 @@ module _ (c : BoundaryCurves) (b t : Ends) (bottom top table : List Float) (v : 
   pub level-row : (level-points table across v n ≡ row-points (row-of c bottom top v v j) n) × (row-test (row-of c bottom top v v j) n ≡ passed)
   unfolding level-points row-points row-test
   level-row = (
-    cat-same (level-point table across v) (λ (i : ℕ). coordinates (row-of c bottom top v v j i)) 0 (n + 1) level-same,
+    concat-same (level-point table across v) (λ (i : ℕ). coordinates (row-of c bottom top v v j i)) 0 (n + 1) level-same,
     first-all (λ (i : ℕ). verdict (row-of c bottom top v v j i)) 0 (n + 1) (λ i l. ap verdict (level-at i (omega arith))),
   )

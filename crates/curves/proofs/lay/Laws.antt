@@ -28,7 +28,7 @@ use Rattle.base.specs.Buffers.{splice}
 use Rattle.curves.specs.Seam.{edge-values, seam-from, side-seam}
 use Rattle.curves.specs.Grid.{Seams, seams}
 use Rattle.curves.specs.Coons.{Outcome, outcome-of, curves-limit, seam-limit, seams-limit, coons-from-parameters}
-use Rattle.curves.specs.Lay.{Field, counts-along, seam-of, seams-of, record-test, edges-test, breaks-test, sides-test, lay-test, lay}
+use Rattle.curves.specs.Lay.{TileInput, counts-along, seam-of, seams-of, record-test, edges-test, breaks-test, sides-test, lay-test, lay}
 use Rattle.curves.specs.declared.grid.Layout.the-variants.{Quads}
 use Rattle.curves.specs.declared.coons.GridAnswer.the-variants as grid-answer
 use Rattle.base.proofs.BufferLaws.{part-written, set-splice}
@@ -138,14 +138,14 @@ pub record SideKnown (region : List ℕ) (n k : ℕ) (breaks : List Float) : Typ
   pub edges : T (is-passed (edges-test region n k))
   pub fit : T (is-passed (breaks-test region breaks k))
 
-pub record Known (region : List ℕ) (n : ℕ) (f : Field) : Type 0 where
+pub record Known (region : List ℕ) (n : ℕ) (f : TileInput) : Type 0 where
   pub curves : T (is-passed (curves-limit (f .bottom) (f .right) (f .top) (f .left)))
   pub side0 : SideKnown region n 0 (f .breaks0)
   pub side1 : SideKnown region n 1 (f .breaks1)
   pub side2 : SideKnown region n 2 (f .breaks2)
   pub side3 : SideKnown region n 3 (f .breaks3)
 
-pub known : (region : List ℕ) (n : ℕ) (f : Field) → T (is-passed (lay-test region n f)) → Known region n f
+pub known : (region : List ℕ) (n : ℕ) (f : TileInput) → T (is-passed (lay-test region n f)) → Known region n f
 unfolding lay-test sides-test
 known region n f t =
     let limit = curves-limit (f .bottom) (f .right) (f .top) (f .left) in
@@ -194,10 +194,10 @@ module _ (s : Seams) where
 
 -- ---- lay's answer, by its tests
 
-pub tested : (region : List ℕ) (n : ℕ) (f : Field) (c : Check) → c ≡ Passed → outcome c ≡ lay-test region n f → T (is-passed (lay-test region n f))
+pub tested : (region : List ℕ) (n : ℕ) (f : TileInput) (c : Check) → c ≡ Passed → outcome c ≡ lay-test region n f → T (is-passed (lay-test region n f))
 tested region n f c e o = subst (λ (v : Verdict). T (is-passed v)) o (told-passed c e)
 
-module _ (region counts : List ℕ) (f : Field) (out : List Float) where
+module _ (region counts : List ℕ) (f : TileInput) (out : List Float) where
   abbrev grid : Outcome
   grid = coons-from-parameters Quads (f .bottom) (f .right) (f .top) (f .left) (seams-of region counts f) out
 

@@ -13,7 +13,7 @@ use Rattle.base.specs.declared.verdict.Verdict.{Verdict}
 use Rattle.base.specs.Refusal.{passed, refused, refuse-if, outcome, then-test}
 use Rattle.base.specs.declared.refusal.Check.{Check}
 use Rattle.base.specs.declared.refusal.Check.the-variants.{Passed}
-use Rattle.base.specs.Buffers.{cat, splice}
+use Rattle.base.specs.Buffers.{concat-tabulate, splice}
 use Rattle.base.specs.Tests.{first-of}
 use Rattle.floats.specs.Scalar.{nought, is-positive}
 use Rattle.curves.specs.Point.{signed-area}
@@ -24,7 +24,7 @@ use Rattle.curves.specs.inner.Rows.{row-size}
 use Rattle.curves.specs.declared.point.Point.{Point}
 use Rattle.curves.specs.declared.grid.Layout.{Layout}
 use Rattle.curves.specs.declared.grid.Layout.the-variants.{Quads, Nodes}
-use Rattle.base.proofs.BufferLaws.{length-tab, length-cat, length-cat-more, cat-grows, splice-none, store-next, cat-step, splice-over, take-splice}
+use Rattle.base.proofs.BufferLaws.{length-tabulate, length-concat, length-concat-more, concat-grows, splice-none, store-next, concat-step, splice-over, take-splice}
 use Rattle.base.proofs.TestLaws.{first-more, first-shifted}
 use Rattle.curves.proofs.grid.Laws.{length-coordinates}
 
@@ -67,8 +67,8 @@ quad-at low high i = quad-values (point-at low i) (point-at low (i + 1)) (point-
 abbrev pub node-at : List Float → ℕ → List Float
 node-at row i = node-values (point-at row i)
 
-pub quads-length : (low high : List Float) (n : ℕ) → length (cat (quad-at low high) 0 n) ≡ 8 * n
-quads-length low high n = length-cat (quad-at low high) 8 0 n (λ i h. refl) ∙ mul-comm n 8
+pub quads-length : (low high : List Float) (n : ℕ) → length (concat-tabulate (quad-at low high) 0 n) ≡ 8 * n
+quads-length low high n = length-concat (quad-at low high) 8 0 n (λ i h. refl) ∙ mul-comm n 8
 
 -- the quad that was written is the one of its four points
 pub quad-same : (low high : List Float) (i : ℕ) (out : List Float) (at : ℕ) (a b c d : Point) (next : List Float)
@@ -94,8 +94,8 @@ cell-passes low high i j a b c d p q r s t =
     ∙ ap (λ (x : Point). signed-area (point-at low i) (point-at low (i + 1)) (point-at high (i + 1)) x) s in
     ap (λ (x : Bool). refuse-if (not x) (refused 25 i j)) (sym (ap is-positive e) ∙ t)
 
-pub nodes-length : (row : List Float) (n : ℕ) → length (cat (node-at row) 0 n) ≡ 3 * n
-nodes-length row n = length-cat (node-at row) 3 0 n (λ i h. refl) ∙ mul-comm n 3
+pub nodes-length : (row : List Float) (n : ℕ) → length (concat-tabulate (node-at row) 0 n) ≡ 3 * n
+nodes-length row n = length-concat (node-at row) 3 0 n (λ i h. refl) ∙ mul-comm n 3
 
 pub first-quads : (low high : List Float) (n j : ℕ) → j ≡ 0 → row-part Quads low high n j ≡ []
 unfolding row-part
@@ -159,14 +159,14 @@ below-later low high n (suc j) h = let e : j ≡ suc j - 1 = omega arith in ap (
 
 pub length-row-points : (f : Row) (n : ℕ) → length (row-points f n) ≡ 2 * (n + 1)
 unfolding row-points
-length-row-points f n = length-cat (λ (i : ℕ). coordinates (f i)) 2 0 (n + 1) (λ i h. length-coordinates (f i)) ∙ mul-comm (n + 1) 2
+length-row-points f n = length-concat (λ (i : ℕ). coordinates (f i)) 2 0 (n + 1) (λ i h. length-coordinates (f i)) ∙ mul-comm (n + 1) 2
 
 pub length-grid : (layout : Layout) (f : Grid) (n m : ℕ) → length (grid-values layout f n m) ≡ needed layout n m
 unfolding grid-values needed
 length-grid Quads f n m =
-    ap (λ (k : ℕ). length (cat (grid-part Quads f n) 0 k)) (add-one m)
-    ∙ length-cat (grid-part Quads f n) (8 * n) 1 m (λ j h. ap length (later-quads (row-points (f (j - 1)) n) (row-points (f j) n) n j h) ∙ length-quads (row-points (f (j - 1)) n) (row-points (f j) n) n)
-length-grid Nodes f n m = length-cat (grid-part Nodes f n) (3 * (n + 1)) 0 (m + 1) (λ j h. ap length (nodes-row Nodes (row-points (f (j - 1)) n) (row-points (f j) n) n j refl) ∙ length-nodes (row-points (f j) n) n)
+    ap (λ (k : ℕ). length (concat-tabulate (grid-part Quads f n) 0 k)) (add-one m)
+    ∙ length-concat (grid-part Quads f n) (8 * n) 1 m (λ j h. ap length (later-quads (row-points (f (j - 1)) n) (row-points (f j) n) n j h) ∙ length-quads (row-points (f (j - 1)) n) (row-points (f j) n) n)
+length-grid Nodes f n m = length-concat (grid-part Nodes f n) (3 * (n + 1)) 0 (m + 1) (λ j h. ap length (nodes-row Nodes (row-points (f (j - 1)) n) (row-points (f j) n) n j refl) ∙ length-nodes (row-points (f j) n) n)
 
 pub quads-fit : (n m : ℕ) → n ≤ 1024 → m ≤ 1024 → m * (8 * n) ≤ 8388608
 quads-fit n m h k = let e : m * (8 * n) ≤ 1024 * (8 * n) = mul-le-mul-right (8 * n) k in omega arith
@@ -229,49 +229,49 @@ module _ (f : Grid) (n : ℕ) where
         ap (λ (l : List Float). row-part layout l high n (suc j)) (b (omega arith))
         ∙ ap (λ (l : List Float). row-part layout (row-points (f (suc j - 1)) n) l n (suc j)) e
 
-    within : (m j : ℕ) → j ≤ m + 1 → length (cat (grid-part layout f n) 0 j) ≤ needed layout n m
+    within : (m j : ℕ) → j ≤ m + 1 → length (concat-tabulate (grid-part layout f n) 0 j) ≤ needed layout n m
     unfolding grid-values
     within m j h =
-        let g = cat-grows (grid-part layout f n) j (m + 1) h in
+        let g = concat-grows (grid-part layout f n) j (m + 1) h in
         let e = length-grid layout f n m in
         omega (arith, g, e)
 
     -- what row j adds has room
     pub row-fits : (d : List Float) (m j at : ℕ) (low high : List Float) → RowBefore j low → high ≡ row-points (f j) n
-        → at ≡ length (cat (grid-part layout f n) 0 j) → j ≤ m → needed layout n m ≤ length d
+        → at ≡ length (concat-tabulate (grid-part layout f n) 0 j) → j ≤ m → needed layout n m ≤ length d
         → at + length (row-part layout low high n j) ≤ length d
     row-fits d m j at low high b e a h r =
         let p = ap length (part-same j low high b e) in
-        let q = length-cat-more (grid-part layout f n) j in
+        let q = length-concat-more (grid-part layout f n) j in
         let w = within m (j + 1) (omega arith) in
         omega (arith, p, q, w, a, r)
 
     pub row-end : (j at next : ℕ) (low high : List Float) → RowBefore j low → high ≡ row-points (f j) n
-        → at ≡ length (cat (grid-part layout f n) 0 j) → next ≡ at + row-size layout n j
-        → next ≡ length (cat (grid-part layout f n) 0 (j + 1))
+        → at ≡ length (concat-tabulate (grid-part layout f n) 0 j) → next ≡ at + row-size layout n j
+        → next ≡ length (concat-tabulate (grid-part layout f n) 0 (j + 1))
     row-end j at next low high b e a w =
         let p = ap length (part-same j low high b e) in
-        let q = length-cat-more (grid-part layout f n) j in
+        let q = length-concat-more (grid-part layout f n) j in
         let s = size-told layout low high n j in
         omega (arith, p, q, s, a, w)
 
     pub row-written : (d out next : List Float) (m j at : ℕ) (low high : List Float) → RowBefore j low → high ≡ row-points (f j) n
-        → at ≡ length (cat (grid-part layout f n) 0 j) → j ≤ m → needed layout n m ≤ length d
-        → out ≡ splice d 0 (cat (grid-part layout f n) 0 j) → next ≡ splice out at (row-part layout low high n j)
-        → next ≡ splice d 0 (cat (grid-part layout f n) 0 (j + 1))
+        → at ≡ length (concat-tabulate (grid-part layout f n) 0 j) → j ≤ m → needed layout n m ≤ length d
+        → out ≡ splice d 0 (concat-tabulate (grid-part layout f n) 0 j) → next ≡ splice out at (row-part layout low high n j)
+        → next ≡ splice d 0 (concat-tabulate (grid-part layout f n) 0 (j + 1))
     row-written d out next m j at low high b e a h r o w =
         let i = within m j (omega arith) in
-        cat-step d 0 (grid-part layout f n) out j at next o (omega arith) (omega (arith, i, a, r)) (w ∙ ap (splice out at) (part-same j low high b e))
+        concat-step d 0 (grid-part layout f n) out j at next o (omega arith) (omega (arith, i, a, r)) (w ∙ ap (splice out at) (part-same j low high b e))
 
-    pub rows-written : (d out : List Float) (m j : ℕ) → out ≡ splice d 0 (cat (grid-part layout f n) 0 j) → m < j → j ≤ m + 1
+    pub rows-written : (d out : List Float) (m j : ℕ) → out ≡ splice d 0 (concat-tabulate (grid-part layout f n) 0 j) → m < j → j ≤ m + 1
         → out ≡ splice d 0 (grid-values layout f n m)
     unfolding grid-values
-    rows-written d out m j o h k = let e : j ≡ m + 1 = omega arith in o ∙ ap (λ (i : ℕ). splice d 0 (cat (grid-part layout f n) 0 i)) e
+    rows-written d out m j o h k = let e : j ≡ m + 1 = omega arith in o ∙ ap (λ (i : ℕ). splice d 0 (concat-tabulate (grid-part layout f n) 0 i)) e
 
     -- a refusal clears what was written
-    pub rows-cleared : (d out last : List Float) (m j : ℕ) → out ≡ splice d 0 (cat (grid-part layout f n) 0 j) → j ≤ m + 1 → needed layout n m ≤ length d
+    pub rows-cleared : (d out last : List Float) (m j : ℕ) → out ≡ splice d 0 (concat-tabulate (grid-part layout f n) 0 j) → j ≤ m + 1 → needed layout n m ≤ length d
         → last ≡ splice out 0 (zeros (needed layout n m)) → last ≡ splice d 0 (zeros (needed layout n m))
     rows-cleared d out last m j o h r w =
-        let z = length-tab (λ (i : ℕ). nought) 0 (needed layout n m) in
+        let z = length-tabulate (λ (i : ℕ). nought) 0 (needed layout n m) in
         let i = within m j h in
-        w ∙ ap (λ (l : List Float). splice l 0 (zeros (needed layout n m))) o ∙ splice-over d 0 (cat (grid-part layout f n) 0 j) (zeros (needed layout n m)) (omega (arith, z, i)) (omega (arith, z, r))
+        w ∙ ap (λ (l : List Float). splice l 0 (zeros (needed layout n m))) o ∙ splice-over d 0 (concat-tabulate (grid-part layout f n) 0 j) (zeros (needed layout n m)) (omega (arith, z, i)) (omega (arith, z, r))

@@ -14,13 +14,13 @@ use Rattle.base.specs.declared.verdict.Verdict.{Verdict}
 use Rattle.base.specs.Refusal.{refused, then-test, refuse-if}
 use Rattle.base.specs.Tests.{first-of}
 use Rattle.curves.specs.Seam.{edge-value, edge-values, seam-from, value-test, seam-ends-test, seam-test}
-use Rattle.base.proofs.BufferLaws.{length-tab, part-fits}
+use Rattle.base.proofs.BufferLaws.{length-tabulate, part-fits}
 
 -- ---- edge by edge
 
 pub length-edge : (breaks : List Float) (i n : ℕ) → length (edge-values breaks i n) ≡ n
 unfolding edge-values
-length-edge breaks i n = length-tab (edge-value breaks i n) 0 n
+length-edge breaks i n = length-tabulate (edge-value breaks i n) 0 n
 
 pub seam-edge : (breaks : List Float) (counts : List ℕ) (i : ℕ) → i < length counts
     → seam-from breaks i (drop i counts) ≡ edge-values breaks i (getD counts i 0) ++ seam-from breaks (i + 1) (drop (i + 1) counts)

@@ -7,7 +7,7 @@ use lib.Ieee.{Float, nan}
 use Rattle.floats.specs.Scalar.{clamp-unit}
 use Rattle.curves.specs.Point.{point, values}
 use Rattle.curves.specs.Curve.{ArcCurve}
-use Rattle.base.specs.Buffers.{cat}
+use Rattle.base.specs.Buffers.{concat-tabulate}
 use Rattle.curves.specs.Patch.{column-at, patch-point}
 use Rattle.curves.specs.declared.boundary.Ends.{Ends}
 use Rattle.curves.specs.declared.patch.Column.{Column}
@@ -31,14 +31,14 @@ unfoldable pub seam-column : ArcCurve → ArcCurve → Ends → Ends → List Fl
 seam-column bottom top b t seam i = let u = clamp-unit (getD seam i nan) in column-values u (column-at bottom top b t u)
 
 -- a column stands from the index `from` on: the one of the parameter u, which stands first
-abbrev pub Holds : ArcCurve → ArcCurve → Ends → Ends → List Float → ℕ → Float → Type 0
-Holds bottom top b t table from u = (from + 9 ≤ length table) × (getD table from nan ≡ u) × (stored-column table from ≡ column-at bottom top b t u)
+abbrev pub HoldsColumn : ArcCurve → ArcCurve → Ends → Ends → List Float → ℕ → Float → Type 0
+HoldsColumn bottom top b t table from u = (from + 9 ≤ length table) × (getD table from nan ≡ u) × (stored-column table from ≡ column-at bottom top b t u)
 
 -- n columns, of the first n values of a seam
 abbrev pub Table : ArcCurve → ArcCurve → Ends → Ends → List Float → ℕ → List Float → Type 0
-Table bottom top b t seam n table = (i : ℕ) → i < n → Holds bottom top b t table (9 * i) (clamp-unit (getD seam i nan))
+Table bottom top b t seam n table = (i : ℕ) → i < n → HoldsColumn bottom top b t table (9 * i) (clamp-unit (getD seam i nan))
 
 -- the points of n + 1 columns on one row of the patch, of the parameter v
 unfoldable pub level-points : List Float → Row → Float → ℕ → List Float
 unfolding patch-point
-level-points table row v n = cat (λ (i : ℕ). values (patch-point (stored-column table (9 * i)) row (getD table (9 * i) nan) v)) 0 (n + 1)
+level-points table row v n = concat-tabulate (λ (i : ℕ). values (patch-point (stored-column table (9 * i)) row (getD table (9 * i) nan) v)) 0 (n + 1)

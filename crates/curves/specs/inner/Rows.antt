@@ -6,7 +6,7 @@ use lib.Dec.{T}
 use lib.Ieee.{Float}
 use Rattle.base.specs.declared.verdict.Verdict.{Verdict}
 use Rattle.base.specs.Refusal.{passed, is-passed}
-use Rattle.base.specs.Buffers.{cat, splice}
+use Rattle.base.specs.Buffers.{concat-tabulate, splice}
 use Rattle.curves.specs.Point.{values}
 use Rattle.curves.specs.Curve.{point-at}
 use Rattle.curves.specs.Boundary.{BoundaryCurves}
@@ -18,7 +18,7 @@ use Rattle.curves.specs.declared.grid.Layout.the-variants.{Quads, Nodes}
 -- the points of a patch at the n + 1 pairs u, v that stand in a row
 unfoldable pub mapped-points : BoundaryCurves → List Float → ℕ → List Float
 unfolding coons-point
-mapped-points c row n = cat (λ (i : ℕ). values (coons-point c (point-at row i .x) (point-at row i .y))) 0 (n + 1)
+mapped-points c row n = concat-tabulate (λ (i : ℕ). values (coons-point c (point-at row i .x) (point-at row i .y))) 0 (n + 1)
 
 -- how many values row j of the points adds
 unfoldable pub row-size : Layout → ℕ → ℕ → ℕ
@@ -35,4 +35,4 @@ pub record Laid (layout : Layout) (f : Grid) (n m : ℕ) (before after : List Fl
   pub rows : ℕ
   pub up-to : rows ≤ m + 1
   pub all : T (is-passed v) → rows ≡ m + 1
-  pub written : after ≡ splice before 0 (cat (grid-part layout f n) 0 rows)
+  pub written : after ≡ splice before 0 (concat-tabulate (grid-part layout f n) 0 rows)

@@ -15,8 +15,8 @@ use Rattle.base.specs.Refusal.{verdict-of}
 use Rattle.base.specs.declared.refusal.Refusal.{Refusal}
 use Rattle.base.specs.declared.refusal.Refusal.the-variants as because
 use Rattle.base.proofs.refusal.Refusal.{the-type}
-use Rattle.base.specs.Buffers.{cat, splice}
-use Rattle.base.proofs.BufferLaws.{length-cat, splice-none, store-next, cat-step}
+use Rattle.base.specs.Buffers.{concat-tabulate, splice}
+use Rattle.base.proofs.BufferLaws.{length-concat, splice-none, store-next, concat-step}
 use Rattle.mesh.specs.Mesh.{grid-index, cell, row-cells, mesh-cells, zeroes}
 
 -- ---- one cell
@@ -34,14 +34,14 @@ stored d k a b c e h =
     let s2 = store-next d k (a ∷ b ∷ []) _ (k + 2) c s1 refl (omega arith) in
     store-next d k (a ∷ b ∷ c ∷ []) _ (k + 3) e s2 refl (omega arith)
 
-length-cells : (n j i : ℕ) → length (cat (cell n j) 0 i) ≡ 4 * i
+length-cells : (n j i : ℕ) → length (concat-tabulate (cell n j) 0 i) ≡ 4 * i
 unfolding cell
-length-cells n j i = length-cat (cell n j) 4 0 i (λ i h. refl) ∙ mul-comm i 4
+length-cells n j i = length-concat (cell n j) 4 0 i (λ i h. refl) ∙ mul-comm i 4
 
 -- a turn of the loop along row j
 pub cell-turn : (n j : ℕ) (d : List ℕ) (from : ℕ) (out : List ℕ) (i at : ℕ)
-    → out ≡ splice d from (cat (cell n j) 0 i) → at ≡ from + 4 * i → length out ≡ length d → at + 4 ≤ length d
-    → let low : ℕ = j * (n + 1) + i in set (set (set (set out at low) (at + 1) (low + 1)) (at + 2) (low + (n + 1) + 1)) (at + 3) (low + (n + 1)) ≡ splice d from (cat (cell n j) 0 (i + 1))
+    → out ≡ splice d from (concat-tabulate (cell n j) 0 i) → at ≡ from + 4 * i → length out ≡ length d → at + 4 ≤ length d
+    → let low : ℕ = j * (n + 1) + i in set (set (set (set out at low) (at + 1) (low + 1)) (at + 2) (low + (n + 1) + 1)) (at + 3) (low + (n + 1)) ≡ splice d from (concat-tabulate (cell n j) 0 (i + 1))
 unfolding cell
 cell-turn n j d from out i at o e l h =
     let low : ℕ = j * (n + 1) + i in
@@ -50,7 +50,7 @@ cell-turn n j d from out i at o e l h =
     let t : low + 1 ≡ grid-index n (i + 1) j = omega arith in
     let u : high + 1 ≡ grid-index n (i + 1) (j + 1) = let a = above n (i + 1) j in omega (arith, a) in
     let v : high ≡ grid-index n i (j + 1) = sym (above n i j) in
-    cat-step d from (cell n j) out i at _ o (omega (arith, e, q)) (omega (arith, h))
+    concat-step d from (cell n j) out i at _ o (omega (arith, e, q)) (omega (arith, h))
     (stored out at low (low + 1) (high + 1) high (omega (arith, l, h))
     ∙ ap (λ (x : ℕ). splice out at (low ∷ x ∷ (high + 1) ∷ high ∷ [])) t
     ∙ ap (λ (x : ℕ). splice out at (low ∷ grid-index n (i + 1) j ∷ x ∷ high ∷ [])) u
@@ -68,8 +68,8 @@ length-row : (n j : ℕ) → length (row-cells n j) ≡ 4 * n
 unfolding row-cells
 length-row n j = length-cells n j n
 
-pub length-rows : (n m : ℕ) → length (cat (row-cells n) 0 m) ≡ m * (4 * n)
-length-rows n m = length-cat (row-cells n) (4 * n) 0 m (λ j h. length-row n j)
+pub length-rows : (n m : ℕ) → length (concat-tabulate (row-cells n) 0 m) ≡ m * (4 * n)
+length-rows n m = length-concat (row-cells n) (4 * n) 0 m (λ j h. length-row n j)
 
 pub next-row : (n j : ℕ) → (j + 1) * (4 * n) ≡ j * (4 * n) + 4 * n
 next-row n j = ap (λ (k : ℕ). k * (4 * n)) (add-one j) ∙ suc-mul j (4 * n)

@@ -22,7 +22,7 @@ use Rattle.curves.specs.declared.coons.GridAnswer.the-variants as grid-answer
 use Rattle.curves.proofs.coons.Laws.{cells-let-by}
 use Rattle.mesh.specs.Loop.{loop-test, piece}
 use Rattle.mesh.specs.Mesh.{Mesh, mesh-of, needed-cells, mesh-cells, no-cells, zeroes, cells-left, with-cells, without-cells, mesh-tile-curves}
-use Rattle.mesh.specs.Tile.{cells-test, tile-test, coons-checked, mesh-tile}
+use Rattle.mesh.specs.Tile.{cell-limits-test, tile-test, coons-checked, mesh-tile}
 
 -- ---- the room for the indices
 
@@ -114,7 +114,7 @@ module _ (bottom right top left : List Float) (n m : ℕ) (points : List Float) 
 
 module _ (boundary : List Float) (n m : ℕ) where
   tile-test-by : (a b : Bool) → ltb 1024 n ≡ a → ltb 1024 m ≡ b → then-test (refuse-if (a || b) (refused 1 0 0)) (loop-test boundary) ≡ tile-test boundary n m
-  unfolding cells-test tile-test
+  unfolding cell-limits-test tile-test
   tile-test-by a b e f = simp (e, f)
 
   pub too-wide : 1024 < n → refused 1 0 0 ≡ tile-test boundary n m

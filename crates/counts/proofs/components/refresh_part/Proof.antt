@@ -46,7 +46,7 @@ shared-slice-read-high : tie.Need-shared-slice-read-high Inv-loop μ-loop
 shared-slice-read-high c = omega arith
 
 refresh-edge-requires : tie.Need-refresh-edge-requires Inv-loop μ-loop
-refresh-edge-requires c κs = (omega arith, c .before .before .before .before .before .before .before .before .loop .inv .0 .costs-long, c .before .before .before .before .before .before .before .before .loop .inv .0 .may-long, c .before .before .before .before .before .before .before .before .loop .inv .0 .known-long)
+refresh-edge-requires c κs = (omega arith, c .before .before .before .before .before .before .before .before .loop .inv .0 .costs-long, c .before .before .before .before .before .before .before .before .loop .inv .0 .allowed-long, c .before .before .before .before .before .before .before .before .loop .inv .0 .known-long)
 
 add-e : tie.Need-add-e Inv-loop μ-loop
 add-e c = omega arith

@@ -3,7 +3,7 @@
 use mathlib.Core.Path.{refl, sym, _∙_}
 use Prim.Native.Nat.{ℕ, _+_, _-_, _*_, _<_}
 use native.Mathlib.Omega.{arith}
-use Rattle.counts.specs.Move.{allowed, cost}
+use Rattle.counts.specs.Move.{cost}
 use Rattle.counts.specs.Search.{free}
 use Rattle.counts.proofs.search.Places.{other-same}
 use Rattle.counts.proofs.search.Steps.{Walking, may-cross-next, may-step-now, step-back, step-barred, step-crosses, step-shut, step-turned-back, walk-ends, walks-on}

@@ -14,7 +14,7 @@ label-edges-requires c κs = (c .before .before .before .before .before .pre .1 
 moves-in-requires : tie.Need-moves-in-requires
 moves-in-requires c κs = (
   (c .before .before .before .before .before .before .before .before .before .before .before .before .before .before .before .before .pre .0, c .before .before .before .before .before .before .before .before .before .before .before .before .before .before .before .before .pre .1, c .before .before .before .before .before .before .before .before .before .before .before .before .before .before .before .before .pre .2, c .before .before .before .before .before .before .before .before .before .before .before .before .before .before .before .before .pre .3, c .before .before .before .before .before .before .before .before .before .before .before .before .before .before .before .before .pre .4, c .before .before .before .before .before .before .before .before .before .before .label-edges .ensures),
-  (record { unmarked = marks-made; path-long = refl; best-long = refl }, record { costs-long = refl; may-long = refl; kept-long = refl; cut-long = refl; known-long = refl }),
+  (record { unmarked = marks-made; path-long = refl; best-long = refl }, record { costs-long = refl; allowed-long = refl; kept-long = refl; cut-long = refl; known-long = refl }),
 )
 
 same-length : tie.Need-same-length

@@ -9,7 +9,7 @@ array-write-used : tie.Need-array-write-used
 array-write-used c = search needs
 
 round-in-requires : tie.Need-round-in-requires
-round-in-requires c κs = (c .before .before .before .before .before .before .before .before .before .before .before .before .before .pre, (record { unmarked = marks-made; path-long = refl; best-long = refl }, record { costs-long = refl; may-long = refl; kept-long = refl; cut-long = refl; known-long = refl }))
+round-in-requires c κs = (c .before .before .before .before .before .before .before .before .before .before .before .before .before .pre, (record { unmarked = marks-made; path-long = refl; best-long = refl }, record { costs-long = refl; allowed-long = refl; kept-long = refl; cut-long = refl; known-long = refl }))
 
 same-length : tie.Need-same-length
 same-length c = search needs

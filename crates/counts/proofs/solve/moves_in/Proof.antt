@@ -20,7 +20,7 @@ abbrev μ-loop : tie.MeasureT-loop
 μ-loop regions incident own labels least most counts₀ limit costs₀ allowed₀ used₀ path₀ best₀ kept₀ cut₀ known₀ moves₀ counts costs allowed used path best kept cut known moves = max-moves - moves
 
 start-tables-requires : tie.Need-start-tables-requires Inv-loop μ-loop
-start-tables-requires c κs = (c .before .before .before .before .before .before .before .before .pre .0 .1 .few, c .before .before .before .before .before .before .before .before .pre .0 .2, c .before .before .before .before .before .before .before .before .pre .0 .3, c .before .before .before .before .before .before .before .before .pre .1 .1 .costs-long, c .before .before .before .before .before .before .before .before .pre .1 .1 .may-long)
+start-tables-requires c κs = (c .before .before .before .before .before .before .before .before .pre .0 .1 .few, c .before .before .before .before .before .before .before .before .pre .0 .2, c .before .before .before .before .before .before .before .before .pre .0 .3, c .before .before .before .before .before .before .before .before .pre .1 .1 .costs-long, c .before .before .before .before .before .before .before .before .pre .1 .1 .allowed-long)
 
 loop-holds : tie.Need-loop-holds Inv-loop μ-loop
 loop-holds c =
@@ -64,7 +64,7 @@ make-move-requires c κs =
     let is = move-is _ _ _ _ _ _ _ _ _ _ _ _ (c .before .before .before .before .before .before .before .before .find-augmentation .result) t (c .before .before .before .before .before .before .before .before .before .before .before .before .before .before .before .before .before .loop .inv .ready .priced) f in
     let p = c .before .before .before .before .before .before .before .before .before .before .before .before .before .before .before .before .before .loop .inv .ready .priced in (
       move-can _ _ _ _ (c .before .before .before .before .before .before .before .before .find-augmentation .result) _ _ t is (c .before .before .before .before .before .before .before .wide-len .ensures) (f .len-fits) (f .buffers .best-long),
-      ((omega (arith, c .before .before .before .before .before .before .if1 .left), t .few, c .before .before .before .before .before .before .before .before .before .before .before .before .before .before .before .before .before .before .before .before .before .before .before .before .before .before .before .pre .0 .2 ∙ sym (c .before .before .before .before .before .before .before .before .before .before .before .before .before .before .before .before .before .loop .inv .as-long), c .before .before .before .before .before .before .before .before .before .before .before .before .before .before .before .before .before .before .before .before .before .before .before .before .before .before .before .pre .0 .3 ∙ sym (c .before .before .before .before .before .before .before .before .before .before .before .before .before .before .before .before .before .loop .inv .as-long)), (p .costs-long, p .may-long, f .remembered .known-long)),
+      ((omega (arith, c .before .before .before .before .before .before .if1 .left), t .few, c .before .before .before .before .before .before .before .before .before .before .before .before .before .before .before .before .before .before .before .before .before .before .before .before .before .before .before .pre .0 .2 ∙ sym (c .before .before .before .before .before .before .before .before .before .before .before .before .before .before .before .before .before .loop .inv .as-long), c .before .before .before .before .before .before .before .before .before .before .before .before .before .before .before .before .before .before .before .before .before .before .before .before .before .before .before .pre .0 .3 ∙ sym (c .before .before .before .before .before .before .before .before .before .before .before .before .before .before .before .before .before .loop .inv .as-long)), (p .costs-long, p .allowed-long, f .remembered .known-long)),
     )
 
 add-moves : tie.Need-add-moves Inv-loop μ-loop

@@ -6,7 +6,7 @@ use Rattle.counts.proofs.solve.round_in.Statement.{statement}
 use Rattle.counts.proofs.solve.round_in.Tie as tie
 
 start-tables-requires : tie.Need-start-tables-requires
-start-tables-requires c κs = (c .before .before .before .before .before .before .before .before .pre .0 .1 .few, c .before .before .before .before .before .before .before .before .pre .0 .2, c .before .before .before .before .before .before .before .before .pre .0 .3, c .before .before .before .before .before .before .before .before .pre .1 .1 .costs-long, c .before .before .before .before .before .before .before .before .pre .1 .1 .may-long)
+start-tables-requires c κs = (c .before .before .before .before .before .before .before .before .pre .0 .1 .few, c .before .before .before .before .before .before .before .before .pre .0 .2, c .before .before .before .before .before .before .before .before .pre .0 .3, c .before .before .before .before .before .before .before .before .pre .1 .1 .costs-long, c .before .before .before .before .before .before .before .before .pre .1 .1 .allowed-long)
 
 find-augmentation-requires : tie.Need-find-augmentation-requires
 find-augmentation-requires c κs = (

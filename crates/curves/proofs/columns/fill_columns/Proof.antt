@@ -5,7 +5,7 @@ use native.Mathlib.Omega.{arith}
 use lib.ListN.{length}
 use denote.Ref.{now}
 use borrow.Author.Needs.{needs}
-use Rattle.base.specs.Buffers.{cat, splice}
+use Rattle.base.specs.Buffers.{concat-tabulate, splice}
 use Rattle.curves.specs.Curve.{curve}
 use Rattle.curves.specs.inner.Columns.{seam-column}
 use Rattle.base.proofs.BufferLaws.{splice-none}
@@ -15,7 +15,7 @@ use Rattle.curves.proofs.columns.fill_columns.Tie as tie
 
 abbrev Inv-loop : tie.InvT-loop
 Inv-loop bottom lengths0 top lengths2 b t seam hints₀ table₀ i₀ from₀ hints table i from =
-    (i ≤ length seam) × (from ≡ 9 * i) × (length table ≡ length table₀) × (table ≡ splice table₀ 0 (cat (seam-column (curve bottom lengths0) (curve top lengths2) b t seam) 0 i))
+    (i ≤ length seam) × (from ≡ 9 * i) × (length table ≡ length table₀) × (table ≡ splice table₀ 0 (concat-tabulate (seam-column (curve bottom lengths0) (curve top lengths2) b t seam) 0 i))
 
 abbrev μ-loop : tie.MeasureT-loop
 μ-loop bottom lengths0 top lengths2 b t seam hints₀ table₀ i₀ from₀ hints table i from = length seam - i
@@ -68,7 +68,7 @@ returns c =
     let a = s .args in
     let l = (c .before .loop) in
     let e : l .i ≡ length (now (a .seam)) = omega (arith, l .inv, (c .loop-test)) in
-    filled (curve (now (a .bottom)) (now (a .lengths0))) (curve (now (a .top)) (now (a .lengths2))) (a .b) (a .t) (now (a .seam)) (now (a .table)) (l .table) (length (now (a .seam))) (l .inv .3 ∙ ap (λ (k : ℕ). splice (now (a .table)) 0 (cat (seam-column (curve (now (a .bottom)) (now (a .lengths0))) (curve (now (a .top)) (now (a .lengths2))) (a .b) (a .t) (now (a .seam))) 0 k)) e) (omega (arith, s .pre .1, l .inv .2))
+    filled (curve (now (a .bottom)) (now (a .lengths0))) (curve (now (a .top)) (now (a .lengths2))) (a .b) (a .t) (now (a .seam)) (now (a .table)) (l .table) (length (now (a .seam))) (l .inv .3 ∙ ap (λ (k : ℕ). splice (now (a .table)) 0 (concat-tabulate (seam-column (curve (now (a .bottom)) (now (a .lengths0))) (curve (now (a .top)) (now (a .lengths2))) (a .b) (a .t) (now (a .seam))) 0 k)) e) (omega (arith, s .pre .1, l .inv .2))
 
 pub fill-columns-spec : {M : Type 1} → statement M
 fill-columns-spec =

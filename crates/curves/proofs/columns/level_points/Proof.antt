@@ -5,7 +5,7 @@ use native.Mathlib.Omega.{arith}
 use lib.ListN.{length, length-set}
 use denote.Ref.{now}
 use borrow.Author.Needs.{needs}
-use Rattle.base.specs.Buffers.{cat, splice}
+use Rattle.base.specs.Buffers.{concat-tabulate, splice}
 use Rattle.curves.specs.inner.Columns.{level-points}
 use Rattle.base.proofs.BufferLaws.{splice-none}
 use Rattle.curves.proofs.columns.Laws.{level-point, next-point}
@@ -14,7 +14,7 @@ use Rattle.curves.proofs.columns.level_points.Tie as tie
 
 abbrev Inv-loop : tie.InvT-loop
 Inv-loop table row v n points₀ i₀ k₀ from₀ points i k from =
-    (i ≤ n + 1) × (k ≡ 2 * i) × (from ≡ 9 * i) × (length points ≡ length points₀) × (points ≡ splice points₀ 0 (cat (level-point table row v) 0 i))
+    (i ≤ n + 1) × (k ≡ 2 * i) × (from ≡ 9 * i) × (length points ≡ length points₀) × (points ≡ splice points₀ 0 (concat-tabulate (level-point table row v) 0 i))
 
 abbrev μ-loop : tie.MeasureT-loop
 μ-loop table row v n points₀ i₀ k₀ from₀ points i k from = n + 1 - i
@@ -82,7 +82,7 @@ returns c =
     let a = c .before .before .before .before .args in
     let l = (c .before .loop) in
     let e : l .i ≡ a .n + 1 = omega (arith, l .inv .0, (c .loop-test)) in
-    l .inv .4 ∙ ap (λ (k : ℕ). splice (now (a .points)) 0 (cat (level-point (now (a .table)) (a .row) (a .v)) 0 k)) e
+    l .inv .4 ∙ ap (λ (k : ℕ). splice (now (a .points)) 0 (concat-tabulate (level-point (now (a .table)) (a .row) (a .v)) 0 k)) e
 
 pub level-points-spec : {M : Type 1} → statement M
 level-points-spec =

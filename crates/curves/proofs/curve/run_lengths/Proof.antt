@@ -4,7 +4,7 @@ use Prim.Native.Nat.{ℕ, _+_, _-_, _/_, _<_}
 use native.Mathlib.Omega.{arith}
 use lib.ListN.{length, length-set}
 use denote.Ref.{now}
-use Rattle.base.specs.Buffers.{tab, splice}
+use Rattle.base.specs.Buffers.{tabulate, splice}
 use Rattle.curves.specs.Curve.{length-to, cumulative-of}
 use Rattle.base.proofs.BufferLaws.{fill-step}
 use Rattle.curves.proofs.curve.Laws.{length-more}
@@ -13,7 +13,7 @@ use Rattle.curves.proofs.curve.run_lengths.Statement.{statement}
 use Rattle.curves.proofs.curve.run_lengths.Tie as tie
 
 abbrev Inv-loop : tie.InvT-loop
-Inv-loop points cumulative₀ n k₀ total₀ cumulative k total = (k < n) × (length cumulative ≡ length cumulative₀) × (total ≡ length-to points k) × (cumulative ≡ splice cumulative₀ 0 (tab (length-to points) 0 k))
+Inv-loop points cumulative₀ n k₀ total₀ cumulative k total = (k < n) × (length cumulative ≡ length cumulative₀) × (total ≡ length-to points k) × (cumulative ≡ splice cumulative₀ 0 (tabulate (length-to points) 0 k))
 
 abbrev μ-loop : tie.MeasureT-loop
 μ-loop points cumulative₀ n k₀ total₀ cumulative k total = n - k
@@ -77,7 +77,7 @@ returns c =
     let e : l .k ≡ length (now (a .points)) / 2 - 1 = omega arith in
     let e' : l .k + 1 ≡ length (now (a .points)) / 2 = omega arith in (
       l .inv .2 ∙ ap f e,
-      fill-step (now (a .cumulative)) 0 f (l .cumulative) (l .k) (l .k) (l .total) (l .inv .3) (omega arith) (omega arith) (l .inv .2) ∙ ap (λ (k : ℕ). splice (now (a .cumulative)) 0 (tab f 0 k)) e',
+      fill-step (now (a .cumulative)) 0 f (l .cumulative) (l .k) (l .k) (l .total) (l .inv .3) (omega arith) (omega arith) (l .inv .2) ∙ ap (λ (k : ℕ). splice (now (a .cumulative)) 0 (tabulate f 0 k)) e',
     )
 
 pub run-lengths-spec : {M : Type 1} → statement M

@@ -6,7 +6,7 @@ use denote.Ref.{now}
 use lib.ListN.{length, take}
 use lib.Seq.{length-take-le}
 use Rattle.base.specs.Refusal.{outcome}
-use Rattle.base.specs.Buffers.{cat, splice}
+use Rattle.base.specs.Buffers.{concat-tabulate, splice}
 use Rattle.base.specs.Tests.{first-of}
 use Rattle.curves.specs.Curve.{curve}
 use Rattle.curves.specs.Boundary.{boundary}
@@ -23,8 +23,8 @@ use Rattle.curves.proofs.grid.grid_rows.Tie as tie
 abbrev Inv-loop : tie.InvT-loop
 Inv-loop bottom lengths0 right lengths1 top lengths2 left lengths3 b t table upright hints₀ bottom-u top-u left-v right-v layout low₀ high₀ out₀ n m width cells₀ at₀ j₀ hints low high out cells at j =
     (j ≤ m + 1) × (length out ≡ length out₀) × (length low ≡ length low₀) × (length high ≡ length high₀)
-    × (at ≡ length (cat (grid-part layout (grid-of (boundary (curve bottom lengths0) (curve right lengths1) (curve top lengths2) (curve left lengths3)) (seams bottom-u top-u left-v right-v)) n) 0 j))
-    × (out ≡ splice out₀ 0 (cat (grid-part layout (grid-of (boundary (curve bottom lengths0) (curve right lengths1) (curve top lengths2) (curve left lengths3)) (seams bottom-u top-u left-v right-v)) n) 0 j))
+    × (at ≡ length (concat-tabulate (grid-part layout (grid-of (boundary (curve bottom lengths0) (curve right lengths1) (curve top lengths2) (curve left lengths3)) (seams bottom-u top-u left-v right-v)) n) 0 j))
+    × (out ≡ splice out₀ 0 (concat-tabulate (grid-part layout (grid-of (boundary (curve bottom lengths0) (curve right lengths1) (curve top lengths2) (curve left lengths3)) (seams bottom-u top-u left-v right-v)) n) 0 j))
     × RowBefore (grid-of (boundary (curve bottom lengths0) (curve right lengths1) (curve top lengths2) (curve left lengths3)) (seams bottom-u top-u left-v right-v)) n j (take width low)
     × RowsLeft (grid-of (boundary (curve bottom lengths0) (curve right lengths1) (curve top lengths2) (curve left lengths3)) (seams bottom-u top-u left-v right-v)) n m j
     × (outcome cells ≡ first-of (cells-below (grid-of (boundary (curve bottom lengths0) (curve right lengths1) (curve top lengths2) (curve left lengths3)) (seams bottom-u top-u left-v right-v)) n) 0 j)
@@ -70,8 +70,8 @@ fill-row-requires c κs =
     let p = s .pre in
     let a = s .args in
     let few : length (now (a .bottom-u)) - 1 + 1 ≤ length (now (a .bottom-u)) = omega (arith, p .1 .1 .1 .1 .1 .0) in
-    let tab = fewer (curve (now (a .bottom)) (now (a .lengths0))) (curve (now (a .top)) (now (a .lengths2))) (a .b) (a .t) (now (a .bottom-u)) (length (now (a .bottom-u)) - 1 + 1) (length (now (a .bottom-u))) (now (a .table)) few (p .1 .1 .0) in
-    (p .0, (p .1 .0, (p .1 .1 .1 .1 .0, (tab, (p .1 .1 .1 .0, omega (arith, p .1 .1 .1 .1 .1 .0, p .1 .1 .1 .1 .1 .1 .0, c .before .before .before .before .before .loop .inv .0, c .before .before .before .before .before .loop .inv .3, c .before .before .before .before .loop-test .taken))))))
+    let tabulate = fewer (curve (now (a .bottom)) (now (a .lengths0))) (curve (now (a .top)) (now (a .lengths2))) (a .b) (a .t) (now (a .bottom-u)) (length (now (a .bottom-u)) - 1 + 1) (length (now (a .bottom-u))) (now (a .table)) few (p .1 .1 .0) in
+    (p .0, (p .1 .0, (p .1 .1 .1 .1 .0, (tabulate, (p .1 .1 .1 .0, omega (arith, p .1 .1 .1 .1 .1 .0, p .1 .1 .1 .1 .1 .1 .0, c .before .before .before .before .before .loop .inv .0, c .before .before .before .before .before .loop .inv .3, c .before .before .before .before .loop-test .taken))))))
 
 enum-told : tie.Need-enum-told Inv-loop μ-loop
 enum-told c = search needs
@@ -110,8 +110,8 @@ slice-reshare-prefix-upper c = omega (arith, c .before .before .before .before .
 slice-aggregate-upper : tie.Need-slice-aggregate-upper Inv-loop μ-loop
 slice-aggregate-upper c = sym (length-take-le (2 * (length (now (c .before .before .before .before .before .before .before .before .before .before .before .before .before .before .before .before .before .before .before .before .before .before .before .before .before .before .before .before .before .args .bottom-u)) - 1 + 1)) (c .before .before .before .before .before .before .fill-row .last .1 .1 .1 .1 .1 .1 .1 .1 .1 .1 .1 .1 .1 .1 .1 .1 .1 .1 .1 .0) (omega (arith, c .before .before .before .before .before .before .before .before .before .before .before .before .before .before .before .before .before .before .before .before .before .before .before .before .before .before .before .before .before .pre .1 .1 .1 .1 .1 .0, c .before .before .before .before .before .before .before .before .before .before .before .before .before .before .before .before .before .before .before .before .before .before .before .before .before .before .before .before .before .pre .1 .1 .1 .1 .1 .1 .0, c .before .before .before .before .before .before .fill-row .kept .1 .1 .1 .1 .1 .1 .1 .1 .1 .1 .1 .1 .1 .1 .1 .1 .1 .1 .1 .0, c .before .before .before .before .before .before .before .before .before .before .before .before .loop .inv .3)))
 
-lay-row-requires : tie.Need-lay-row-requires Inv-loop μ-loop
-lay-row-requires c κs =
+write-row-requires : tie.Need-write-row-requires Inv-loop μ-loop
+write-row-requires c κs =
     let a = c .before .before .before .before .before .before .before .before .before .before .before .before .before .before .before .before .before .before .before .before .before .before .before .before .before .before .before .before .before .before .args in
     let f : Grid = grid-of (boundary (curve (now (a .bottom)) (now (a .lengths0))) (curve (now (a .right)) (now (a .lengths1))) (curve (now (a .top)) (now (a .lengths2))) (curve (now (a .left)) (now (a .lengths3)))) (seams (now (a .bottom-u)) (now (a .top-u)) (now (a .left-v)) (now (a .right-v))) in
     let n : ℕ = length (now (a .bottom-u)) - 1 in
@@ -173,14 +173,14 @@ loop-again c =
     let tall = length-take-le (2 * (n + 1)) high (omega (arith, c .before .before .before .before .before .before .before .before .before .before .before .before .before .before .before .before .before .before .before .before .before .before .before .before .before .before .before .before .before .before .before .before .before .before .before .before .before .before .before .pre .1 .1 .1 .1 .1 .0, c .before .before .before .before .before .before .before .before .before .before .before .before .before .before .before .before .before .before .before .before .before .before .before .before .before .before .before .before .before .before .before .before .before .before .before .before .before .before .before .pre .1 .1 .1 .1 .1 .1 .0, c .before .before .before .before .before .before .before .before .before .before .before .before .before .before .before .before .fill-row .kept .1 .1 .1 .1 .1 .1 .1 .1 .1 .1 .1 .1 .1 .1 .1 .1 .1 .1 .1 .0, l .inv .3)) in
     let next = copied-row (take (2 * (n + 1)) high) (l .low) _ (2 * (n + 1)) tall (c .before .before .copy-row .ensures) in (
       omega arith,
-      c .before .before .before .before .before .before .before .before .lay-row .kept .1 .1 .1 .1 .1 .1 .0 ∙ l .inv .1,
+      c .before .before .before .before .before .before .before .before .write-row .kept .1 .1 .1 .1 .1 .1 .0 ∙ l .inv .1,
       c .before .before .copy-row .kept .1 .0 ∙ l .inv .2,
       c .before .before .before .before .before .before .before .before .before .before .before .before .before .before .before .before .fill-row .kept .1 .1 .1 .1 .1 .1 .1 .1 .1 .1 .1 .1 .1 .1 .1 .1 .1 .1 .1 .0 ∙ l .inv .3,
       row-end f n (a .layout) (l .j) (l .at) _ _ _ (l .inv .6) row (l .inv .4) (ap (λ (k : ℕ). l .at + k) (c .before .before .before .before .row-size .ensures)),
-      row-written f n (a .layout) (now (a .out)) (l .out) _ m (l .j) (l .at) _ _ (l .inv .6) row (l .inv .4) h (c .before .before .before .before .before .before .before .before .before .before .before .before .before .before .before .before .before .before .before .before .before .before .before .before .before .before .before .before .before .before .before .before .before .before .before .before .before .before .before .pre .1 .1 .1 .1 .1 .1 .1) (l .inv .5) (c .before .before .before .before .before .before .before .before .lay-row .ensures .1),
+      row-written f n (a .layout) (now (a .out)) (l .out) _ m (l .j) (l .at) _ _ (l .inv .6) row (l .inv .4) h (c .before .before .before .before .before .before .before .before .before .before .before .before .before .before .before .before .before .before .before .before .before .before .before .before .before .before .before .before .before .before .before .before .before .before .before .before .before .before .before .pre .1 .1 .1 .1 .1 .1 .1) (l .inv .5) (c .before .before .before .before .before .before .before .before .write-row .ensures .1),
       row-passed f n (l .j) _ (next ∙ row),
       rows-next f n m (l .j) _ (l .inv .7) h (c .before .before .before .before .before .before .before .before .before .before .before .before .enum-told2 .given .1) (c .before .before .before .before .before .before .before .before .before .before .before .before .before .before .before .before .fill-row .ensures .0),
-      cells-step f n (l .j) _ _ _ _ _ (l .inv .6) row (l .inv .8) (c .before .before .before .before .before .before .before .before .lay-row .ensures .0) (c .before .before .before .before .before .and .ensures),
+      cells-step f n (l .j) _ _ _ _ _ (l .inv .6) row (l .inv .8) (c .before .before .before .before .before .before .before .before .write-row .ensures .0) (c .before .before .before .before .before .and .ensures),
     )
 
 same-length-4 : tie.Need-same-length-4 Inv-loop μ-loop
@@ -228,7 +228,7 @@ grid-rows-spec =
     slice-aggregate-lower
     slice-reshare-prefix-upper
     slice-aggregate-upper
-    lay-row-requires
+    write-row-requires
     and-requires
     row-size-requires
     add-at

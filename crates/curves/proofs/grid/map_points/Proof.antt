@@ -5,7 +5,7 @@ use native.Mathlib.Omega.{arith}
 use lib.ListN.{length, length-set}
 use denote.Ref.{now}
 use borrow.Author.Needs.{needs}
-use Rattle.base.specs.Buffers.{cat, splice}
+use Rattle.base.specs.Buffers.{concat-tabulate, splice}
 use Rattle.curves.specs.Curve.{curve}
 use Rattle.curves.specs.Boundary.{BoundaryCurves, boundary}
 use Rattle.curves.specs.inner.Rows.{mapped-points}
@@ -17,7 +17,7 @@ use Rattle.curves.proofs.grid.map_points.Tie as tie
 abbrev Inv-loop : tie.InvT-loop
 Inv-loop bottom lengths0 right lengths1 top lengths2 left lengths3 b t hints₀ n row₀ i₀ k₀ hints row i k =
     (i ≤ n + 1) × (k ≡ 2 * i) × (length row ≡ length row₀)
-    × (row ≡ splice row₀ 0 (cat (mapped-point (boundary (curve bottom lengths0) (curve right lengths1) (curve top lengths2) (curve left lengths3)) row₀) 0 i))
+    × (row ≡ splice row₀ 0 (concat-tabulate (mapped-point (boundary (curve bottom lengths0) (curve right lengths1) (curve top lengths2) (curve left lengths3)) row₀) 0 i))
 
 abbrev μ-loop : tie.MeasureT-loop
 μ-loop bottom lengths0 right lengths1 top lengths2 left lengths3 b t hints₀ n row₀ i₀ k₀ hints row i k = n + 1 - i
@@ -96,7 +96,7 @@ returns c =
     let l = (c .before .loop) in
     let w : BoundaryCurves = boundary (curve (now (a .bottom)) (now (a .lengths0))) (curve (now (a .right)) (now (a .lengths1))) (curve (now (a .top)) (now (a .lengths2))) (curve (now (a .left)) (now (a .lengths3))) in
     let e : l .i ≡ a .n + 1 = omega (arith, l .inv .0, (c .loop-test)) in
-    l .inv .3 ∙ ap (λ (k : ℕ). splice (now (a .row)) 0 (cat (mapped-point w (now (a .row))) 0 k)) e
+    l .inv .3 ∙ ap (λ (k : ℕ). splice (now (a .row)) 0 (concat-tabulate (mapped-point w (now (a .row))) 0 k)) e
 
 pub map-points-spec : {M : Type 1} → statement M
 map-points-spec =

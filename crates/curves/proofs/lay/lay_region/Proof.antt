@@ -5,7 +5,7 @@ use denote.Ref.{now}
 use lib.ListN.{length}
 use lib.Seq.{length-take-le}
 use borrow.Author.Needs.{needs}
-use Rattle.curves.specs.Lay.{field, seams-of}
+use Rattle.curves.specs.Lay.{tile-input, seams-of}
 use Rattle.curves.proofs.lay.Laws.{tested, known, limit-passed, lay-refused, seam-too-long, laid-by}
 use Rattle.curves.proofs.lay.lay_region.Statement.{statement}
 use Rattle.curves.proofs.lay.lay_region.Tie as tie
@@ -21,7 +21,7 @@ returns c =
     let a = c .before .before .before .before .before .before .before .before .before .before .before .before .before .before .before .args in
     let region = now (a .region) in
     let counts = now (a .counts) in
-    let f = field (now (a .breaks0)) (now (a .breaks1)) (now (a .breaks2)) (now (a .breaks3)) (now (a .bottom)) (now (a .right)) (now (a .top)) (now (a .left)) in
+    let f = tile-input (now (a .breaks0)) (now (a .breaks1)) (now (a .breaks2)) (now (a .breaks3)) (now (a .bottom)) (now (a .right)) (now (a .top)) (now (a .left)) in
     lay-refused region counts f (now (a .out)) (c .before .before .before .check-lay .result) _ (c .before .cause .given .1) (c .before .before .before .check-lay .ensures)
 
 enum-told : tie.Need-enum-told
@@ -35,7 +35,7 @@ lay-side-requires c κs =
     let a = c .before .before .before .before .before .before .before .before .before .before .before .before .before .before .before .args in
     let region = now (a .region) in
     let counts = now (a .counts) in
-    let f = field (now (a .breaks0)) (now (a .breaks1)) (now (a .breaks2)) (now (a .breaks3)) (now (a .bottom)) (now (a .right)) (now (a .top)) (now (a .left)) in
+    let f = tile-input (now (a .breaks0)) (now (a .breaks1)) (now (a .breaks2)) (now (a .breaks3)) (now (a .bottom)) (now (a .right)) (now (a .top)) (now (a .left)) in
     let t = tested region (length counts) f (c .before .before .before .check-lay .result) (c .before .enum-told .given .1) (c .before .before .before .check-lay .ensures) in
     let k = known region (length counts) f t .side0 in
     (k .short, (k .edges, (k .fit, omega arith)))
@@ -48,7 +48,7 @@ lay-side-requires-2 c κs =
     let a = c .before .before .before .before .before .before .before .before .before .before .before .before .before .before .before .before .before .before .args in
     let region = now (a .region) in
     let counts = now (a .counts) in
-    let f = field (now (a .breaks0)) (now (a .breaks1)) (now (a .breaks2)) (now (a .breaks3)) (now (a .bottom)) (now (a .right)) (now (a .top)) (now (a .left)) in
+    let f = tile-input (now (a .breaks0)) (now (a .breaks1)) (now (a .breaks2)) (now (a .breaks3)) (now (a .bottom)) (now (a .right)) (now (a .top)) (now (a .left)) in
     let t = tested region (length counts) f (c .before .before .before .before .before .before .check-lay .result) (c .before .before .before .before .enum-told .given .1) (c .before .before .before .before .before .before .check-lay .ensures) in
     let k = known region (length counts) f t .side1 in
     (k .short, (k .edges, (k .fit, omega arith)))
@@ -61,7 +61,7 @@ lay-side-requires-3 c κs =
     let a = c .before .before .before .before .before .before .before .before .before .before .before .before .before .before .before .before .before .before .before .before .before .args in
     let region = now (a .region) in
     let counts = now (a .counts) in
-    let f = field (now (a .breaks0)) (now (a .breaks1)) (now (a .breaks2)) (now (a .breaks3)) (now (a .bottom)) (now (a .right)) (now (a .top)) (now (a .left)) in
+    let f = tile-input (now (a .breaks0)) (now (a .breaks1)) (now (a .breaks2)) (now (a .breaks3)) (now (a .bottom)) (now (a .right)) (now (a .top)) (now (a .left)) in
     let t = tested region (length counts) f (c .before .before .before .before .before .before .before .before .before .check-lay .result) (c .before .before .before .before .before .before .before .enum-told .given .1) (c .before .before .before .before .before .before .before .before .before .check-lay .ensures) in
     let k = known region (length counts) f t .side2 in
     (k .short, (k .edges, (k .fit, omega arith)))
@@ -74,7 +74,7 @@ lay-side-requires-4 c κs =
     let a = c .before .before .before .before .before .before .before .before .before .before .before .before .before .before .before .before .before .before .before .before .before .before .before .before .args in
     let region = now (a .region) in
     let counts = now (a .counts) in
-    let f = field (now (a .breaks0)) (now (a .breaks1)) (now (a .breaks2)) (now (a .breaks3)) (now (a .bottom)) (now (a .right)) (now (a .top)) (now (a .left)) in
+    let f = tile-input (now (a .breaks0)) (now (a .breaks1)) (now (a .breaks2)) (now (a .breaks3)) (now (a .bottom)) (now (a .right)) (now (a .top)) (now (a .left)) in
     let t = tested region (length counts) f (c .before .before .before .before .before .before .before .before .before .before .before .before .check-lay .result) (c .before .before .before .before .before .before .before .before .before .before .enum-told .given .1) (c .before .before .before .before .before .before .before .before .before .before .before .before .check-lay .ensures) in
     let k = known region (length counts) f t .side3 in
     (k .short, (k .edges, (k .fit, omega arith)))
@@ -87,7 +87,7 @@ returns-2 c =
     let a = c .before .before .before .before .before .before .before .before .before .before .before .before .before .before .before .before .before .before .before .before .before .before .before .before .before .before .before .before .args in
     let region = now (a .region) in
     let counts = now (a .counts) in
-    let f = field (now (a .breaks0)) (now (a .breaks1)) (now (a .breaks2)) (now (a .breaks3)) (now (a .bottom)) (now (a .right)) (now (a .top)) (now (a .left)) in
+    let f = tile-input (now (a .breaks0)) (now (a .breaks1)) (now (a .breaks2)) (now (a .breaks3)) (now (a .bottom)) (now (a .right)) (now (a .top)) (now (a .left)) in
     let t = tested region (length counts) f (c .before .before .before .before .before .before .before .before .before .before .before .before .before .before .before .before .check-lay .result) (c .before .before .before .before .before .before .before .before .before .before .before .before .before .before .enum-told .given .1) (c .before .before .before .before .before .before .before .before .before .before .before .before .before .before .before .before .check-lay .ensures) in
     seam-too-long region counts f (now (a .out)) t
     (limit-passed (seams-of region counts f) _ _ _ _ (c .before .before .before .before .before .before .before .before .before .before .before .before .lay-side .ensures .0) (c .before .before .before .before .before .before .lay-side3 .ensures .0) (c .before .before .before .lay-side4 .ensures .0) (c .before .before .before .before .before .before .before .before .before .lay-side2 .ensures .0) (sym (c .before .any-too-long .ensures .0) ∙ c .if1 .taken))
@@ -127,7 +127,7 @@ returns-3 c =
     let a = c .before .before .before .before .before .before .before .before .before .before .before .before .before .before .before .before .before .before .before .before .before .before .before .before .before .before .before .before .before .before .before .before .before .before .before .before .args in
     let region = now (a .region) in
     let counts = now (a .counts) in
-    let f = field (now (a .breaks0)) (now (a .breaks1)) (now (a .breaks2)) (now (a .breaks3)) (now (a .bottom)) (now (a .right)) (now (a .top)) (now (a .left)) in
+    let f = tile-input (now (a .breaks0)) (now (a .breaks1)) (now (a .breaks2)) (now (a .breaks3)) (now (a .bottom)) (now (a .right)) (now (a .top)) (now (a .left)) in
     let t = tested region (length counts) f (c .before .before .before .before .before .before .before .before .before .before .before .before .before .before .before .before .before .before .before .before .before .before .before .before .check-lay .result) (c .before .before .before .before .before .before .before .before .before .before .before .before .before .before .before .before .before .before .before .before .before .before .enum-told .given .1) (c .before .before .before .before .before .before .before .before .before .before .before .before .before .before .before .before .before .before .before .before .before .before .before .before .check-lay .ensures) in
     laid-by region counts f (now (a .out)) _ _ _ _ _ t (c .before .before .before .before .before .before .before .before .before .before .before .before .before .before .before .before .before .before .before .before .lay-side .ensures .1 (c .before .before .before .before .before .before .before .before .before .any-too-long .ensures .1 (c .before .before .before .before .before .before .before .before .if1 .left) .0)) (c .before .before .before .before .before .before .before .before .before .before .before .before .before .before .lay-side3 .ensures .1 (c .before .before .before .before .before .before .before .before .before .any-too-long .ensures .1 (c .before .before .before .before .before .before .before .before .if1 .left) .1)) (c .before .before .before .before .before .before .before .before .before .before .before .lay-side4 .ensures .1 (c .before .before .before .before .before .before .before .before .before .any-too-long .ensures .1 (c .before .before .before .before .before .before .before .before .if1 .left) .2)) (c .before .before .before .before .before .before .before .before .before .before .before .before .before .before .before .before .before .lay-side2 .ensures .1 (c .before .before .before .before .before .before .before .before .before .any-too-long .ensures .1 (c .before .before .before .before .before .before .before .before .if1 .left) .3)) (c .before .before .coons-from-parameters .ensures)
 

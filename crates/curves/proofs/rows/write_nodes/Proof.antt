@@ -4,16 +4,16 @@ use Prim.Native.Nat.{ℕ, _+_, _-_, _*_, _≤_}
 use native.Mathlib.Omega.{arith}
 use lib.ListN.{length}
 use denote.Ref.{now}
-use Rattle.base.specs.Buffers.{cat, splice}
+use Rattle.base.specs.Buffers.{concat-tabulate, splice}
 use Rattle.curves.specs.Grid.{nodes-of, node-values}
 use Rattle.curves.specs.declared.point.Point.{Point}
-use Rattle.base.proofs.BufferLaws.{splice-none, cat-step}
+use Rattle.base.proofs.BufferLaws.{splice-none, concat-step}
 use Rattle.curves.proofs.rows.Laws.{node-at, nodes-length}
 use Rattle.curves.proofs.rows.write_nodes.Statement.{statement}
 use Rattle.curves.proofs.rows.write_nodes.Tie as tie
 
 abbrev Inv-loop : tie.InvT-loop
-Inv-loop row n from out₀ i₀ at₀ out i at = (i ≤ n + 1) × (at ≡ from + 3 * i) × (length out ≡ length out₀) × (out ≡ splice out₀ from (cat (node-at row) 0 i))
+Inv-loop row n from out₀ i₀ at₀ out i at = (i ≤ n + 1) × (at ≡ from + 3 * i) × (length out ≡ length out₀) × (out ≡ splice out₀ from (concat-tabulate (node-at row) 0 i))
 
 abbrev μ-loop : tie.MeasureT-loop
 μ-loop row n from out₀ i₀ at₀ out i at = n + 1 - i
@@ -47,7 +47,7 @@ loop-again c =
       omega arith,
       omega arith,
       c .before .before .write-node .kept .1 .1 .0 ∙ l .inv .2,
-      cat-step (now (a .out)) (a .from) (node-at (now (a .row))) (l .out) (l .i) (l .at) _ (l .inv .3) (omega (arith, q)) (omega arith) (c .before .before .write-node .ensures ∙ ap (λ (p : Point). splice (l .out) (l .at) (node-values p)) (c .before .before .before .before .point-at .ensures)),
+      concat-step (now (a .out)) (a .from) (node-at (now (a .row))) (l .out) (l .i) (l .at) _ (l .inv .3) (omega (arith, q)) (omega arith) (c .before .before .write-node .ensures ∙ ap (λ (p : Point). splice (l .out) (l .at) (node-values p)) (c .before .before .before .before .point-at .ensures)),
     )
 
 same-length : tie.Need-same-length Inv-loop μ-loop
@@ -59,7 +59,7 @@ returns c =
     let l = (c .before .loop) in
     let a = c .before .before .before .before .args in
     let e : l .i ≡ a .n + 1 = omega arith in
-    l .inv .3 ∙ ap (λ (k : ℕ). splice (now (a .out)) (a .from) (cat (node-at (now (a .row))) 0 k)) e
+    l .inv .3 ∙ ap (λ (k : ℕ). splice (now (a .out)) (a .from) (concat-tabulate (node-at (now (a .row))) 0 k)) e
 
 pub write-nodes-spec : {M : Type 1} → statement M
 write-nodes-spec =

@@ -9,17 +9,17 @@ use denote.Ref.{now}
 use borrow.Author.Needs.{needs}
 use borrow.Author.Tests.{not-false}
 use Rattle.base.specs.Refusal.{passed}
-use Rattle.base.specs.Buffers.{cat, splice}
+use Rattle.base.specs.Buffers.{concat-tabulate, splice}
 use Rattle.base.specs.Tests.{first-of}
 use Rattle.curves.specs.Grid.{cell-test, cells-test, quads-between}
-use Rattle.base.proofs.BufferLaws.{splice-none, cat-step}
+use Rattle.base.proofs.BufferLaws.{splice-none, concat-step}
 use Rattle.base.proofs.TestLaws.{first-passes}
 use Rattle.curves.proofs.rows.Laws.{quad-at, quads-length, quad-same, cell-passes}
 use Rattle.curves.proofs.rows.write_quads.Statement.{statement}
 use Rattle.curves.proofs.rows.write_quads.Tie as tie
 
 abbrev Inv-loop : tie.InvT-loop
-Inv-loop low high n from out₀ i₀ at₀ sound₀ out i at sound = (i ≤ n) × (at ≡ from + 8 * i) × (length out ≡ length out₀) × (out ≡ splice out₀ from (cat (quad-at low high) 0 i)) × (sound ≡ true → (j : ℕ) → first-of (cell-test low high j) 0 i ≡ passed)
+Inv-loop low high n from out₀ i₀ at₀ sound₀ out i at sound = (i ≤ n) × (at ≡ from + 8 * i) × (length out ≡ length out₀) × (out ≡ splice out₀ from (concat-tabulate (quad-at low high) 0 i)) × (sound ≡ true → (j : ℕ) → first-of (cell-test low high j) 0 i ≡ passed)
 
 abbrev μ-loop : tie.MeasureT-loop
 μ-loop low high n from out₀ i₀ at₀ sound₀ out i at sound = n - i
@@ -80,7 +80,7 @@ loop-again c =
       omega (arith, l .inv .0, t),
       omega (arith, l .inv .1),
       c .before .before .before .before .write-quad .kept .1 .1 .1 .1 .1 .0 ∙ l .inv .2,
-      cat-step (now (s .args .out)) (s .args .from) (quad-at low high) (l .out) (l .i) (l .at) _ (l .inv .3) (omega (arith, q, l .inv .1)) (omega (arith, l .inv .0, l .inv .1, l .inv .2, t, s .pre)) w,
+      concat-step (now (s .args .out)) (s .args .from) (quad-at low high) (l .out) (l .i) (l .at) _ (l .inv .3) (omega (arith, q, l .inv .1)) (omega (arith, l .inv .0, l .inv .1, l .inv .2, t, s .pre)) w,
       ⊎-elim
           (λ b e. absurd (true≢false (sym e ∙ b .1)))
           (λ b e j. first-passes (cell-test low high j) (l .i) (l .inv .4 (sym (b .1) ∙ e) j) (cell-passes low high (l .i) j _ _ _ _ p0 p1 p2 p3 (sym (c .before .has-area .ensures) ∙ not-false (c .before .has-area .result) (b .0 .left)))) (c .if1 .came),
@@ -98,7 +98,7 @@ returns c =
     let high = now (a .high) in
     let e : l .i ≡ a .n = omega arith in (
       λ t j. ap (first-of (cell-test low high j) 0) (sym e) ∙ l .inv .4 t j,
-      l .inv .3 ∙ ap (λ (k : ℕ). splice (now (a .out)) (a .from) (cat (quad-at low high) 0 k)) e,
+      l .inv .3 ∙ ap (λ (k : ℕ). splice (now (a .out)) (a .from) (concat-tabulate (quad-at low high) 0 k)) e,
     )
 
 pub write-quads-spec : {M : Type 1} → statement M

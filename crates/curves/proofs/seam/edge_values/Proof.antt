@@ -4,14 +4,14 @@ use Prim.Native.Nat.{ℕ, _+_, _-_, _≤_}
 use native.Mathlib.Omega.{arith}
 use lib.ListN.{length, length-set}
 use denote.Ref.{now}
-use Rattle.base.specs.Buffers.{tab, splice}
+use Rattle.base.specs.Buffers.{tabulate, splice}
 use Rattle.curves.specs.Seam.{edge-value, edge-values}
 use Rattle.base.proofs.BufferLaws.{fill-step, splice-none}
 use Rattle.curves.proofs.seam.edge_values.Statement.{statement}
 use Rattle.curves.proofs.seam.edge_values.Tie as tie
 
 abbrev Inv-loop : tie.InvT-loop
-Inv-loop breaks i n from out₀ start span j₀ out j = (j ≤ n) × (length out ≡ length out₀) × (out ≡ splice out₀ from (tab (edge-value breaks i n) 0 j))
+Inv-loop breaks i n from out₀ start span j₀ out j = (j ≤ n) × (length out ≡ length out₀) × (out ≡ splice out₀ from (tabulate (edge-value breaks i n) 0 j))
 
 abbrev μ-loop : tie.MeasureT-loop
 μ-loop breaks i n from out₀ start span j₀ out j = n - j
@@ -74,7 +74,7 @@ returns c =
     let l = (c .before .loop) in
     let a = c .before .before .before .before .args in
     let e : l .j ≡ a .n = omega arith in
-    l .inv .2 ∙ ap (λ (k : ℕ). splice (now (a .out)) (a .from) (tab (edge-value (now (a .breaks)) (a .i) (a .n)) 0 k)) e
+    l .inv .2 ∙ ap (λ (k : ℕ). splice (now (a .out)) (a .from) (tabulate (edge-value (now (a .breaks)) (a .i) (a .n)) 0 k)) e
 
 pub edge-values-spec : {M : Type 1} → statement M
 edge-values-spec =

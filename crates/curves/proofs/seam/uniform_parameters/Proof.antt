@@ -4,14 +4,14 @@ use Prim.Native.Nat.{ℕ, _+_, _-_, _≤_}
 use native.Mathlib.Omega.{arith}
 use lib.ListN.{length, length-set}
 use denote.Ref.{now}
-use Rattle.base.specs.Buffers.{tab, splice}
+use Rattle.base.specs.Buffers.{tabulate, splice}
 use Rattle.curves.specs.Seam.{part, uniform-parameters}
 use Rattle.base.proofs.BufferLaws.{fill-step}
 use Rattle.curves.proofs.seam.uniform_parameters.Statement.{statement}
 use Rattle.curves.proofs.seam.uniform_parameters.Tie as tie
 
 abbrev Inv-loop : tie.InvT-loop
-Inv-loop n out₀ i₀ out i = (i ≤ n + 1) × (length out ≡ length out₀) × (out ≡ splice out₀ 0 (tab (λ (k : ℕ). part k n) 0 i))
+Inv-loop n out₀ i₀ out i = (i ≤ n + 1) × (length out ≡ length out₀) × (out ≡ splice out₀ 0 (tabulate (λ (k : ℕ). part k n) 0 i))
 
 abbrev μ-loop : tie.MeasureT-loop
 μ-loop n out₀ i₀ out i = n + 1 - i
@@ -58,7 +58,7 @@ returns c =
     let l = (c .before .loop) in
     let a = c .before .before .args in
     let e : l .i ≡ a .n + 1 = omega arith in
-    l .inv .2 ∙ ap (λ (k : ℕ). splice (now (a .out)) 0 (tab (λ (j : ℕ). part j (a .n)) 0 k)) e
+    l .inv .2 ∙ ap (λ (k : ℕ). splice (now (a .out)) 0 (tabulate (λ (j : ℕ). part j (a .n)) 0 k)) e
 
 pub uniform-parameters-spec : {M : Type 1} → statement M
 uniform-parameters-spec =

@@ -4,15 +4,15 @@ use Prim.Native.Nat.{ℕ, _+_, _-_, _*_, _≤_}
 use native.Mathlib.Omega.{arith}
 use lib.ListN.{length}
 use denote.Ref.{now}
-use Rattle.base.specs.Buffers.{cat, splice}
-use Rattle.base.proofs.BufferLaws.{splice-none, cat-step}
+use Rattle.base.specs.Buffers.{concat-tabulate, splice}
+use Rattle.base.proofs.BufferLaws.{splice-none, concat-step}
 use Rattle.mesh.specs.Mesh.{row-cells, mesh-cells}
 use Rattle.mesh.proofs.cells.Laws.{length-rows, next-row, row-fits}
 use Rattle.mesh.proofs.cells.write_cells.Statement.{statement}
 use Rattle.mesh.proofs.cells.write_cells.Tie as tie
 
 abbrev Inv-loop : tie.InvT-loop
-Inv-loop n m cells₀ width j₀ at₀ cells j at = (j ≤ m) × (at ≡ j * (4 * n)) × (length cells ≡ length cells₀) × (cells ≡ splice cells₀ 0 (cat (row-cells n) 0 j))
+Inv-loop n m cells₀ width j₀ at₀ cells j at = (j ≤ m) × (at ≡ j * (4 * n)) × (length cells ≡ length cells₀) × (cells ≡ splice cells₀ 0 (concat-tabulate (row-cells n) 0 j))
 
 abbrev μ-loop : tie.MeasureT-loop
 μ-loop n m cells₀ width j₀ at₀ cells j at = m - j
@@ -46,7 +46,7 @@ loop-again c =
       omega arith,
       omega (arith, w),
       c .before .before .write-row .kept .1 .1 .1 .0 ∙ l .inv .2,
-      cat-step (now (a .cells)) 0 (row-cells (a .n)) (l .cells) (l .j) (l .at) _ (l .inv .3) (omega (arith, q)) (omega (arith, f)) (c .before .before .write-row .ensures),
+      concat-step (now (a .cells)) 0 (row-cells (a .n)) (l .cells) (l .j) (l .at) _ (l .inv .3) (omega (arith, q)) (omega (arith, f)) (c .before .before .write-row .ensures),
     )
 
 same-length : tie.Need-same-length Inv-loop μ-loop
@@ -58,7 +58,7 @@ returns c =
     let l = (c .before .loop) in
     let a = c .before .before .before .args in
     let e : l .j ≡ a .m = omega arith in
-    l .inv .3 ∙ ap (λ (k : ℕ). splice (now (a .cells)) 0 (cat (row-cells (a .n)) 0 k)) e
+    l .inv .3 ∙ ap (λ (k : ℕ). splice (now (a .cells)) 0 (concat-tabulate (row-cells (a .n)) 0 k)) e
 
 pub write-cells-spec : {M : Type 1} → statement M
 write-cells-spec =

@@ -4,7 +4,7 @@ use Prim.Native.Nat.{ℕ, _+_, _-_, _*_, _≤_}
 use native.Mathlib.Omega.{arith}
 use lib.ListN.{length, length-set}
 use denote.Ref.{now}
-use Rattle.base.specs.Buffers.{cat, splice}
+use Rattle.base.specs.Buffers.{concat-tabulate, splice}
 use Rattle.base.proofs.BufferLaws.{splice-none}
 use Rattle.mesh.specs.Mesh.{cell, row-cells}
 use Rattle.mesh.proofs.cells.Laws.{cell-turn, first-small}
@@ -12,7 +12,7 @@ use Rattle.mesh.proofs.cells.write_row.Statement.{statement}
 use Rattle.mesh.proofs.cells.write_row.Tie as tie
 
 abbrev Inv-loop : tie.InvT-loop
-Inv-loop n j from cells₀ across first i₀ at₀ cells i at = (i ≤ n) × (at ≡ from + 4 * i) × (length cells ≡ length cells₀) × (cells ≡ splice cells₀ from (cat (cell n j) 0 i))
+Inv-loop n j from cells₀ across first i₀ at₀ cells i at = (i ≤ n) × (at ≡ from + 4 * i) × (length cells ≡ length cells₀) × (cells ≡ splice cells₀ from (concat-tabulate (cell n j) 0 i))
 
 abbrev μ-loop : tie.MeasureT-loop
 μ-loop n j from cells₀ across first i₀ at₀ cells i at = n - i
@@ -99,7 +99,7 @@ returns c =
     let l = (c .before .loop) in
     let a = c .before .before .args in
     let e : l .i ≡ a .n = omega arith in
-    l .inv .3 ∙ ap (λ (k : ℕ). splice (now (a .cells)) (a .from) (cat (cell (a .n) (a .j)) 0 k)) e
+    l .inv .3 ∙ ap (λ (k : ℕ). splice (now (a .cells)) (a .from) (concat-tabulate (cell (a .n) (a .j)) 0 k)) e
 
 pub write-row-spec : {M : Type 1} → statement M
 write-row-spec =

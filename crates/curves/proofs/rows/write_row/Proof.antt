@@ -1,4 +1,4 @@
--- `rows::lay_row` meets its contract. Assumes nothing.
+-- `rows::write_row` meets its contract. Assumes nothing.
 use mathlib.Core.Path.{sym, ap, _∙_}
 use native.Mathlib.Omega.{arith}
 use lib.ListN.{length}
@@ -8,8 +8,8 @@ use Rattle.curves.specs.Grid.{row-part}
 use Rattle.curves.specs.declared.grid.Layout.{Layout}
 use Rattle.curves.proofs.rows.Laws.{nodes-row, length-nodes}
 use borrow.Author.Needs.{needs}
-use Rattle.curves.proofs.rows.lay_row.Statement.{statement}
-use Rattle.curves.proofs.rows.lay_row.Tie as tie
+use Rattle.curves.proofs.rows.write_row.Statement.{statement}
+use Rattle.curves.proofs.rows.write_row.Tie as tie
 
 enum-told : tie.Need-enum-told
 enum-told c = search needs
@@ -49,8 +49,8 @@ returns-2 c =
     let a = c .before .before .before .before .before .before .before .before .before .before .args in
     (c .check-row .ensures, c .before .before .before .write-nodes .ensures ∙ ap (splice (now (a .out)) (a .from)) (sym (nodes-row (a .layout) (now (a .low)) (now (a .high)) (a .n) (a .j) (c .before .before .before .before .before .enum-told2 .given .1))))
 
-pub lay-row-spec : {M : Type 1} → statement M
-lay-row-spec =
+pub write-row-spec : {M : Type 1} → statement M
+write-row-spec =
     tie.close
     (tie.spec
     enum-told
