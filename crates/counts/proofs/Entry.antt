@@ -13,7 +13,7 @@ use Rattle.base.specs.Refusal.{passed, refused, is-passed, then-test, outcome, 
 use Rattle.counts.specs.Region.{Constraint, places, region-count, graph}
 use Rattle.counts.specs.Cost.{CostModel, Spacing, within, costs-of, edges-of}
 use Rattle.counts.specs.Round.{find-move, Solved, solve-from, solve-zeros, max-moves}
-use Rattle.counts.specs.Accept.{limits-test, spacing-lengths, counts-test, count-ok, first-bad, pairs-test, overused-test, regions-test}
+use Rattle.counts.specs.Accept.{limits-test, spacing-lengths, counts-test, count-ok, first-bad, pairs-test, overused-test, regions-test, max-edges}
 use Rattle.counts.specs.Solver.{Round, round-of, round-by, round-refused, round-with, round, round-test, Solve, solve-of, solve-part, with-rest, solve-refused, solve-with, solve, solve-test, max-limit}
 use Rattle.counts.specs.inner.Checks.{round-head, solve-head}
 use Rattle.counts.specs.inner.Tables.{Tables, the-graph}
@@ -199,7 +199,7 @@ module _ (regions : List ℕ) (spacing : Spacing) (lent : List ℕ) where
       → T (is-passed (limits-test places (edges-of spacing) regions)) × T (is-passed (pairs-test places (edges-of spacing) 0 (region-count places regions) regions))
   solve-tables e o = let h = tested e o in (true-T _ (h .limits), true-T _ (h .last-ok))
 
-  pub solve-room : {c : Check} → c ≡ Passed → outcome c ≡ solve-head places regions spacing (length lent) → (edges-of spacing ≤ length lent) × (edges-of spacing ≤ 256) × (is-passed (spacing-lengths spacing) ≡ true)
+  pub solve-room : {c : Check} → c ≡ Passed → outcome c ≡ solve-head places regions spacing (length lent) → (edges-of spacing ≤ length lent) × (edges-of spacing ≤ max-edges) × (is-passed (spacing-lengths spacing) ≡ true)
   solve-room e o = let h = tested e o in (h .enough, limits-passed (edges-of spacing) regions (h .limits) .0, h .lists)
 
   pub solve-regions : {c d : Check} → c ≡ Passed → outcome c ≡ solve-head places regions spacing (length lent)
@@ -216,7 +216,7 @@ module _ (regions : List ℕ) (model : CostModel) (n limit : ℕ) (counts zeros 
   zeros-long : length zeros ≡ length counts
   zeros-long = ap length cleared ∙ length-replicate (length counts) 0
 
-  pub zeros-tested : length counts ≤ 256 → T (is-passed (regions-test places (length counts) regions)) → RoundInput regions zeros × (n ≡ length zeros) × (zeros ≡ replicate (length zeros) 0)
+  pub zeros-tested : length counts ≤ max-edges → T (is-passed (regions-test places (length counts) regions)) → RoundInput regions zeros × (n ≡ length zeros) × (zeros ≡ replicate (length zeros) 0)
   zeros-tested f t = (
     record {
       few = let l = zeros-long in omega arith;
@@ -254,8 +254,8 @@ module _ (regions : List ℕ) (model : CostModel) (n limit : ℕ) (counts zeros 
 
 -- the part of the lent counts that solve writes, and both lists of ranges
 pub part-ready : (regions : List ℕ) (least most : List Float) (lent : List ℕ)
-    → (length least ≤ length lent) × (length least ≤ 256) × (is-passed (spacing-lengths (within least most)) ≡ true) → T (is-passed (regions-test places (length least) regions))
-    → (length least ≡ length (take (length least) lent)) × (length most ≡ length (take (length least) lent)) × (length (take (length least) lent) ≤ 256)
+    → (length least ≤ length lent) × (length least ≤ max-edges) × (is-passed (spacing-lengths (within least most)) ≡ true) → T (is-passed (regions-test places (length least) regions))
+    → (length least ≡ length (take (length least) lent)) × (length most ≡ length (take (length least) lent)) × (length (take (length least) lent) ≤ max-edges)
     × T (is-passed (regions-test places (length (take (length least) lent)) regions))
 part-ready regions least most lent h t =
     let e : length least ≡ length (take (length least) lent) = (let l = length-take (length least) lent in omega arith) in

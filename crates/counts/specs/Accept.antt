@@ -8,7 +8,7 @@ use lib.Ieee.{Float, nan, fin, inf, lt}
 use Rattle.base.specs.Lists.{member, any}
 use Rattle.base.specs.declared.verdict.Verdict.{Verdict}
 use Rattle.base.specs.Refusal.{passed, refused, then-test, refuse-if, is-passed}
-use Rattle.counts.specs.Region.{Constraint, record-size, region-count, side, graph, incidence}
+use Rattle.counts.specs.Region.{Constraint, side-size, record-size, region-count, side, graph, incidence}
 use Rattle.counts.specs.Cost.{Spacing, by, within, edges-of}
 
 -- ---- 1: "a limit above exceeded, or a broken record or list"
@@ -25,9 +25,9 @@ unfoldable pub sides-fit : ℕ → ℕ → List ℕ → Bool
 sides-fit p zero regions = true
 sides-fit p (suc m) regions =
     leb (getD regions 0 0) p
-    && (leb (getD regions (1 * suc p) 0) p
-    && (leb (getD regions (2 * suc p) 0) p
-    && (leb (getD regions (3 * suc p) 0) p && sides-fit p m (drop (record-size p) regions))))
+    && (leb (getD regions (1 * side-size p) 0) p
+    && (leb (getD regions (2 * side-size p) 0) p
+    && (leb (getD regions (3 * side-size p) 0) p && sides-fit p m (drop (record-size p) regions))))
 
 -- "or a list that is not whole records"
 unfoldable pub records-whole : ℕ → List ℕ → Bool

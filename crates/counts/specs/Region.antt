@@ -10,9 +10,12 @@ use Rattle.base.specs.Lists.{member}
 abbrev pub places : ℕ
 places = 16
 
--- "for each of four sides (..): how many edges, then 16 places": 68 numbers
+-- "for each of four sides (..): how many edges, then 16 places"
+abbrev pub side-size : ℕ → ℕ
+side-size p = suc p
+
 abbrev pub record-size : ℕ → ℕ
-record-size p = 4 * suc p
+record-size p = 4 * side-size p
 
 -- how many records a list holds
 abbrev pub region-count : ℕ → List ℕ → ℕ
@@ -24,7 +27,7 @@ from-region p regions r = drop (r * record-size p) regions
 
 -- the edges of side k of the record that stands first; "places past that number are never read"
 abbrev pub side : ℕ → List ℕ → ℕ → List ℕ
-side p regions k = take (getD regions (k * suc p) 0) (drop (suc (k * suc p)) regions)
+side p regions k = take (getD regions (k * side-size p) 0) (drop (suc (k * side-size p)) regions)
 
 -- two opposite sides, whose counts are to add up to the same
 pub record Constraint : Type 0 where

@@ -1,5 +1,10 @@
 // A round: the searches from every start, the choice among them, and the move made.
+use crate::cost::EPS_IMPROVEMENT;
 use crate::cost::fill_costs;
+use crate::limits::CHANGES;
+use crate::limits::EDGE_PLACES;
+use crate::limits::MARKS;
+use crate::limits::PATH_SIZE;
 use crate::search::SearchState;
 use crate::search::fresh;
 use crate::search::infinity;
@@ -13,10 +18,11 @@ ghost use lib.ListN.{length, replicate};
 ghost use Rattle.counts.specs.Cost.{by-ranges};
 ghost use Rattle.counts.specs.Move.{changed, apply-changes as changed-counts};
 ghost use Rattle.counts.specs.Round.{improves as improves-on};
-ghost use Rattle.counts.specs.inner.Tables.{Tables, path-of};
+ghost use Rattle.counts.specs.inner.Tables.{Tables, path-of, changes, path-size};
 ghost use Rattle.counts.specs.inner.RoundContract.{Buffers, SearchedFrom, Remembered, Recalled, AllKnown, FoundIn, Priced, CanApply, start-at, weighed as weighed-of, chosen};
+ghost use Rattle.counts.specs.Accept.{max-edges};
 
-const NO_START: usize = 512;
+const NO_START: usize = CHANGES;
 
 // What the starts weighed so far come to: the kept cost, the start that it comes from, and whether any search was cut.
 pub struct Choice {
@@ -43,8 +49,8 @@ fn either(a: bool, b: bool) -> bool
 
 // The k-th start, packed: edges upward, +1 before -1.
 fn start_at(k: usize) -> usize
-    requires { ⌜ k < 512 ⌝ }
-    ensures { λ r. ⌜ (r ≡ start-at k) × (r < 512) × (r / 2 ≡ k / 2) ⌝ }
+    requires { ⌜ k < changes ⌝ }
+    ensures { λ r. ⌜ (r ≡ start-at k) × (r < changes) × (r / 2 ≡ k / 2) ⌝ }
 {
     k / 2 * 2 + (1 - k % 2)
 }
@@ -52,17 +58,17 @@ fn start_at(k: usize) -> usize
 // The search from one start; nothing where the change is not allowed.
 fn search_from(
     regions: &[u16],
-    incident: &[u16; 512],
-    own: &[u16; 512],
-    costs: &[f64; 512],
-    allowed: &[bool; 512],
+    incident: &[u16; EDGE_PLACES],
+    own: &[u16; EDGE_PLACES],
+    costs: &[f64; CHANGES],
+    allowed: &[bool; CHANGES],
     limit: u32,
-    used: &mut [bool; 257],
-    path: &mut [u16; 257],
-    best: &mut [u16; 257],
+    used: &mut [bool; MARKS],
+    path: &mut [u16; PATH_SIZE],
+    best: &mut [u16; PATH_SIZE],
     c: usize,
 ) -> SearchState
-    requires { ⌜ Tables (now regions) (now incident) (now own) × (c < 512) ⌝ }
+    requires { ⌜ Tables (now regions) (now incident) (now own) × (c < changes) ⌝ }
     requires { ⌜ Buffers (now used) (now path) (now best) ⌝ }
     ensures { λ r. ⌜ SearchedFrom (now (regions .entry)) (now (costs .entry)) (now (allowed .entry)) limit c (now (used .exit)) (now (path .exit)) (now (best .exit)) r ⌝ }
 {
@@ -86,20 +92,20 @@ fn search_from(
 // Sees to it that the result from start c is known.
 fn recall(
     regions: &[u16],
-    incident: &[u16; 512],
-    own: &[u16; 512],
-    costs: &[f64; 512],
-    allowed: &[bool; 512],
+    incident: &[u16; EDGE_PLACES],
+    own: &[u16; EDGE_PLACES],
+    costs: &[f64; CHANGES],
+    allowed: &[bool; CHANGES],
     limit: u32,
-    used: &mut [bool; 257],
-    path: &mut [u16; 257],
-    best: &mut [u16; 257],
-    kept: &mut [f64; 512],
-    cut: &mut [bool; 512],
-    known: &mut [bool; 512],
+    used: &mut [bool; MARKS],
+    path: &mut [u16; PATH_SIZE],
+    best: &mut [u16; PATH_SIZE],
+    kept: &mut [f64; CHANGES],
+    cut: &mut [bool; CHANGES],
+    known: &mut [bool; CHANGES],
     c: usize,
 )
-    requires { ⌜ Tables (now regions) (now incident) (now own) × (c < 512) ⌝ }
+    requires { ⌜ Tables (now regions) (now incident) (now own) × (c < changes) ⌝ }
     requires { ⌜ Buffers (now used) (now path) (now best) ⌝ }
     requires { ⌜ Remembered (now regions) (now costs) (now allowed) limit (now kept) (now cut) (now known) ⌝ }
     ensures { λ _. ⌜ Recalled (now (regions .entry)) (now (costs .entry)) (now (allowed .entry)) limit c (now (known .entry)) (now (used .exit)) (now (path .exit)) (now (best .exit)) (now (kept .exit)) (now (cut .exit)) (now (known .exit)) ⌝ }
@@ -127,20 +133,20 @@ fn recall(
 // Sees to it that the result from every start is known, of n edges.
 fn search_starts(
     regions: &[u16],
-    incident: &[u16; 512],
-    own: &[u16; 512],
-    costs: &[f64; 512],
-    allowed: &[bool; 512],
+    incident: &[u16; EDGE_PLACES],
+    own: &[u16; EDGE_PLACES],
+    costs: &[f64; CHANGES],
+    allowed: &[bool; CHANGES],
     limit: u32,
-    used: &mut [bool; 257],
-    path: &mut [u16; 257],
-    best: &mut [u16; 257],
-    kept: &mut [f64; 512],
-    cut: &mut [bool; 512],
-    known: &mut [bool; 512],
+    used: &mut [bool; MARKS],
+    path: &mut [u16; PATH_SIZE],
+    best: &mut [u16; PATH_SIZE],
+    kept: &mut [f64; CHANGES],
+    cut: &mut [bool; CHANGES],
+    known: &mut [bool; CHANGES],
     n: usize,
 )
-    requires { ⌜ Tables (now regions) (now incident) (now own) × (n ≤ 256) ⌝ }
+    requires { ⌜ Tables (now regions) (now incident) (now own) × (n ≤ max-edges) ⌝ }
     requires { ⌜ Buffers (now used) (now path) (now best) ⌝ }
     requires { ⌜ Remembered (now regions) (now costs) (now allowed) limit (now kept) (now cut) (now known) ⌝ }
     ensures { λ _. ⌜ AllKnown (now (regions .entry)) (now (costs .entry)) (now (allowed .entry)) limit (n * 2) (now (used .exit)) (now (path .exit)) (now (best .exit)) (now (kept .exit)) (now (cut .exit)) (now (known .exit)) ⌝ }
@@ -171,8 +177,8 @@ impl Choice {
     fn improved_by(self, kept: f64) -> bool
         ensures { λ r. ⌜ r ≡ improves-on (self .kept) kept ⌝ }
     {
-        if kept < -1e-12 {
-            return kept < self.kept - 1e-12;
+        if kept < -EPS_IMPROVEMENT {
+            return kept < self.kept - EPS_IMPROVEMENT;
         }
         false
     }
@@ -197,9 +203,9 @@ impl Choice {
 }
 
 // The first start of the lowest cost, the starts in their order.
-fn choose(kept: &[f64; 512], cut: &[bool; 512], n: usize) -> Choice
-    requires { ⌜ n ≤ 256 ⌝ }
-    ensures { λ r. ⌜ (r ≡ chosen (now (kept .entry)) (now (cut .entry)) (n * 2)) × (r .winner ≤ 512) ⌝ }
+fn choose(kept: &[f64; CHANGES], cut: &[bool; CHANGES], n: usize) -> Choice
+    requires { ⌜ n ≤ max-edges ⌝ }
+    ensures { λ r. ⌜ (r ≡ chosen (now (kept .entry)) (now (cut .entry)) (n * 2)) × (r .winner ≤ changes) ⌝ }
 {
     let mut out = Choice {
         kept: infinity(),
@@ -218,20 +224,20 @@ fn choose(kept: &[f64; 512], cut: &[bool; 512], n: usize) -> Choice
 // The best move over all starts of n edges, its changes in `best`. The winner is searched once more, for its changes.
 pub(crate) fn find_augmentation(
     regions: &[u16],
-    incident: &[u16; 512],
-    own: &[u16; 512],
-    costs: &[f64; 512],
-    allowed: &[bool; 512],
+    incident: &[u16; EDGE_PLACES],
+    own: &[u16; EDGE_PLACES],
+    costs: &[f64; CHANGES],
+    allowed: &[bool; CHANGES],
     limit: u32,
-    used: &mut [bool; 257],
-    path: &mut [u16; 257],
-    best: &mut [u16; 257],
-    kept: &mut [f64; 512],
-    cut: &mut [bool; 512],
-    known: &mut [bool; 512],
+    used: &mut [bool; MARKS],
+    path: &mut [u16; PATH_SIZE],
+    best: &mut [u16; PATH_SIZE],
+    kept: &mut [f64; CHANGES],
+    cut: &mut [bool; CHANGES],
+    known: &mut [bool; CHANGES],
     n: usize,
 ) -> FoundMove
-    requires { ⌜ Tables (now regions) (now incident) (now own) × (n ≤ 256) ⌝ }
+    requires { ⌜ Tables (now regions) (now incident) (now own) × (n ≤ max-edges) ⌝ }
     requires { ⌜ Buffers (now used) (now path) (now best) ⌝ }
     requires { ⌜ Remembered (now regions) (now costs) (now allowed) limit (now kept) (now cut) (now known) ⌝ }
     ensures { λ r. ⌜ FoundIn (now (regions .entry)) (now (costs .entry)) (now (allowed .entry)) limit n (now (used .exit)) (now (path .exit)) (now (best .exit)) (now (kept .exit)) (now (cut .exit)) (now (known .exit)) r ⌝ }
@@ -291,8 +297,8 @@ fn changed_count(s: u32, plus: bool) -> u32
 }
 
 // The first `len` changes, made.
-pub(crate) fn apply_changes(counts: &mut [u32], best: &[u16; 257], len: usize)
-    requires { ⌜ CanApply (now counts) (path-of len (now best)) × (len ≤ 257) × (length (now best) ≡ 257) ⌝ }
+pub(crate) fn apply_changes(counts: &mut [u32], best: &[u16; PATH_SIZE], len: usize)
+    requires { ⌜ CanApply (now counts) (path-of len (now best)) × (len ≤ path-size) × (length (now best) ≡ path-size) ⌝ }
     ensures { λ _. ⌜ now (counts .exit) ≡ changed-counts (path-of len (now (best .entry))) (now (counts .entry)) ⌝ }
 {
     let mut i = 0;
@@ -306,10 +312,10 @@ pub(crate) fn apply_changes(counts: &mut [u32], best: &[u16; 257], len: usize)
 }
 
 // Nothing is known any more.
-fn forget(known: &mut [bool; 512])
-    ensures { λ _. ⌜ now (known .exit) ≡ replicate 512 false ⌝ }
+fn forget(known: &mut [bool; CHANGES])
+    ensures { λ _. ⌜ now (known .exit) ≡ replicate changes false ⌝ }
 {
-    *known = [false; 512];
+    *known = [false; CHANGES];
 }
 
 // The costs of every edge, and nothing known.
@@ -317,12 +323,12 @@ pub(crate) fn start_tables(
     counts: &[u32],
     least: &[f64],
     most: &[f64],
-    costs: &mut [f64; 512],
-    allowed: &mut [bool; 512],
-    known: &mut [bool; 512],
+    costs: &mut [f64; CHANGES],
+    allowed: &mut [bool; CHANGES],
+    known: &mut [bool; CHANGES],
 )
-    requires { ⌜ (length (now counts) ≤ 256) × (length (now least) ≡ length (now counts)) × (length (now most) ≡ length (now counts)) × (length (now costs) ≡ 512) × (length (now allowed) ≡ 512) ⌝ }
-    ensures { λ _. ⌜ Priced (by-ranges (now (least .entry)) (now (most .entry))) (now (counts .entry)) (now (costs .exit)) (now (allowed .exit)) × (now (known .exit) ≡ replicate 512 false) ⌝ }
+    requires { ⌜ (length (now counts) ≤ max-edges) × (length (now least) ≡ length (now counts)) × (length (now most) ≡ length (now counts)) × (length (now costs) ≡ changes) × (length (now allowed) ≡ changes) ⌝ }
+    ensures { λ _. ⌜ Priced (by-ranges (now (least .entry)) (now (most .entry))) (now (counts .entry)) (now (costs .exit)) (now (allowed .exit)) × (now (known .exit) ≡ replicate changes false) ⌝ }
 {
     fill_costs(counts, least, most, costs, allowed);
     forget(known);

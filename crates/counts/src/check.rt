@@ -1,4 +1,8 @@
 // The tests that turn input away before any work is done, one function each, in the order of specs/Accept.antt.
+use crate::limits::MAX_COUNT;
+use crate::limits::MAX_EDGES;
+use crate::limits::MAX_LIMIT;
+use crate::limits::MAX_REGIONS;
 use crate::region::PLACES;
 use crate::region::RECORD_SIZE;
 use crate::region::SIDE_SIZE;
@@ -11,24 +15,16 @@ ghost use Prim.Native.Nat.{_+_, _%_, _≤_, _<_};
 ghost use lib.ListN.{length};
 ghost use lib.Dec.{T};
 ghost use Rattle.base.specs.Lists.{member};
-ghost use Rattle.counts.specs.Region.{places, region-count};
+ghost use Rattle.counts.specs.Region.{places, region-count, record-size};
 ghost use Rattle.base.specs.Refusal.{outcome};
 ghost use Rattle.counts.specs.Cost.{within};
-ghost use Rattle.counts.specs.Accept.{sides-fit, records-whole, limits-test, shared-edge, side-test, pair-test, region-test, pairs-test, ideal-ok, first-bad, ranges, ends-ok, in-order, ranges-test, counts-test, spacing-limits, values-test};
+ghost use Rattle.counts.specs.Accept.{sides-fit, records-whole, limits-test, shared-edge, side-test, pair-test, region-test, pairs-test, ideal-ok, first-bad, ranges, ends-ok, in-order, ranges-test, counts-test, spacing-limits, values-test, max-edges};
 ghost use Rattle.counts.specs.inner.Checks.{round-head, solve-head};
 ghost use Rattle.counts.specs.Solver.{energy-test};
 
-const MAX_REGIONS: usize = 128;
-
-const MAX_EDGES: usize = 256;
-
-const MAX_COUNT: u32 = 1_000_000;
-
-pub(crate) const MAX_LIMIT: u32 = 100_000;
-
 // No side has more edges than places.
 fn sides_fit(regions: &[u16]) -> bool
-    requires { ⌜ length (now regions) % 68 ≡ 0 ⌝ }
+    requires { ⌜ length (now regions) % record-size places ≡ 0 ⌝ }
     ensures { λ r. ⌜ r ≡ sides-fit places (region-count places (now (regions .entry))) (now (regions .entry)) ⌝ }
 {
     let mut at = 0usize;
@@ -92,7 +88,7 @@ fn is_in_order(least: f64, most: f64) -> bool
 
 // 2: an end of a range that is not finite or not above 0.
 fn check_ends(least: &[f64], most: &[f64]) -> Check
-    requires { ⌜ (length (now least) ≤ 256) × (length (now most) ≡ length (now least)) ⌝ }
+    requires { ⌜ (length (now least) ≤ max-edges) × (length (now most) ≡ length (now least)) ⌝ }
     ensures { λ r. ⌜ outcome r ≡ first-bad ends-ok 2 0 (ranges (now (least .entry)) (now (most .entry))) ⌝ }
 {
     let mut e = 0usize;
@@ -111,7 +107,7 @@ fn check_ends(least: &[f64], most: &[f64]) -> Check
 
 // 35: a least above its most.
 fn check_order(least: &[f64], most: &[f64]) -> Check
-    requires { ⌜ (length (now least) ≤ 256) × (length (now most) ≡ length (now least)) ⌝ }
+    requires { ⌜ (length (now least) ≤ max-edges) × (length (now most) ≡ length (now least)) ⌝ }
     ensures { λ r. ⌜ outcome r ≡ first-bad in-order 35 0 (ranges (now (least .entry)) (now (most .entry))) ⌝ }
 {
     let mut e = 0usize;
@@ -130,7 +126,7 @@ fn check_order(least: &[f64], most: &[f64]) -> Check
 
 // 2, then 35.
 fn check_ranges(least: &[f64], most: &[f64]) -> Check
-    requires { ⌜ (length (now least) ≤ 256) × (length (now most) ≡ length (now least)) ⌝ }
+    requires { ⌜ (length (now least) ≤ max-edges) × (length (now most) ≡ length (now least)) ⌝ }
     ensures { λ r. ⌜ outcome r ≡ ranges-test (now (least .entry)) (now (most .entry)) ⌝ }
 {
     let ends = check_ends(least, most);
@@ -140,7 +136,7 @@ fn check_ranges(least: &[f64], most: &[f64]) -> Check
 
 // 9: a count over 1,000,000.
 pub(crate) fn check_counts(counts: &[u32]) -> Check
-    requires { ⌜ length (now counts) ≤ 256 ⌝ }
+    requires { ⌜ length (now counts) ≤ max-edges ⌝ }
     ensures { λ r. ⌜ outcome r ≡ counts-test (now (counts .entry)) ⌝ }
 {
     let mut e = 0usize;
@@ -222,7 +218,7 @@ fn check_pair(a: &[u16], b: &[u16], n: usize, region: u32, first: u32) -> Check
 
 // The record that stands first: sides 0 and 2, then 1 and 3.
 fn check_region(records: &[u16], n: usize, region: u32) -> Check
-    requires { ⌜ 68 ≤ length (now records) ⌝ }
+    requires { ⌜ record-size places ≤ length (now records) ⌝ }
     requires { ⌜ T (sides-fit places 1 (now records)) ⌝ }
     ensures { λ r. ⌜ outcome r ≡ region-test places n region (now (records .entry)) ⌝ }
 {
@@ -267,7 +263,7 @@ fn check_spacing_limits(regions: &[u16], least: &[f64], most: &[f64]) -> Check
 
 // 8, then 2 and 35, then 9: as many counts as ranges, and each value as it should be.
 fn check_values(counts: &[u32], least: &[f64], most: &[f64]) -> Check
-    requires { ⌜ length (now counts) ≤ 256 ⌝ }
+    requires { ⌜ length (now counts) ≤ max-edges ⌝ }
     ensures { λ r. ⌜ outcome r ≡ values-test (now (counts .entry)) (within (now (least .entry)) (now (most .entry))) ⌝ }
 {
     if least.len() != most.len() {

@@ -1,15 +1,19 @@
-// The parts of the farm: edges that constraints join, one after the other, have one label. A search never leaves the part of its start, so
-// what it gave holds until a move touches that part.
+// The components of the farm: edges that constraints join, one after the other, have one label. A search never leaves the component of its start, so
+// what it gave holds until a move touches that component.
 use crate::cost::set_costs;
+use crate::limits::CHANGES;
+use crate::limits::EDGE_PLACES;
+use crate::limits::MAX_CONSTRAINTS;
+use crate::limits::MAX_EDGES;
+use crate::limits::NO_CONSTRAINT;
 use crate::search::wide;
 ghost use mathlib.Core.Path.{_≡_};
 ghost use Prim.Native.Nat.{ℕ, _*_, _≤_, _<_};
 ghost use lib.ListN.{length, getD};
 ghost use Rattle.counts.specs.Cost.{range-delta, by-ranges};
-ghost use Rattle.counts.specs.inner.Tables.{no-constraint};
+ghost use Rattle.counts.specs.inner.Tables.{no-constraint, changes, max-constraints};
 ghost use Rattle.counts.specs.inner.Components.{Labels, StillEqual, OneMark, Taken, EdgeRefreshed, Refreshed, renamed as renamed-to};
-
-const NO_CONSTRAINT: usize = 256;
+ghost use Rattle.counts.specs.Accept.{max-edges};
 
 // ---- labels
 
@@ -23,20 +27,20 @@ fn renamed(label: u16, from: u16, to: u16) -> u16
 }
 
 // Mark `from` becomes `to`, wherever it stands.
-fn rename(marks: &mut [u16; 256], from: u16, to: u16)
-    requires { ⌜ length (now marks) ≡ 256 ⌝ }
-    ensures { λ _. ⌜ (length (now (marks .exit)) ≡ 256) × ((i : ℕ) → i < 256 → getD (now (marks .exit)) i 0 ≡ renamed-to from to (getD (now (marks .entry)) i 0)) ⌝ }
+fn rename(marks: &mut [u16; MAX_CONSTRAINTS], from: u16, to: u16)
+    requires { ⌜ length (now marks) ≡ max-constraints ⌝ }
+    ensures { λ _. ⌜ (length (now (marks .exit)) ≡ max-constraints) × ((i : ℕ) → i < max-constraints → getD (now (marks .exit)) i 0 ≡ renamed-to from to (getD (now (marks .entry)) i 0)) ⌝ }
 {
     let mut i = 0usize;
-    while i < 256 {
+    while i < MAX_CONSTRAINTS {
         marks[i] = renamed(marks[i], from, to);
         i += 1;
     }
 }
 
 // The two constraints of edge e, if it has two, get one mark.
-fn join_at(incident: &[u16; 512], e: usize, marks: &mut [u16; 256])
-    requires { ⌜ (e < 256) × (length (now marks) ≡ 256) ⌝ }
+fn join_at(incident: &[u16; EDGE_PLACES], e: usize, marks: &mut [u16; MAX_CONSTRAINTS])
+    requires { ⌜ (e < max-edges) × (length (now marks) ≡ max-constraints) ⌝ }
     ensures { λ _. ⌜ StillEqual (now (marks .entry)) (now (marks .exit)) × OneMark (now (incident .entry)) (now (marks .exit)) e ⌝ }
 {
     let a = wide(incident[e * 2]);
@@ -56,8 +60,8 @@ fn join_at(incident: &[u16; 512], e: usize, marks: &mut [u16; 256])
 }
 
 // The constraints of each of n edges get one mark.
-fn join_constraints(incident: &[u16; 512], n: usize, marks: &mut [u16; 256])
-    requires { ⌜ (n ≤ 256) × (length (now marks) ≡ 256) ⌝ }
+fn join_constraints(incident: &[u16; EDGE_PLACES], n: usize, marks: &mut [u16; MAX_CONSTRAINTS])
+    requires { ⌜ (n ≤ max-edges) × (length (now marks) ≡ max-constraints) ⌝ }
     ensures { λ _. ⌜ ((x : ℕ) → x < n → OneMark (now (incident .entry)) (now (marks .exit)) x) ⌝ }
 {
     let mut e = 0usize;
@@ -68,20 +72,20 @@ fn join_constraints(incident: &[u16; 512], n: usize, marks: &mut [u16; 256])
 }
 
 // Every constraint has a mark of its own.
-fn number_constraints(marks: &mut [u16; 256])
-    requires { ⌜ length (now marks) ≡ 256 ⌝ }
-    ensures { λ _. ⌜ length (now (marks .exit)) ≡ 256 ⌝ }
+fn number_constraints(marks: &mut [u16; MAX_CONSTRAINTS])
+    requires { ⌜ length (now marks) ≡ max-constraints ⌝ }
+    ensures { λ _. ⌜ length (now (marks .exit)) ≡ max-constraints ⌝ }
 {
     let mut i = 0usize;
-    while i < 256 {
+    while i < MAX_CONSTRAINTS {
         marks[i] = i as u16;
         i += 1;
     }
 }
 
-// The label of edge e is the mark of its constraints; an edge in no constraint is a part of its own.
-fn label_of(incident: &[u16; 512], marks: &[u16; 256], e: usize) -> u16
-    requires { ⌜ e < 256 ⌝ }
+// The label of edge e is the mark of its constraints; an edge in no constraint is a component of its own.
+fn label_of(incident: &[u16; EDGE_PLACES], marks: &[u16; MAX_CONSTRAINTS], e: usize) -> u16
+    requires { ⌜ e < max-edges ⌝ }
     ensures { λ r. ⌜ (getD (now (incident .entry)) (e * 2) 0 < no-constraint → r ≡ getD (now (marks .entry)) (getD (now (incident .entry)) (e * 2) 0) 0) ⌝ }
 {
     let a = wide(incident[e * 2]);
@@ -91,8 +95,13 @@ fn label_of(incident: &[u16; 512], marks: &[u16; 256], e: usize) -> u16
     (NO_CONSTRAINT + e) as u16
 }
 
-fn take_marks(incident: &[u16; 512], n: usize, marks: &[u16; 256], labels: &mut [u16; 256])
-    requires { ⌜ (n ≤ 256) × (length (now labels) ≡ 256) ⌝ }
+fn take_marks(
+    incident: &[u16; EDGE_PLACES],
+    n: usize,
+    marks: &[u16; MAX_CONSTRAINTS],
+    labels: &mut [u16; MAX_EDGES],
+)
+    requires { ⌜ (n ≤ max-edges) × (length (now labels) ≡ max-edges) ⌝ }
     ensures { λ _. ⌜ ((x : ℕ) → x < n → Taken (now (incident .entry)) (now (marks .entry)) (now (labels .exit)) x) ⌝ }
 {
     let mut e = 0usize;
@@ -103,11 +112,11 @@ fn take_marks(incident: &[u16; 512], n: usize, marks: &[u16; 256], labels: &mut 
 }
 
 // The labels of n edges.
-pub(crate) fn label_edges(incident: &[u16; 512], n: usize, labels: &mut [u16; 256])
-    requires { ⌜ (n ≤ 256) × (length (now labels) ≡ 256) ⌝ }
+pub(crate) fn label_edges(incident: &[u16; EDGE_PLACES], n: usize, labels: &mut [u16; MAX_EDGES])
+    requires { ⌜ (n ≤ max-edges) × (length (now labels) ≡ max-edges) ⌝ }
     ensures { λ _. ⌜ Labels n (now (incident .entry)) (now (labels .exit)) ⌝ }
 {
-    let mut marks = [0; 256];
+    let mut marks = [0; MAX_CONSTRAINTS];
     number_constraints(&mut marks);
     join_constraints(incident, n, &mut marks);
     take_marks(incident, n, &marks, labels);
@@ -115,22 +124,22 @@ pub(crate) fn label_edges(incident: &[u16; 512], n: usize, labels: &mut [u16; 25
 
 // ---- what a move touches
 
-// Edge e, with count s, gets new costs if it is of this part, and what its starts gave is forgotten.
+// Edge e, with count s, gets new costs if it is of this component, and what its starts gave is forgotten.
 fn refresh_edge(
     label: u16,
-    part: u16,
+    component: u16,
     s: u32,
     least: f64,
     most: f64,
     e: usize,
-    costs: &mut [f64; 512],
-    allowed: &mut [bool; 512],
-    known: &mut [bool; 512],
+    costs: &mut [f64; CHANGES],
+    allowed: &mut [bool; CHANGES],
+    known: &mut [bool; CHANGES],
 )
-    requires { ⌜ (e < 256) × (length (now costs) ≡ 512) × (length (now allowed) ≡ 512) × (length (now known) ≡ 512) ⌝ }
-    ensures { λ _. ⌜ EdgeRefreshed label part s (range-delta s least most) e (now (costs .entry)) (now (allowed .entry)) (now (known .entry)) (now (costs .exit)) (now (allowed .exit)) (now (known .exit)) ⌝ }
+    requires { ⌜ (e < max-edges) × (length (now costs) ≡ changes) × (length (now allowed) ≡ changes) × (length (now known) ≡ changes) ⌝ }
+    ensures { λ _. ⌜ EdgeRefreshed label component s (range-delta s least most) e (now (costs .entry)) (now (allowed .entry)) (now (known .entry)) (now (costs .exit)) (now (allowed .exit)) (now (known .exit)) ⌝ }
 {
-    if label != part {
+    if label != component {
         return;
     }
     set_costs(s, least, most, e, costs, allowed);
@@ -139,19 +148,19 @@ fn refresh_edge(
 }
 
 // The same of every edge.
-pub(crate) fn refresh_part(
-    labels: &[u16; 256],
-    part: u16,
+pub(crate) fn refresh_component(
+    labels: &[u16; MAX_EDGES],
+    component: u16,
     counts: &[u32],
     least: &[f64],
     most: &[f64],
-    costs: &mut [f64; 512],
-    allowed: &mut [bool; 512],
-    known: &mut [bool; 512],
+    costs: &mut [f64; CHANGES],
+    allowed: &mut [bool; CHANGES],
+    known: &mut [bool; CHANGES],
 )
-    requires { ⌜ (length (now counts) ≤ 256) × (length (now least) ≡ length (now counts)) × (length (now most) ≡ length (now counts)) ⌝ }
-    requires { ⌜ (length (now costs) ≡ 512) × (length (now allowed) ≡ 512) × (length (now known) ≡ 512) ⌝ }
-    ensures { λ _. ⌜ Refreshed (length (now (counts .entry))) (now (labels .entry)) part (now (counts .entry)) (by-ranges (now (least .entry)) (now (most .entry))) (now (costs .entry)) (now (allowed .entry)) (now (known .entry)) (now (costs .exit)) (now (allowed .exit)) (now (known .exit)) ⌝ }
+    requires { ⌜ (length (now counts) ≤ max-edges) × (length (now least) ≡ length (now counts)) × (length (now most) ≡ length (now counts)) ⌝ }
+    requires { ⌜ (length (now costs) ≡ changes) × (length (now allowed) ≡ changes) × (length (now known) ≡ changes) ⌝ }
+    ensures { λ _. ⌜ Refreshed (length (now (counts .entry))) (now (labels .entry)) component (now (counts .entry)) (by-ranges (now (least .entry)) (now (most .entry))) (now (costs .entry)) (now (allowed .entry)) (now (known .entry)) (now (costs .exit)) (now (allowed .exit)) (now (known .exit)) ⌝ }
 {
     let mut e = 0usize;
     while e < counts.len() {
@@ -159,7 +168,7 @@ pub(crate) fn refresh_part(
         let s = counts[e];
         let low = least[e];
         let high = most[e];
-        refresh_edge(label, part, s, low, high, e, costs, allowed, known);
+        refresh_edge(label, component, s, low, high, e, costs, allowed, known);
         e += 1;
     }
 }

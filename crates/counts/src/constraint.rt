@@ -6,7 +6,7 @@ ghost use Prim.Native.Nat.{_≤_};
 ghost use lib.ListN.{length};
 ghost use lib.Dec.{T};
 ghost use Rattle.base.specs.Lists.{all};
-ghost use Rattle.counts.specs.Region.{places, constraints, graph};
+ghost use Rattle.counts.specs.Region.{places, constraints, graph, record-size};
 ghost use Rattle.counts.specs.Accept.{sides-fit, records-whole};
 ghost use Rattle.counts.specs.inner.Checks.{sum-of-side};
 ghost use Rattle.counts.specs.Solver.{constraint-holds};
@@ -17,9 +17,9 @@ pub enum SideSum {
     OutOfRange,
 }
 
-// Sum the counts on one side. 64 bits hold it: a side has at most 16 edges.
+// Sum the counts on one side. 64 bits hold it: a side has few edges.
 fn side_sum(counts: &[u32], edges: &[u16]) -> SideSum
-    requires { ⌜ length (now edges) ≤ 16 ⌝ }
+    requires { ⌜ length (now edges) ≤ places ⌝ }
     ensures { λ r. ⌜ r ≡ sum-of-side (now (counts .entry)) (now (edges .entry)) ⌝ }
 {
     let mut total = 0u64;
@@ -37,7 +37,7 @@ fn side_sum(counts: &[u32], edges: &[u16]) -> SideSum
 
 // Two opposite sides add up to the same.
 fn constraint_holds(counts: &[u32], a: &[u16], b: &[u16]) -> bool
-    requires { ⌜ (length (now a) ≤ 16) × (length (now b) ≤ 16) ⌝ }
+    requires { ⌜ (length (now a) ≤ places) × (length (now b) ≤ places) ⌝ }
     ensures { λ r. ⌜ r ≡ constraint-holds (now (counts .entry)) (record { a = now (a .entry); b = now (b .entry) }) ⌝ }
 {
     let sum_a = side_sum(counts, a);
@@ -53,7 +53,7 @@ fn constraint_holds(counts: &[u32], a: &[u16], b: &[u16]) -> bool
 
 // Both constraints of the record that stands first hold.
 fn region_holds(records: &[u16], counts: &[u32]) -> bool
-    requires { ⌜ 68 ≤ length (now records) ⌝ }
+    requires { ⌜ record-size places ≤ length (now records) ⌝ }
     requires { ⌜ T (sides-fit places 1 (now records)) ⌝ }
     ensures { λ r. ⌜ r ≡ all (constraint-holds (now (counts .entry))) (constraints places 1 (now (records .entry))) ⌝ }
 {

@@ -1,4 +1,5 @@
 // What a change of one edge costs, for every edge of a round, and the energy that the costs are the changes of.
+use crate::limits::CHANGES;
 ghost use mathlib.Core.Path.{_≡_};
 ghost use mathlib.Core.Bool.{true, false};
 ghost use Prim.Native.Nat.{ℕ, _≤_, _<_};
@@ -6,7 +7,11 @@ ghost use lib.ListN.{length};
 ghost use lib.Dec.{ltb};
 ghost use lib.Ieee.{ofBits, add, sub, binary64};
 ghost use Rattle.counts.specs.Cost.{deviation, square, step, range-deviation, range-delta, by-ranges, energy-from};
-ghost use Rattle.counts.specs.inner.Tables.{set-both, Entries};
+ghost use Rattle.counts.specs.inner.Tables.{set-both, Entries, changes};
+ghost use Rattle.counts.specs.Accept.{max-edges};
+
+// A reading is taken in place of another one only where it costs less by more than this: 01's E.
+pub(crate) const EPS_IMPROVEMENT: f64 = 1e-12;
 
 // s/ideal - 1
 fn deviation(s: f64, ideal: f64) -> f64
@@ -66,10 +71,10 @@ pub(crate) fn set_costs(
     least: f64,
     most: f64,
     e: usize,
-    costs: &mut [f64; 512],
-    allowed: &mut [bool; 512],
+    costs: &mut [f64; CHANGES],
+    allowed: &mut [bool; CHANGES],
 )
-    requires { ⌜ (e < 256) × (length (now costs) ≡ 512) × (length (now allowed) ≡ 512) ⌝ }
+    requires { ⌜ (e < max-edges) × (length (now costs) ≡ changes) × (length (now allowed) ≡ changes) ⌝ }
     ensures { λ _. ⌜ (now (costs .exit) ≡ set-both (now (costs .entry)) e (range-delta s least most true) (range-delta s least most false)) × (now (allowed .exit) ≡ set-both (now (allowed .entry)) e true (ltb 0 s)) ⌝ }
 {
     let down = e * 2;
@@ -87,14 +92,14 @@ pub(crate) fn fill_costs(
     counts: &[u32],
     least: &[f64],
     most: &[f64],
-    costs: &mut [f64; 512],
-    allowed: &mut [bool; 512],
+    costs: &mut [f64; CHANGES],
+    allowed: &mut [bool; CHANGES],
 )
-    requires { ⌜ length (now counts) ≤ 256 ⌝ }
+    requires { ⌜ length (now counts) ≤ max-edges ⌝ }
     requires { ⌜ (length (now least) ≡ length (now counts)) × (length (now most) ≡ length (now counts)) ⌝ }
-    requires { ⌜ (length (now costs) ≡ 512) × (length (now allowed) ≡ 512) ⌝ }
+    requires { ⌜ (length (now costs) ≡ changes) × (length (now allowed) ≡ changes) ⌝ }
     ensures { λ r. ⌜ ((y : ℕ) → y < length (now (counts .entry)) → Entries (now (counts .entry)) (by-ranges (now (least .entry)) (now (most .entry))) (now (costs .exit)) (now (allowed .exit)) y) ⌝ }
-    ensures { λ r. ⌜ (length (now (costs .exit)) ≡ 512) × (length (now (allowed .exit)) ≡ 512) ⌝ }
+    ensures { λ r. ⌜ (length (now (costs .exit)) ≡ changes) × (length (now (allowed .exit)) ≡ changes) ⌝ }
 {
     let mut e = 0usize;
     while e < counts.len() {

@@ -1,8 +1,10 @@
 // `build_graph`: the tables that tell the search which constraints hold an edge. In 000 these are lists of lists; here the constraints stay in
 // the records, and each edge has two places, since test 6 turns away an edge in over two constraints. Tests 1 and 3 to 5 come before.
-// At place 2 * e + k, k being 0 or 1, `incident` has the number of the k-th constraint that holds edge e, 256 if there is none, and `own` the
-// side on which e stands in it. Sides are counted over all records: side s starts at s * 17, with its number of edges, and constraint ci has
+// At place 2 * e + k, k being 0 or 1, `incident` has the number of the k-th constraint that holds edge e, NO_CONSTRAINT if there is none, and `own` the
+// side on which e stands in it. Sides are counted over all records: side s starts at s * SIDE_SIZE, with its number of edges, and constraint ci has
 // the sides ci / 2 * 4 + ci % 2 and, two further on, the opposite one.
+use crate::limits::EDGE_PLACES;
+use crate::limits::MAX_EDGES;
 use crate::region::RECORD_SIZE;
 use crate::region::SIDE_SIZE;
 use base::refusal::Check;
@@ -14,21 +16,21 @@ ghost use lib.ListN.{length, getD, replicate};
 ghost use lib.Dec.{T};
 ghost use Rattle.base.specs.Refusal.{is-passed, outcome};
 ghost use Rattle.counts.specs.Region.{Constraint, places, region-count, incidence};
-ghost use Rattle.counts.specs.Accept.{limits-test, pairs-test, overused-test};
-ghost use Rattle.counts.specs.inner.Tables.{the-graph, edges-of, no-constraint};
+ghost use Rattle.counts.specs.Accept.{limits-test, pairs-test, overused-test, max-edges};
+ghost use Rattle.counts.specs.inner.Tables.{the-graph, edges-of, no-constraint, edge-places, max-sides};
 ghost use Rattle.counts.specs.inner.Graph.{SideTested, Tested, Sized, Placed, Filled, Built};
 
 // Edge e stands on side s of constraint ci: both go to its next place. An edge in over two constraints is only counted, for test 6.
 fn place_edge(
-    incident: &mut [u16; 512],
-    own: &mut [u16; 512],
-    uses: &mut [u16; 256],
+    incident: &mut [u16; EDGE_PLACES],
+    own: &mut [u16; EDGE_PLACES],
+    uses: &mut [u16; MAX_EDGES],
     ci: usize,
     s: usize,
     e: usize,
 )
     requires { ⌜ Sized (now incident) (now own) (now uses) ⌝ }
-    requires { ⌜ (ci < 256) × (s < 512) × (e < 256) × (getD (now uses) e 0 ≤ 512) ⌝ }
+    requires { ⌜ (ci < no-constraint) × (s < max-sides) × (e < max-edges) × (getD (now uses) e 0 ≤ max-sides) ⌝ }
     ensures { λ _. ⌜ Placed ci s (e ∷ []) (now (incident .entry)) (now (own .entry)) (now (uses .entry)) (now (incident .exit)) (now (own .exit)) (now (uses .exit)) ⌝ }
 {
     let n = uses[e] as usize;
@@ -44,14 +46,14 @@ fn place_edge(
 // The edges of side s, in listed order.
 fn place_side(
     regions: &[u16],
-    incident: &mut [u16; 512],
-    own: &mut [u16; 512],
-    uses: &mut [u16; 256],
+    incident: &mut [u16; EDGE_PLACES],
+    own: &mut [u16; EDGE_PLACES],
+    uses: &mut [u16; MAX_EDGES],
     ci: usize,
     s: usize,
 )
-    requires { ⌜ SideTested (now regions) s × (ci < 256) ⌝ }
-    requires { ⌜ Sized (now incident) (now own) (now uses) × ((y : ℕ) → y < 256 → getD (now uses) y 0 ≤ 512) ⌝ }
+    requires { ⌜ SideTested (now regions) s × (ci < no-constraint) ⌝ }
+    requires { ⌜ Sized (now incident) (now own) (now uses) × ((y : ℕ) → y < max-edges → getD (now uses) y 0 ≤ max-sides) ⌝ }
     ensures { λ _. ⌜ Placed ci s (edges-of (now (regions .entry)) s) (now (incident .entry)) (now (own .entry)) (now (uses .entry)) (now (incident .exit)) (now (own .exit)) (now (uses .exit)) ⌝ }
 {
     let start = s * SIDE_SIZE;
@@ -67,12 +69,12 @@ fn place_side(
 // Constraints in region order, so that the places of an edge hold its constraints rising.
 fn place_constraints(
     regions: &[u16],
-    incident: &mut [u16; 512],
-    own: &mut [u16; 512],
-    uses: &mut [u16; 256],
+    incident: &mut [u16; EDGE_PLACES],
+    own: &mut [u16; EDGE_PLACES],
+    uses: &mut [u16; MAX_EDGES],
 )
     requires { ⌜ Tested (now regions) ⌝ }
-    requires { ⌜ (now incident ≡ replicate 512 no-constraint) × (length (now own) ≡ 512) × (now uses ≡ replicate 256 0) ⌝ }
+    requires { ⌜ (now incident ≡ replicate edge-places no-constraint) × (length (now own) ≡ edge-places) × (now uses ≡ replicate max-edges 0) ⌝ }
     ensures { λ _. ⌜ Filled (the-graph (now (regions .entry))) (the-graph (now (regions .entry))) (now (incident .exit)) (now (own .exit)) (now (uses .exit)) ⌝ }
 {
     let m = regions.len() / RECORD_SIZE * 2;
@@ -86,8 +88,8 @@ fn place_constraints(
 }
 
 // 6: the lowest edge in over two constraints, by the numbers counted in `uses`: of whatever graph they are the numbers, the answer is its test.
-fn check_overused(uses: &[u16; 256], n: usize) -> Check
-    requires { ⌜ n ≤ 256 ⌝ }
+fn check_overused(uses: &[u16; MAX_EDGES], n: usize) -> Check
+    requires { ⌜ n ≤ max-edges ⌝ }
     ensures { λ r. ⌜ ((g : List Constraint) → ((y : ℕ) → y < n → getD (now (uses .entry)) y 0 ≡ length (incidence g y)) → outcome r ≡ overused-test g 0 n) ⌝ }
 {
     let mut e = 0;
@@ -104,14 +106,14 @@ fn check_overused(uses: &[u16; 256], n: usize) -> Check
 pub(crate) fn build_graph(
     regions: &[u16],
     n: usize,
-    incident: &mut [u16; 512],
-    own: &mut [u16; 512],
+    incident: &mut [u16; EDGE_PLACES],
+    own: &mut [u16; EDGE_PLACES],
 ) -> Check
     requires { ⌜ T (is-passed (limits-test places n (now regions))) × T (is-passed (pairs-test places n 0 (region-count places (now regions)) (now regions))) ⌝ }
-    requires { ⌜ (now incident ≡ replicate 512 no-constraint) × (length (now own) ≡ 512) ⌝ }
+    requires { ⌜ (now incident ≡ replicate edge-places no-constraint) × (length (now own) ≡ edge-places) ⌝ }
     ensures { λ r. ⌜ Built n (now (regions .entry)) (now (incident .exit)) (now (own .exit)) (outcome r) ⌝ }
 {
-    let mut uses = [0; 256];
+    let mut uses = [0; MAX_EDGES];
     place_constraints(regions, incident, own, &mut uses);
     check_overused(&uses, n)
 }

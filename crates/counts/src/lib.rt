@@ -6,6 +6,7 @@ mod components;
 mod constraint;
 mod cost;
 mod graph;
+mod limits;
 pub mod region;
 mod search;
 mod solve;
@@ -14,7 +15,6 @@ use crate::answer::EnergyAnswer;
 use crate::answer::HoldAnswer;
 use crate::answer::RoundAnswer;
 use crate::answer::SolveAnswer;
-use crate::check::MAX_LIMIT;
 use crate::check::check_energy;
 use crate::check::check_limits;
 use crate::check::check_round;
@@ -22,6 +22,9 @@ use crate::check::check_solve;
 use crate::constraint::regions_hold;
 use crate::cost::total_energy;
 use crate::graph::build_graph;
+use crate::limits::EDGE_PLACES;
+use crate::limits::MAX_LIMIT;
+use crate::limits::NO_ENTRY;
 use crate::solve::make_round;
 use crate::solve::solve_from_zeros;
 use base::refusal::Check;
@@ -42,8 +45,8 @@ pub fn round_within(
     if let Check::Refused(r) = check_round(regions, least, most, counts, limit) {
         return RoundAnswer::Refused(r);
     }
-    let mut incident = [256; 512];
-    let mut own = [0; 512];
+    let mut incident = [NO_ENTRY; EDGE_PLACES];
+    let mut own = [0; EDGE_PLACES];
     if let Check::Refused(r) = build_graph(regions, least.len(), &mut incident, &mut own) {
         return RoundAnswer::Refused(r);
     }
@@ -70,8 +73,8 @@ pub fn solve_counts_within(
     if let Check::Refused(r) = check_solve(regions, least, most, room) {
         return SolveAnswer::Refused(r);
     }
-    let mut incident = [256; 512];
-    let mut own = [0; 512];
+    let mut incident = [NO_ENTRY; EDGE_PLACES];
+    let mut own = [0; EDGE_PLACES];
     let n = least.len();
     if let Check::Refused(r) = build_graph(regions, n, &mut incident, &mut own) {
         return SolveAnswer::Refused(r);

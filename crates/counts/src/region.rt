@@ -1,14 +1,14 @@
-// Region records as they are lent: 68 numbers each. For each of four sides (bottom 0, right 1, top 2, left 3) how many
-// edges, then 16 places.
+// Region records as they are lent. For each of four sides (bottom 0, right 1, top 2, left 3) how many edges, then the places for them.
 ghost use mathlib.Core.Path.{_≡_};
 ghost use Rattle.counts.specs.Region.{places, side};
 
-// 16 places, with the number of edges before them, for each of four sides.
-pub(crate) const PLACES: u16 = 16;
+// How many edges fit on a side.
+pub const PLACES: u16 = 16;
 
-pub(crate) const SIDE_SIZE: usize = 17;
+// Their number stands before them.
+pub const SIDE_SIZE: usize = PLACES as usize + 1;
 
-pub const RECORD_SIZE: usize = 68;
+pub const RECORD_SIZE: usize = 4 * SIDE_SIZE;
 
 // The edges of side k of the record that stands first: as many as there are, where the list ends before them.
 pub fn side<'a>(records: &'a [u16], k: u32) -> &'a [u16]

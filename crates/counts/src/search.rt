@@ -1,10 +1,16 @@
 // The search for the cheapest unit move from one start: `AugmentSearch` of 000, over tables that are made once.
 // A change is packed in one number, 2 * edge + 1 for +1 and 2 * edge for -1. A place is 2 * edge + k: constraint k (0 or 1) of the edge;
-// `incident` has the constraint's number there, or 256 if there is none, and `own` the number of the side on which the edge stands.
-// `used` marks the constraints already crossed (256 always), `path` has the changes so far, `best` the kept reading.
-// `home` is the constraint of the start's edge that is still open, 256 if there is none: only there can a loop close.
+// `incident` has the constraint's number there, or NO_CONSTRAINT if there is none, and `own` the number of the side on which the edge stands.
+// `used` marks the constraints already crossed (NO_CONSTRAINT always), `path` has the changes so far, `best` the kept reading.
+// `home` is the constraint of the start's edge that is still open, NO_CONSTRAINT if there is none: only there can a loop close.
 // Inside the search the state is handed over in fresh structs and not lent: a struct that a call is given as it stands lives in memory from then
 // on, which makes the search two to three times as slow. It is lent where that is done once for each start, to `enter` and `cross`.
+use crate::cost::EPS_IMPROVEMENT;
+use crate::limits::CHANGES;
+use crate::limits::EDGE_PLACES;
+use crate::limits::MARKS;
+use crate::limits::NO_CONSTRAINT;
+use crate::limits::PATH_SIZE;
 use crate::region::SIDE_SIZE;
 ghost use mathlib.Core.Logic.{_≢_};
 ghost use mathlib.Core.Path.{_≡_};
@@ -17,7 +23,7 @@ ghost use Rattle.base.specs.Lists.{member};
 ghost use Rattle.counts.specs.Region.{constraint, holds};
 ghost use Rattle.counts.specs.Move.{balances};
 ghost use Rattle.counts.specs.Search.{is-used, others-changed};
-ghost use Rattle.counts.specs.inner.Tables.{decoded, path-of, the-graph, across, Other, Tables};
+ghost use Rattle.counts.specs.inner.Tables.{decoded, path-of, the-graph, across, Other, Tables, edge-places, changes, marks-size, path-size, no-constraint, max-sides};
 ghost use Rattle.counts.specs.inner.SearchContract.{both-sides, both-signed, changed-by, SidesAt, MayCross, MayStep, Crossed, Stepped, Ended, no-marks, fresh-state, Entered, CrossedAll, Searched};
 
 // The kept cost and the length of the kept reading, how many entries there were, and whether one was turned back.
@@ -51,29 +57,29 @@ pub(crate) fn wide(x: u16) -> usize
 
 // ---- reading the tables
 
-fn entry(table: &[u16; 512], place: usize) -> usize
-    requires { ⌜ place < 512 ⌝ }
+fn entry(table: &[u16; EDGE_PLACES], place: usize) -> usize
+    requires { ⌜ place < edge-places ⌝ }
     ensures { λ r. ⌜ r ≡ getD (now (table .entry)) place 0 ⌝ }
 {
     wide(table[place])
 }
 
-fn is_allowed(allowed: &[bool; 512], change: usize) -> bool
-    requires { ⌜ change < 512 ⌝ }
+fn is_allowed(allowed: &[bool; CHANGES], change: usize) -> bool
+    requires { ⌜ change < changes ⌝ }
     ensures { λ r. ⌜ r ≡ getD (now (allowed .entry)) change false ⌝ }
 {
     allowed[change]
 }
 
-fn edge_cost(costs: &[f64; 512], change: usize) -> f64
-    requires { ⌜ change < 512 ⌝ }
+fn edge_cost(costs: &[f64; CHANGES], change: usize) -> f64
+    requires { ⌜ change < changes ⌝ }
     ensures { λ r. ⌜ r ≡ getD (now (costs .entry)) change nan ⌝ }
 {
     costs[change]
 }
 
-fn is_used(used: &[bool; 257], ci: usize) -> bool
-    requires { ⌜ (ci < 257) × (length (now used) ≡ 257) ⌝ }
+fn is_used(used: &[bool; MARKS], ci: usize) -> bool
+    requires { ⌜ (ci < marks-size) × (length (now used) ≡ marks-size) ⌝ }
     ensures { λ r. ⌜ r ≡ is-used (now (used .entry)) ci ⌝ }
 {
     used[ci]
@@ -89,14 +95,14 @@ fn number_at(regions: &[u16], i: usize) -> usize
 // The place of the edge's constraint besides ci.
 fn other_place(
     regions: &[u16],
-    incident: &[u16; 512],
-    own: &[u16; 512],
+    incident: &[u16; EDGE_PLACES],
+    own: &[u16; EDGE_PLACES],
     edge: usize,
     ci: usize,
 ) -> usize
     requires { ⌜ Tables (now regions) (now incident) (now own) ⌝ }
     requires { ⌜ T (holds (constraint (the-graph (now regions)) ci) edge) ⌝ }
-    ensures { λ r. ⌜ (r < 512) × (r / 2 ≡ edge) × (getD (now (incident .entry)) r 0 ≤ 256) × Other (the-graph (now (regions .entry))) edge ci (getD (now (incident .entry)) r 0) ⌝ }
+    ensures { λ r. ⌜ (r < edge-places) × (r / 2 ≡ edge) × (getD (now (incident .entry)) r 0 ≤ no-constraint) × Other (the-graph (now (regions .entry))) edge ci (getD (now (incident .entry)) r 0) ⌝ }
 {
     let k = edge * 2;
     if entry(incident, k) == ci { k + 1 } else { k }
@@ -105,23 +111,28 @@ fn other_place(
 // The place of the edge's constraint ci.
 fn place_in(
     regions: &[u16],
-    incident: &[u16; 512],
-    own: &[u16; 512],
+    incident: &[u16; EDGE_PLACES],
+    own: &[u16; EDGE_PLACES],
     edge: usize,
     ci: usize,
 ) -> usize
     requires { ⌜ Tables (now regions) (now incident) (now own) ⌝ }
     requires { ⌜ T (holds (constraint (the-graph (now regions)) ci) edge) ⌝ }
-    ensures { λ r. ⌜ (r < 512) × (r / 2 ≡ edge) × (getD (now (incident .entry)) r 0 ≡ ci) ⌝ }
+    ensures { λ r. ⌜ (r < edge-places) × (r / 2 ≡ edge) × (getD (now (incident .entry)) r 0 ≡ ci) ⌝ }
 {
     let k = edge * 2;
     if entry(incident, k) == ci { k } else { k + 1 }
 }
 
 // Whether the edge stands on the first side of the constraint at its place.
-fn on_first_side(regions: &[u16], incident: &[u16; 512], own: &[u16; 512], place: usize) -> bool
+fn on_first_side(
+    regions: &[u16],
+    incident: &[u16; EDGE_PLACES],
+    own: &[u16; EDGE_PLACES],
+    place: usize,
+) -> bool
     requires { ⌜ Tables (now regions) (now incident) (now own) ⌝ }
-    requires { ⌜ (place < 512) × (getD (now incident) place 0 < 256) ⌝ }
+    requires { ⌜ (place < edge-places) × (getD (now incident) place 0 < no-constraint) ⌝ }
     ensures { λ r. ⌜ r ≡ member (place / 2) (constraint (the-graph (now (regions .entry))) (getD (now (incident .entry)) place 0) .a) ⌝ }
 {
     entry(own, place) % 4 < 2
@@ -131,15 +142,20 @@ fn on_first_side(regions: &[u16], incident: &[u16; 512], own: &[u16; 512], place
 
 // The side opposite to one, sides counted over all records.
 fn opposite(side: usize) -> usize
-    requires { ⌜ side < 512 ⌝ }
+    requires { ⌜ side < max-sides ⌝ }
     ensures { λ r. ⌜ r ≡ across side ⌝ }
 {
     if side % 4 < 2 { side + 2 } else { side - 2 }
 }
 
-fn sides_of(regions: &[u16], incident: &[u16; 512], own: &[u16; 512], place: usize) -> Sides
+fn sides_of(
+    regions: &[u16],
+    incident: &[u16; EDGE_PLACES],
+    own: &[u16; EDGE_PLACES],
+    place: usize,
+) -> Sides
     requires { ⌜ Tables (now regions) (now incident) (now own) ⌝ }
-    requires { ⌜ (place < 512) × (getD (now incident) place 0 < 256) ⌝ }
+    requires { ⌜ (place < edge-places) × (getD (now incident) place 0 < no-constraint) ⌝ }
     ensures { λ r. ⌜ SidesAt (now (regions .entry)) (getD (now (incident .entry)) place 0) (place / 2) (r .opposite) (r .split) (r .own) (r .total) ⌝ }
 {
     let here = entry(own, place);
@@ -157,8 +173,8 @@ fn sides_of(regions: &[u16], incident: &[u16; 512], own: &[u16; 512], place: usi
 // The edge at j of the two sides.
 fn edge_at(
     regions: &[u16],
-    incident: &[u16; 512],
-    own: &[u16; 512],
+    incident: &[u16; EDGE_PLACES],
+    own: &[u16; EDGE_PLACES],
     sides: Sides,
     place: usize,
     j: usize,
@@ -179,8 +195,8 @@ fn edge_at(
 // The same as a change that could follow: the same sign on the opposite side, the other sign on the own side.
 fn partner(
     regions: &[u16],
-    incident: &[u16; 512],
-    own: &[u16; 512],
+    incident: &[u16; EDGE_PLACES],
+    own: &[u16; EDGE_PLACES],
     sides: Sides,
     place: usize,
     change: usize,
@@ -189,7 +205,7 @@ fn partner(
     requires { ⌜ Tables (now regions) (now incident) (now own) ⌝ }
     requires { ⌜ SidesAt (now regions) (getD (now incident) place 0) (place / 2) (sides .opposite) (sides .split) (sides .own) (sides .total) ⌝ }
     requires { ⌜ j < sides .total ⌝ }
-    ensures { λ r. ⌜ (r < 512) × T (holds (constraint (the-graph (now (regions .entry))) (getD (now (incident .entry)) place 0)) (r / 2)) × (decoded r ≡ getD (both-signed (constraint (the-graph (now (regions .entry))) (getD (now (incident .entry)) place 0)) (place / 2) (eqb (change % 2) 1)) j (decoded 0)) ⌝ }
+    ensures { λ r. ⌜ (r < changes) × T (holds (constraint (the-graph (now (regions .entry))) (getD (now (incident .entry)) place 0)) (r / 2)) × (decoded r ≡ getD (both-signed (constraint (the-graph (now (regions .entry))) (getD (now (incident .entry)) place 0)) (place / 2) (eqb (change % 2) 1)) j (decoded 0)) ⌝ }
 {
     let split = sides.split;
     if j < split {
@@ -202,15 +218,15 @@ fn partner(
 // Whether the start's change and another one, at a place of `home`, balance there.
 fn balances_with_start(
     regions: &[u16],
-    incident: &[u16; 512],
-    own: &[u16; 512],
+    incident: &[u16; EDGE_PLACES],
+    own: &[u16; EDGE_PLACES],
     place: usize,
     change: usize,
     start: usize,
     home: usize,
 ) -> bool
     requires { ⌜ Tables (now regions) (now incident) (now own) ⌝ }
-    requires { ⌜ (place < 512) × (place / 2 ≡ change / 2) × (getD (now incident) place 0 ≡ home) × (home < 256) × T (holds (constraint (the-graph (now regions)) home) (start / 2)) ⌝ }
+    requires { ⌜ (place < edge-places) × (place / 2 ≡ change / 2) × (getD (now incident) place 0 ≡ home) × (home < no-constraint) × T (holds (constraint (the-graph (now regions)) home) (start / 2)) ⌝ }
     ensures { λ r. ⌜ r ≡ balances (constraint (the-graph (now (regions .entry))) home) (decoded start) (decoded change) ⌝ }
 {
     let start_place = place_in(regions, incident, own, start / 2, home);
@@ -225,15 +241,15 @@ fn balances_with_start(
 // The changed edges that the constraint at a place holds besides the place's own edge; left at the second one found.
 fn changed_in(
     regions: &[u16],
-    incident: &[u16; 512],
-    own: &[u16; 512],
+    incident: &[u16; EDGE_PLACES],
+    own: &[u16; EDGE_PLACES],
     place: usize,
-    path: &[u16; 257],
+    path: &[u16; PATH_SIZE],
     depth: usize,
 ) -> Changed
     requires { ⌜ Tables (now regions) (now incident) (now own) ⌝ }
-    requires { ⌜ (place < 512) × (getD (now incident) place 0 < 256) ⌝ }
-    requires { ⌜ (depth ≤ 257) × (length (now path) ≡ 257) ⌝ }
+    requires { ⌜ (place < edge-places) × (getD (now incident) place 0 < no-constraint) ⌝ }
+    requires { ⌜ (depth ≤ path-size) × (length (now path) ≡ path-size) ⌝ }
     ensures { λ r. ⌜ r ≡ changed-by (others-changed (constraint (the-graph (now (regions .entry))) (getD (now (incident .entry)) place 0)) (place / 2) (path-of depth (now (path .entry)))) ⌝ }
 {
     let sides = sides_of(regions, incident, own, place);
@@ -267,9 +283,9 @@ fn changed_in(
 
 // ---- keeping a reading
 
-fn keep_path(path: &[u16; 257], depth: usize, best: &mut [u16; 257])
-    requires { ⌜ (depth ≤ 257) × (length (now path) ≡ 257) × (length (now best) ≡ 257) ⌝ }
-    ensures { λ _. ⌜ (take depth (now (best .exit)) ≡ take depth (now (path .entry))) × (length (now (best .exit)) ≡ 257) ⌝ }
+fn keep_path(path: &[u16; PATH_SIZE], depth: usize, best: &mut [u16; PATH_SIZE])
+    requires { ⌜ (depth ≤ path-size) × (length (now path) ≡ path-size) × (length (now best) ≡ path-size) ⌝ }
+    ensures { λ _. ⌜ (take depth (now (best .exit)) ≡ take depth (now (path .entry))) × (length (now (best .exit)) ≡ path-size) ⌝ }
 {
     let mut i = 0;
     while i < depth {
@@ -280,17 +296,17 @@ fn keep_path(path: &[u16; 257], depth: usize, best: &mut [u16; 257])
 
 // The entry to an edge whose constraints are all used: a chain ends there, complete if the start has no open constraint.
 fn end_chain(
-    costs: &[f64; 512],
+    costs: &[f64; CHANGES],
     limit: u32,
-    path: &mut [u16; 257],
-    best: &mut [u16; 257],
+    path: &mut [u16; PATH_SIZE],
+    best: &mut [u16; PATH_SIZE],
     depth: usize,
     change: usize,
     cost: f64,
     home: usize,
     state: SearchState,
 ) -> SearchState
-    requires { ⌜ (depth < 257) × (change < 512) × (length (now path) ≡ 257) × (length (now best) ≡ 257) ⌝ }
+    requires { ⌜ (depth < path-size) × (change < changes) × (length (now path) ≡ path-size) × (length (now best) ≡ path-size) ⌝ }
     ensures { λ r. ⌜ Ended (now (costs .entry)) limit (now (path .entry)) (now (best .entry)) depth change cost home state (now (path .exit)) (now (best .exit)) r ⌝ }
 {
     if state.expansions >= limit {
@@ -301,9 +317,9 @@ fn end_chain(
             cut: true,
         };
     }
-    if home == 256 {
+    if home == NO_CONSTRAINT {
         let c = cost + edge_cost(costs, change);
-        if c < state.kept - 1e-12 {
+        if c < state.kept - EPS_IMPROVEMENT {
             path[depth] = change as u16;
             keep_path(path, depth + 1, best);
             return SearchState {
@@ -325,14 +341,14 @@ fn end_chain(
 // The last edge stands in the start's open constraint: the loop closes there if the two balance and no other edge was changed in it.
 fn close_loop(
     regions: &[u16],
-    incident: &[u16; 512],
-    own: &[u16; 512],
-    costs: &[f64; 512],
-    allowed: &[bool; 512],
+    incident: &[u16; EDGE_PLACES],
+    own: &[u16; EDGE_PLACES],
+    costs: &[f64; CHANGES],
+    allowed: &[bool; CHANGES],
     limit: u32,
-    used: &[bool; 257],
-    path: &[u16; 257],
-    best: &mut [u16; 257],
+    used: &[bool; MARKS],
+    path: &[u16; PATH_SIZE],
+    best: &mut [u16; PATH_SIZE],
     depth: usize,
     place: usize,
     cost: f64,
@@ -342,13 +358,13 @@ fn close_loop(
     requires { ⌜ Tables (now regions) (now incident) (now own) ⌝ }
     requires { ⌜ MayCross (the-graph (now regions)) (now incident) (now used) (now path) depth place home ⌝ }
     requires { ⌜ getD (now incident) place 0 ≡ home ⌝ }
-    requires { ⌜ length (now best) ≡ 257 ⌝ }
+    requires { ⌜ length (now best) ≡ path-size ⌝ }
     ensures { λ r. ⌜ Crossed (now (regions .entry)) (now (incident .entry)) (now (costs .entry)) (now (allowed .entry)) limit (now (used .entry)) (now (path .entry)) (now (best .entry)) depth place cost state (now (used .entry)) (now (path .entry)) (now (best .exit)) r ⌝ }
 {
     let start = wide(path[0]);
     let change = wide(path[depth - 1]);
     if balances_with_start(regions, incident, own, place, change, start, home) {
-        if cost < state.kept - 1e-12 {
+        if cost < state.kept - EPS_IMPROVEMENT {
             if let Changed::One(edge) = changed_in(regions, incident, own, place, path, depth) {
                 if edge == start / 2 {
                     keep_path(path, depth, best);
@@ -371,14 +387,14 @@ fn close_loop(
 // May a change follow through constraint ci, which is used already? Then its edge is entered, and its other constraint crossed.
 fn try_step(
     regions: &[u16],
-    incident: &[u16; 512],
-    own: &[u16; 512],
-    costs: &[f64; 512],
-    allowed: &[bool; 512],
+    incident: &[u16; EDGE_PLACES],
+    own: &[u16; EDGE_PLACES],
+    costs: &[f64; CHANGES],
+    allowed: &[bool; CHANGES],
     limit: u32,
-    used: &mut [bool; 257],
-    path: &mut [u16; 257],
-    best: &mut [u16; 257],
+    used: &mut [bool; MARKS],
+    path: &mut [u16; PATH_SIZE],
+    best: &mut [u16; PATH_SIZE],
     depth: usize,
     current: usize,
     change: usize,
@@ -389,14 +405,14 @@ fn try_step(
 ) -> SearchState
     requires { ⌜ Tables (now regions) (now incident) (now own) ⌝ }
     requires { ⌜ MayStep (the-graph (now regions)) (now used) (now path) depth current ci change home ⌝ }
-    requires { ⌜ length (now best) ≡ 257 ⌝ }
+    requires { ⌜ length (now best) ≡ path-size ⌝ }
     ensures { λ r. ⌜ Stepped (now (regions .entry)) (now (costs .entry)) (now (allowed .entry)) limit (now (used .entry)) (now (path .entry)) (now (best .entry)) depth current ci change cost state (now (used .exit)) (now (path .exit)) (now (best .exit)) r ⌝ }
 {
     if change / 2 != current {
         if is_allowed(allowed, change) {
             let place = other_place(regions, incident, own, change / 2, ci);
             let other = entry(incident, place);
-            if other == 256 {
+            if other == NO_CONSTRAINT {
                 let t = SearchState {
                     kept: state.kept,
                     expansions: state.expansions,
@@ -454,14 +470,14 @@ fn try_step(
 // Crosses the unused constraint at a place of the last changed edge: tries its opposite edges, then the others of the own side.
 fn dfs(
     regions: &[u16],
-    incident: &[u16; 512],
-    own: &[u16; 512],
-    costs: &[f64; 512],
-    allowed: &[bool; 512],
+    incident: &[u16; EDGE_PLACES],
+    own: &[u16; EDGE_PLACES],
+    costs: &[f64; CHANGES],
+    allowed: &[bool; CHANGES],
     limit: u32,
-    used: &mut [bool; 257],
-    path: &mut [u16; 257],
-    best: &mut [u16; 257],
+    used: &mut [bool; MARKS],
+    path: &mut [u16; PATH_SIZE],
+    best: &mut [u16; PATH_SIZE],
     depth: usize,
     place: usize,
     cost: f64,
@@ -470,7 +486,7 @@ fn dfs(
 ) -> SearchState
     requires { ⌜ Tables (now regions) (now incident) (now own) ⌝ }
     requires { ⌜ MayCross (the-graph (now regions)) (now incident) (now used) (now path) depth place home ⌝ }
-    requires { ⌜ length (now best) ≡ 257 ⌝ }
+    requires { ⌜ length (now best) ≡ path-size ⌝ }
     ensures { λ r. ⌜ Crossed (now (regions .entry)) (now (incident .entry)) (now (costs .entry)) (now (allowed .entry)) limit (now (used .entry)) (now (path .entry)) (now (best .entry)) depth place cost state (now (used .exit)) (now (path .exit)) (now (best .exit)) r ⌝ }
 {
     let ci = entry(incident, place);
@@ -562,16 +578,16 @@ pub(crate) fn fresh() -> SearchState
 fn enter_start(
     state: SearchState,
     regions: &[u16],
-    incident: &[u16; 512],
-    own: &[u16; 512],
-    costs: &[f64; 512],
+    incident: &[u16; EDGE_PLACES],
+    own: &[u16; EDGE_PLACES],
+    costs: &[f64; CHANGES],
     limit: u32,
-    path: &mut [u16; 257],
-    best: &mut [u16; 257],
+    path: &mut [u16; PATH_SIZE],
+    best: &mut [u16; PATH_SIZE],
     start: usize,
 ) -> SearchState
     requires { ⌜ Tables (now regions) (now incident) (now own) ⌝ }
-    requires { ⌜ (start < 512) × (length (now path) ≡ 257) × (length (now best) ≡ 257) ⌝ }
+    requires { ⌜ (start < changes) × (length (now path) ≡ path-size) × (length (now best) ≡ path-size) ⌝ }
     ensures { λ r. ⌜ Entered (now (regions .entry)) (now (costs .entry)) limit start (now (path .entry)) (now (best .entry)) state (now (path .exit)) (now (best .exit)) r ⌝ }
 {
     path[0] = start as u16;
@@ -589,11 +605,11 @@ fn enter_start(
         len: state.len,
         cut: state.cut,
     };
-    if entry(incident, start / 2 * 2) != 256 {
+    if entry(incident, start / 2 * 2) != NO_CONSTRAINT {
         return next;
     }
     let cost = edge_cost(costs, start);
-    if cost < next.kept - 1e-12 {
+    if cost < next.kept - EPS_IMPROVEMENT {
         keep_path(path, 1, best);
         return SearchState {
             kept: cost,
@@ -609,18 +625,18 @@ fn enter_start(
 fn cross_start(
     state: SearchState,
     regions: &[u16],
-    incident: &[u16; 512],
-    own: &[u16; 512],
-    costs: &[f64; 512],
-    allowed: &[bool; 512],
+    incident: &[u16; EDGE_PLACES],
+    own: &[u16; EDGE_PLACES],
+    costs: &[f64; CHANGES],
+    allowed: &[bool; CHANGES],
     limit: u32,
-    used: &mut [bool; 257],
-    path: &mut [u16; 257],
-    best: &mut [u16; 257],
+    used: &mut [bool; MARKS],
+    path: &mut [u16; PATH_SIZE],
+    best: &mut [u16; PATH_SIZE],
     start: usize,
 ) -> SearchState
     requires { ⌜ Tables (now regions) (now incident) (now own) ⌝ }
-    requires { ⌜ (start < 512) × (now used ≡ no-marks) × (length (now path) ≡ 257) × (getD (now path) 0 0 ≡ start) × (length (now best) ≡ 257) ⌝ }
+    requires { ⌜ (start < changes) × (now used ≡ no-marks) × (length (now path) ≡ path-size) × (getD (now path) 0 0 ≡ start) × (length (now best) ≡ path-size) ⌝ }
     ensures { λ r. ⌜ CrossedAll (now (regions .entry)) (now (costs .entry)) (now (allowed .entry)) limit start (now (used .entry)) (now (path .entry)) (now (best .entry)) state (now (used .exit)) (now (path .exit)) (now (best .exit)) r ⌝ }
 {
     if state.cut {
@@ -628,7 +644,7 @@ fn cross_start(
     }
     let place = start / 2 * 2;
     let first = entry(incident, place);
-    if first == 256 {
+    if first == NO_CONSTRAINT {
         return state;
     }
     let second = entry(incident, place + 1);
@@ -655,7 +671,7 @@ fn cross_start(
         second,
         t,
     );
-    if second == 256 {
+    if second == NO_CONSTRAINT {
         return SearchState {
             kept: r.kept,
             expansions: r.expansions,
@@ -690,16 +706,16 @@ fn cross_start(
 fn enter(
     state: &mut SearchState,
     regions: &[u16],
-    incident: &[u16; 512],
-    own: &[u16; 512],
-    costs: &[f64; 512],
+    incident: &[u16; EDGE_PLACES],
+    own: &[u16; EDGE_PLACES],
+    costs: &[f64; CHANGES],
     limit: u32,
-    path: &mut [u16; 257],
-    best: &mut [u16; 257],
+    path: &mut [u16; PATH_SIZE],
+    best: &mut [u16; PATH_SIZE],
     start: usize,
 )
     requires { ⌜ Tables (now regions) (now incident) (now own) ⌝ }
-    requires { ⌜ (start < 512) × (length (now path) ≡ 257) × (length (now best) ≡ 257) ⌝ }
+    requires { ⌜ (start < changes) × (length (now path) ≡ path-size) × (length (now best) ≡ path-size) ⌝ }
     ensures { λ _. ⌜ Entered (now (regions .entry)) (now (costs .entry)) limit start (now (path .entry)) (now (best .entry)) (now (state .entry)) (now (path .exit)) (now (best .exit)) (now (state .exit)) ⌝ }
 {
     *state = enter_start(
@@ -718,18 +734,18 @@ fn enter(
 fn cross(
     state: &mut SearchState,
     regions: &[u16],
-    incident: &[u16; 512],
-    own: &[u16; 512],
-    costs: &[f64; 512],
-    allowed: &[bool; 512],
+    incident: &[u16; EDGE_PLACES],
+    own: &[u16; EDGE_PLACES],
+    costs: &[f64; CHANGES],
+    allowed: &[bool; CHANGES],
     limit: u32,
-    used: &mut [bool; 257],
-    path: &mut [u16; 257],
-    best: &mut [u16; 257],
+    used: &mut [bool; MARKS],
+    path: &mut [u16; PATH_SIZE],
+    best: &mut [u16; PATH_SIZE],
     start: usize,
 )
     requires { ⌜ Tables (now regions) (now incident) (now own) ⌝ }
-    requires { ⌜ (start < 512) × (now used ≡ no-marks) × (length (now path) ≡ 257) × (getD (now path) 0 0 ≡ start) × (length (now best) ≡ 257) ⌝ }
+    requires { ⌜ (start < changes) × (now used ≡ no-marks) × (length (now path) ≡ path-size) × (getD (now path) 0 0 ≡ start) × (length (now best) ≡ path-size) ⌝ }
     ensures { λ _. ⌜ CrossedAll (now (regions .entry)) (now (costs .entry)) (now (allowed .entry)) limit start (now (used .entry)) (now (path .entry)) (now (best .entry)) (now (state .entry)) (now (used .exit)) (now (path .exit)) (now (best .exit)) (now (state .exit)) ⌝ }
 {
     *state = cross_start(
@@ -750,18 +766,18 @@ fn cross(
 // The whole search from one change.
 pub(crate) fn run(
     regions: &[u16],
-    incident: &[u16; 512],
-    own: &[u16; 512],
-    costs: &[f64; 512],
-    allowed: &[bool; 512],
+    incident: &[u16; EDGE_PLACES],
+    own: &[u16; EDGE_PLACES],
+    costs: &[f64; CHANGES],
+    allowed: &[bool; CHANGES],
     limit: u32,
-    used: &mut [bool; 257],
-    path: &mut [u16; 257],
-    best: &mut [u16; 257],
+    used: &mut [bool; MARKS],
+    path: &mut [u16; PATH_SIZE],
+    best: &mut [u16; PATH_SIZE],
     start: usize,
 ) -> SearchState
     requires { ⌜ Tables (now regions) (now incident) (now own) ⌝ }
-    requires { ⌜ (start < 512) × (now used ≡ no-marks) × (length (now path) ≡ 257) × (length (now best) ≡ 257) ⌝ }
+    requires { ⌜ (start < changes) × (now used ≡ no-marks) × (length (now path) ≡ path-size) × (length (now best) ≡ path-size) ⌝ }
     ensures { λ r. ⌜ Searched (now (regions .entry)) (now (costs .entry)) (now (allowed .entry)) limit start (now (used .exit)) (now (path .exit)) (now (best .exit)) r ⌝ }
 {
     let mut state = fresh();

@@ -5,7 +5,13 @@ use crate::augment::apply_changes;
 use crate::augment::find_augmentation;
 use crate::augment::start_tables;
 use crate::components::label_edges;
-use crate::components::refresh_part;
+use crate::components::refresh_component;
+use crate::limits::CHANGES;
+use crate::limits::EDGE_PLACES;
+use crate::limits::MARKS;
+use crate::limits::MAX_EDGES;
+use crate::limits::NO_CONSTRAINT;
+use crate::limits::PATH_SIZE;
 use crate::search::wide;
 use base::refusal::Refusal;
 ghost use mathlib.Core.Path.{_≡_};
@@ -14,12 +20,12 @@ ghost use lib.Dec.{T};
 ghost use lib.ListN.{length, getD, replicate};
 ghost use Rattle.base.specs.Refusal.{is-passed};
 ghost use Rattle.counts.specs.Region.{places};
-ghost use Rattle.counts.specs.Accept.{regions-test};
+ghost use Rattle.counts.specs.Accept.{regions-test, max-edges};
 ghost use Rattle.counts.specs.Move.{apply-changes as changed-counts};
 ghost use Rattle.counts.specs.Cost.{by-ranges};
 ghost use Rattle.counts.specs.Round.{find-move, solve-from, solve-zeros, max-moves};
 ghost use Rattle.counts.specs.Solver.{round-of, round-by, solve-of, solve-part};
-ghost use Rattle.counts.specs.inner.Tables.{Tables, the-graph, path-of};
+ghost use Rattle.counts.specs.inner.Tables.{Tables, the-graph, path-of, changes, path-size};
 ghost use Rattle.counts.specs.inner.Components.{Labels, Refreshed};
 ghost use Rattle.counts.specs.inner.RoundContract.{Buffers, TableSizes, RoundInput, CanApply, solved-of};
 
@@ -29,7 +35,7 @@ fn wide_len(x: u32) -> usize
     x as usize
 }
 
-const MAX_MOVES: u32 = 200_000;
+const MAX_AUGMENTATIONS: u32 = 200_000;
 
 // How many moves a solve made, and whether it found a further one after the last that is allowed.
 pub struct MovesMade {
@@ -40,20 +46,20 @@ pub struct MovesMade {
 // One round: the move found, if any, is made. The buffers are lent.
 fn round_in(
     regions: &[u16],
-    incident: &[u16; 512],
-    own: &[u16; 512],
+    incident: &[u16; EDGE_PLACES],
+    own: &[u16; EDGE_PLACES],
     least: &[f64],
     most: &[f64],
     counts: &mut [u32],
     limit: u32,
-    costs: &mut [f64; 512],
-    allowed: &mut [bool; 512],
-    used: &mut [bool; 257],
-    path: &mut [u16; 257],
-    best: &mut [u16; 257],
-    kept: &mut [f64; 512],
-    cut: &mut [bool; 512],
-    known: &mut [bool; 512],
+    costs: &mut [f64; CHANGES],
+    allowed: &mut [bool; CHANGES],
+    used: &mut [bool; MARKS],
+    path: &mut [u16; PATH_SIZE],
+    best: &mut [u16; PATH_SIZE],
+    kept: &mut [f64; CHANGES],
+    cut: &mut [bool; CHANGES],
+    known: &mut [bool; CHANGES],
 ) -> RoundAnswer
     requires { ⌜ Tables (now regions) (now incident) (now own) × RoundInput (now regions) (now counts) × (length (now least) ≡ length (now counts)) × (length (now most) ≡ length (now counts)) ⌝ }
     requires { ⌜ Buffers (now used) (now path) (now best) × TableSizes (now costs) (now allowed) (now kept) (now cut) (now known) ⌝ }
@@ -85,8 +91,8 @@ fn round_in(
 
 pub(crate) fn make_round(
     regions: &[u16],
-    incident: &[u16; 512],
-    own: &[u16; 512],
+    incident: &[u16; EDGE_PLACES],
+    own: &[u16; EDGE_PLACES],
     least: &[f64],
     most: &[f64],
     counts: &mut [u32],
@@ -95,15 +101,15 @@ pub(crate) fn make_round(
     requires { ⌜ Tables (now regions) (now incident) (now own) × RoundInput (now regions) (now counts) × (length (now least) ≡ length (now counts)) × (length (now most) ≡ length (now counts)) ⌝ }
     ensures { λ r. ⌜ round-of r (now (counts .exit)) ≡ round-by (find-move (the-graph (now (regions .entry))) (by-ranges (now (least .entry)) (now (most .entry))) (now (counts .entry)) limit) (now (counts .entry)) ⌝ }
 {
-    let mut costs = [0.0; 512];
-    let mut allowed = [false; 512];
-    let mut used = [false; 257];
-    used[256] = true;
-    let mut path = [0; 257];
-    let mut best = [0; 257];
-    let mut kept = [0.0; 512];
-    let mut cut = [false; 512];
-    let mut known = [false; 512];
+    let mut costs = [0.0; CHANGES];
+    let mut allowed = [false; CHANGES];
+    let mut used = [false; MARKS];
+    used[NO_CONSTRAINT] = true;
+    let mut path = [0; PATH_SIZE];
+    let mut best = [0; PATH_SIZE];
+    let mut kept = [0.0; CHANGES];
+    let mut cut = [false; CHANGES];
+    let mut known = [false; CHANGES];
     round_in(
         regions,
         incident,
@@ -123,21 +129,21 @@ pub(crate) fn make_round(
     )
 }
 
-// The move made on the counts. The part of the farm that it touches gets new costs, and its results are forgotten.
+// The move made on the counts. The component of the farm that it touches gets new costs, and its results are forgotten.
 fn make_move(
     counts: &mut [u32],
     least: &[f64],
     most: &[f64],
-    labels: &[u16; 256],
-    best: &[u16; 257],
+    labels: &[u16; MAX_EDGES],
+    best: &[u16; PATH_SIZE],
     len: usize,
-    costs: &mut [f64; 512],
-    allowed: &mut [bool; 512],
-    known: &mut [bool; 512],
+    costs: &mut [f64; CHANGES],
+    allowed: &mut [bool; CHANGES],
+    known: &mut [bool; CHANGES],
 )
-    requires { ⌜ CanApply (now counts) (path-of len (now best)) × (len ≤ 257) × (length (now best) ≡ 257) ⌝ }
-    requires { ⌜ (0 < len) × (length (now counts) ≤ 256) × (length (now least) ≡ length (now counts)) × (length (now most) ≡ length (now counts)) ⌝ }
-    requires { ⌜ (length (now costs) ≡ 512) × (length (now allowed) ≡ 512) × (length (now known) ≡ 512) ⌝ }
+    requires { ⌜ CanApply (now counts) (path-of len (now best)) × (len ≤ path-size) × (length (now best) ≡ path-size) ⌝ }
+    requires { ⌜ (0 < len) × (length (now counts) ≤ max-edges) × (length (now least) ≡ length (now counts)) × (length (now most) ≡ length (now counts)) ⌝ }
+    requires { ⌜ (length (now costs) ≡ changes) × (length (now allowed) ≡ changes) × (length (now known) ≡ changes) ⌝ }
     ensures { λ _. ⌜ now (counts .exit) ≡ changed-counts (path-of len (now (best .entry))) (now (counts .entry)) ⌝ }
     ensures { λ _. ⌜ Refreshed (length (now (counts .entry))) (now (labels .entry)) (getD (now (labels .entry)) (getD (now (best .entry)) 0 0 / 2) 0)
         (now (counts .exit)) (by-ranges (now (least .entry)) (now (most .entry)))
@@ -145,28 +151,37 @@ fn make_move(
 {
     apply_changes(counts, best, len);
     let first = wide(best[0]) / 2;
-    let part = labels[first];
-    refresh_part(labels, part, counts, least, most, costs, allowed, known);
+    let component = labels[first];
+    refresh_component(
+        labels,
+        component,
+        counts,
+        least,
+        most,
+        costs,
+        allowed,
+        known,
+    );
 }
 
 // Round after round until one finds no move. The buffers are lent.
 fn moves_in(
     regions: &[u16],
-    incident: &[u16; 512],
-    own: &[u16; 512],
-    labels: &[u16; 256],
+    incident: &[u16; EDGE_PLACES],
+    own: &[u16; EDGE_PLACES],
+    labels: &[u16; MAX_EDGES],
     least: &[f64],
     most: &[f64],
     counts: &mut [u32],
     limit: u32,
-    costs: &mut [f64; 512],
-    allowed: &mut [bool; 512],
-    used: &mut [bool; 257],
-    path: &mut [u16; 257],
-    best: &mut [u16; 257],
-    kept: &mut [f64; 512],
-    cut: &mut [bool; 512],
-    known: &mut [bool; 512],
+    costs: &mut [f64; CHANGES],
+    allowed: &mut [bool; CHANGES],
+    used: &mut [bool; MARKS],
+    path: &mut [u16; PATH_SIZE],
+    best: &mut [u16; PATH_SIZE],
+    kept: &mut [f64; CHANGES],
+    cut: &mut [bool; CHANGES],
+    known: &mut [bool; CHANGES],
 ) -> MovesMade
     requires { ⌜ Tables (now regions) (now incident) (now own) × RoundInput (now regions) (now counts) × (length (now least) ≡ length (now counts)) × (length (now most) ≡ length (now counts))
         × (now counts ≡ replicate (length (now counts)) 0) × Labels (length (now counts)) (now incident) (now labels) ⌝ }
@@ -195,7 +210,7 @@ fn moves_in(
         if len == 0 {
             return MovesMade { moves, more: false };
         }
-        if moves == MAX_MOVES {
+        if moves == MAX_AUGMENTATIONS {
             return MovesMade { moves, more: true };
         }
         make_move(
@@ -215,8 +230,8 @@ fn moves_in(
 
 pub(crate) fn make_moves(
     regions: &[u16],
-    incident: &[u16; 512],
-    own: &[u16; 512],
+    incident: &[u16; EDGE_PLACES],
+    own: &[u16; EDGE_PLACES],
     least: &[f64],
     most: &[f64],
     counts: &mut [u32],
@@ -226,16 +241,16 @@ pub(crate) fn make_moves(
         × (now counts ≡ replicate (length (now counts)) 0) ⌝ }
     ensures { λ r. ⌜ solved-of r (now (counts .exit)) ≡ solve-from (the-graph (now (regions .entry))) (by-ranges (now (least .entry)) (now (most .entry))) limit max-moves 0 (now (counts .entry)) ⌝ }
 {
-    let mut costs = [0.0; 512];
-    let mut allowed = [false; 512];
-    let mut used = [false; 257];
-    used[256] = true;
-    let mut path = [0; 257];
-    let mut best = [0; 257];
-    let mut kept = [0.0; 512];
-    let mut cut = [false; 512];
-    let mut known = [false; 512];
-    let mut labels = [0; 256];
+    let mut costs = [0.0; CHANGES];
+    let mut allowed = [false; CHANGES];
+    let mut used = [false; MARKS];
+    used[NO_CONSTRAINT] = true;
+    let mut path = [0; PATH_SIZE];
+    let mut best = [0; PATH_SIZE];
+    let mut kept = [0.0; CHANGES];
+    let mut cut = [false; CHANGES];
+    let mut known = [false; CHANGES];
+    let mut labels = [0; MAX_EDGES];
     label_edges(incident, counts.len(), &mut labels);
     moves_in(
         regions,
@@ -270,15 +285,15 @@ fn clear(counts: &mut [u32])
 // The counts solved from zeros, or zeros where there is a move too many.
 pub(crate) fn solve_from_zeros(
     regions: &[u16],
-    incident: &[u16; 512],
-    own: &[u16; 512],
+    incident: &[u16; EDGE_PLACES],
+    own: &[u16; EDGE_PLACES],
     least: &[f64],
     most: &[f64],
     counts: &mut [u32],
     limit: u32,
 ) -> SolveAnswer
     requires { ⌜ Tables (now regions) (now incident) (now own) × (length (now least) ≡ length (now counts)) × (length (now most) ≡ length (now counts))
-        × (length (now counts) ≤ 256) × T (is-passed (regions-test places (length (now counts)) (now regions))) ⌝ }
+        × (length (now counts) ≤ max-edges) × T (is-passed (regions-test places (length (now counts)) (now regions))) ⌝ }
     ensures { λ r. ⌜ solve-of r (now (counts .exit)) ≡ solve-part (length (now (least .entry)))
         (solve-zeros (the-graph (now (regions .entry))) (by-ranges (now (least .entry)) (now (most .entry))) limit (length (now (least .entry)))) ⌝ }
 {

@@ -11,7 +11,7 @@ use lib.Seq.{getD-set-other}
 use lib.Dec.{T, eqb, eqb→eq, ltb, not-T}
 use Rattle.base.specs.Lists.{In, member, Distinct}
 use Rattle.counts.specs.Move.{Change, edges, is-allowed, changed, apply-changes}
-use Rattle.counts.specs.inner.Tables.{decoded, all-decoded, path-of}
+use Rattle.counts.specs.inner.Tables.{decoded, all-decoded, path-of, path-size}
 use Rattle.counts.specs.inner.RoundContract.{CanApply}
 use Rattle.base.proofs.BoolLaws.{clash, or-split, or-left, or-right, eq→eqb}
 use Rattle.base.proofs.ListLaws.{in→member}
@@ -77,7 +77,7 @@ pub record AtChange (c : ℕ) (now-counts : List ℕ) : Type 0 where
   pub small : getD now-counts (c / 2) 0 ≤ 1000000
   pub down : T (eqb (c % 2) 1 || ltb 0 (getD now-counts (c / 2) 0))
 
-module _ (counts best : List ℕ) (len i c : ℕ) (now-counts : List ℕ) (can : CanApply counts (path-of len best) × (len ≤ 257) × (length best ≡ 257)) (more : i < len)
+module _ (counts best : List ℕ) (len i c : ℕ) (now-counts : List ℕ) (can : CanApply counts (path-of len best) × (len ≤ path-size) × (length best ≡ path-size)) (more : i < len)
     (is : (c ≡ getD best i 0) × (c < 65536)) (so-far : now-counts ≡ apply-changes (path-of i best) counts) where
   inside : i < length best
   inside = let l = can .1 in let q = can .2 in omega arith

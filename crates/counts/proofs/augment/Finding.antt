@@ -15,7 +15,7 @@ use Rattle.base.specs.Refusal.{is-passed}
 use Rattle.counts.specs.Region.{Constraint, constraint, holds, graph, places}
 use Rattle.counts.specs.Move.{Change, EdgeCost, edges, is-allowed}
 use Rattle.counts.specs.Cost.{CostModel}
-use Rattle.counts.specs.inner.Tables.{Entries, the-graph, cost-in, allowed-in}
+use Rattle.counts.specs.inner.Tables.{Entries, the-graph, cost-in, allowed-in, changes}
 use Rattle.counts.specs.Search.{State, run}
 use Rattle.counts.specs.Round.{Found, weigh, starts, nothing-found, try-start, find-augmentation, find-move}
 use Rattle.counts.specs.inner.RoundContract.{Priced, CanApply, RoundInput, Remembered}
@@ -36,7 +36,7 @@ entry-allowed counts model costs allowed y true r = r .plus-allowed
 entry-allowed counts model costs allowed y false r = ap (λ (k : ℕ). getD allowed k false) (add-zero (y * 2)) ∙ r .minus-allowed
 
 pub priced : (counts : List ℕ) (model : CostModel) (costs : List Float) (allowed : List Bool) → ((y : ℕ) → y < length counts → Entries counts model costs allowed y)
-    → (length costs ≡ 512) × (length allowed ≡ 512) → Priced model counts costs allowed
+    → (length costs ≡ changes) × (length allowed ≡ changes) → Priced model counts costs allowed
 priced counts model costs allowed e l =
     record {
       costs-long = l .0;
@@ -101,14 +101,14 @@ not-known zero c e = let z : T false = subst T (sym e) tt in z
 not-known (suc n) zero e = let z : T false = subst T (sym e) tt in z
 not-known (suc n) (suc c) e = not-known n c e
 
-pub nothing-known : (regions : List ℕ) (costs : List Float) (allowed : List Bool) (limit : ℕ) (kept : List Float) (cut known : List Bool) → length kept ≡ 512 → length cut ≡ 512 → known ≡ replicate 512 false
+pub nothing-known : (regions : List ℕ) (costs : List Float) (allowed : List Bool) (limit : ℕ) (kept : List Float) (cut known : List Bool) → length kept ≡ changes → length cut ≡ changes → known ≡ replicate changes false
     → Remembered regions costs allowed limit kept cut known
 nothing-known regions costs allowed limit kept cut known k t e =
     record {
       kept-long = k;
       cut-long = t;
-      known-long = ap length e ∙ length-replicate 512 false;
-      right = λ c h q. absurd (not-known 512 c (sym (ap (λ (l : List Bool). getD l c false) e) ∙ q));
+      known-long = ap length e ∙ length-replicate changes false;
+      right = λ c h q. absurd (not-known changes c (sym (ap (λ (l : List Bool). getD l c false) e) ∙ q));
     }
 
 pub tested-ok : (regions counts : List ℕ) → RoundInput regions counts → Accepted (length counts) (the-graph regions)

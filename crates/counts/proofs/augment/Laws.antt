@@ -16,11 +16,12 @@ use Rattle.base.specs.Lists.{each}
 use Rattle.counts.specs.Move.{Change}
 use Rattle.counts.specs.Search.{State, run, eps}
 use Rattle.counts.specs.Round.{Found, nothing-found, improves, weigh, starts, try-start, find-augmentation}
-use Rattle.counts.specs.inner.Tables.{the-graph, cost-in, allowed-in, encoded, state-of}
+use Rattle.counts.specs.inner.Tables.{the-graph, cost-in, allowed-in, encoded, state-of, changes}
 use Rattle.counts.specs.inner.RoundContract.{Buffers, search-of, nothing-searched, Result, Remembered, Recalled, AllKnown, start-at, no-start, nothing-chosen, weighed, chosen, found-of}
 use Rattle.counts.specs.declared.augment.Choice.{Choice}
 use Rattle.counts.specs.declared.augment.FoundMove.{FoundMove}
 use Rattle.counts.specs.declared.search.SearchState.{SearchState}
+use Rattle.counts.specs.Accept.{max-edges}
 use Rattle.base.proofs.BoolLaws.{by-cases, clash, eq→eqb, ne→eqb, same→eqb}
 use Rattle.counts.proofs.search.Places.{encoded-decoded}
 use Rattle.counts.proofs.search.Laws.{each-append}
@@ -123,7 +124,7 @@ module _ (regions : List ℕ) (costs : List Float) (allowed : List Bool) (limit 
         let m : n * 2 % 2 ≡ 0 = omega arith in
         ap (λ (k : ℕ). state (k, eqb (n * 2 % 2) 1)) q ∙ ap (λ (k : ℕ). state (n, eqb k 1)) m
 
-    edge-found : (n : ℕ) (p : Choice) → suc n ≤ 256 → Result regions costs allowed limit (n * 2 + 1) kept cut → Result regions costs allowed limit (n * 2) kept cut
+    edge-found : (n : ℕ) (p : Choice) → suc n ≤ max-edges → Result regions costs allowed limit (n * 2 + 1) kept cut → Result regions costs allowed limit (n * 2) kept cut
         → found-by (next (next p (start-at (n * 2))) (start-at (suc (n * 2)))) ≡ weigh (state (n, false)) (weigh (state (n, true)) (found-by p))
     edge-found n p h r s =
         ap (λ (c : ℕ). found-by (next (next p c) (start-at (suc (n * 2))))) (plus-at n .0)
@@ -144,7 +145,7 @@ module _ (regions : List ℕ) (costs : List Float) (allowed : List Bool) (limit 
         ∙ ap (λ (b : Found). try (n, false) b) (start-is (n, true) (tries n))
         ∙ start-is (n, false) (weigh (state (n, true)) (tries n))
 
-    chosen-tries : (n : ℕ) → n ≤ 256 → ((c : ℕ) → c < n * 2 → Result regions costs allowed limit c kept cut) → found-by (chosen kept cut (n * 2)) ≡ tries n
+    chosen-tries : (n : ℕ) → n ≤ max-edges → ((c : ℕ) → c < n * 2 → Result regions costs allowed limit c kept cut) → found-by (chosen kept cut (n * 2)) ≡ tries n
     unfolding chosen found-by
     chosen-tries zero h r = refl
     chosen-tries (suc n) h r =
@@ -153,7 +154,7 @@ module _ (regions : List ℕ) (costs : List Float) (allowed : List Bool) (limit 
         ∙ ap (λ (b : Found). weigh (state (n, false)) (weigh (state (n, true)) b)) (chosen-tries n (omega arith) (λ c l. r c (omega arith)))
         ∙ sym (tries-more n)
 
-    pub chosen-found : (n : ℕ) → n ≤ 256 → ((c : ℕ) → c < n * 2 → Result regions costs allowed limit c kept cut)
+    pub chosen-found : (n : ℕ) → n ≤ max-edges → ((c : ℕ) → c < n * 2 → Result regions costs allowed limit c kept cut)
         → found-by (chosen kept cut (n * 2)) ≡ find-augmentation (the-graph regions) (cost-in costs) (allowed-in allowed) limit n
     unfolding find-augmentation
     chosen-found n h r = chosen-tries n h r
@@ -191,7 +192,7 @@ winner-fits out out' kept cut c h l e =
 -- ---- results remembered
 
 module _ (regions : List ℕ) (costs : List Float) (allowed : List Bool) (limit c : ℕ) (kept : List Float) (cut known : List Bool)
-    (h : c < 512) (m : Remembered regions costs allowed limit kept cut known) (r : SearchState) (best : List ℕ)
+    (h : c < changes) (m : Remembered regions costs allowed limit kept cut known) (r : SearchState) (best : List ℕ)
     (a : state-of r best ≡ search-of regions costs allowed limit c) where
   set-known : (d : ℕ) → getD (set known c true) d false ≡ true → (d ≢ c → getD known d false ≡ true)
   set-known d e n = sym (getD-set-other known c d true false n) ∙ e
@@ -246,13 +247,13 @@ pub known-at : (regions : List ℕ) (costs : List Float) (allowed : List Bool) (
     → AllKnown regions costs allowed limit m used path best kept cut known → AllKnown regions costs allowed limit m' used path best kept cut known
 known-at regions costs allowed limit m m' used path best kept cut known e a = subst (λ (x : ℕ). AllKnown regions costs allowed limit x used path best kept cut known) e a
 
-pub results : (regions : List ℕ) (costs : List Float) (allowed : List Bool) (limit m : ℕ) (used : List Bool) (path best : List ℕ) (kept : List Float) (cut known : List Bool) → m ≤ 512
+pub results : (regions : List ℕ) (costs : List Float) (allowed : List Bool) (limit m : ℕ) (used : List Bool) (path best : List ℕ) (kept : List Float) (cut known : List Bool) → m ≤ changes
     → AllKnown regions costs allowed limit m used path best kept cut known → (c : ℕ) → c < m → Result regions costs allowed limit c kept cut
 results regions costs allowed limit m used path best kept cut known h a c l = a .remembered .right c (omega arith) (a .all-known c l)
 
 -- ---- the winner's move
 
-pub found-nothing : (regions : List ℕ) (costs : List Float) (allowed : List Bool) (limit n : ℕ) (kept : List Float) (cut : List Bool) (p : Choice) → n ≤ 256
+pub found-nothing : (regions : List ℕ) (costs : List Float) (allowed : List Bool) (limit n : ℕ) (kept : List Float) (cut : List Bool) (p : Choice) → n ≤ max-edges
     → ((c : ℕ) → c < n * 2 → Result regions costs allowed limit c kept cut) → p ≡ chosen kept cut (n * 2) → p .winner ≡ no-start
     → record { cut = p .cut; kept = p .kept; best = [] } ≡ find-augmentation (the-graph regions) (cost-in costs) (allowed-in allowed) limit n
 unfolding found-by
@@ -260,7 +261,7 @@ found-nothing regions costs allowed limit n kept cut p h r e w =
     ap (λ (b : Bool). record { cut = p .cut; kept = p .kept; best = cond b [] (search-of regions costs allowed limit (p .winner) .best) }) (sym (ap (λ (x : ℕ). eqb x no-start) w ∙ same→eqb no-start))
     ∙ ap (found-by regions costs allowed limit) e ∙ chosen-found regions costs allowed limit kept cut n h r
 
-pub found-winner : (regions : List ℕ) (costs : List Float) (allowed : List Bool) (limit n : ℕ) (kept : List Float) (cut : List Bool) (p : Choice) (best : List ℕ) (r : SearchState) → n ≤ 256
+pub found-winner : (regions : List ℕ) (costs : List Float) (allowed : List Bool) (limit n : ℕ) (kept : List Float) (cut : List Bool) (p : Choice) (best : List ℕ) (r : SearchState) → n ≤ max-edges
     → ((c : ℕ) → c < n * 2 → Result regions costs allowed limit c kept cut) → p ≡ chosen kept cut (n * 2) → p .winner ≢ no-start
     → state-of r best ≡ search-of regions costs allowed limit (p .winner)
     → found-of (record { kept = p .kept; len = r .len; cut = p .cut }) best ≡ find-augmentation (the-graph regions) (cost-in costs) (allowed-in allowed) limit n

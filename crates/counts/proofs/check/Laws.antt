@@ -15,10 +15,10 @@ use lib.IntN.{ℤ}
 use lib.Ieee.{Float, nan, inf, fin, binary64, ofBits, lt, up, down}
 use lib.Ieee.Fits.{and-i, and-l, and-r, up-pos}
 use Rattle.base.specs.Lists.{member}
-use Rattle.counts.specs.Region.{places}
+use Rattle.counts.specs.Region.{places, side-size, record-size}
 use Rattle.base.specs.declared.verdict.Verdict.{Verdict}
 use Rattle.base.specs.Refusal.{passed, refused, verdict-of, outcome, is-passed, then-test, refuse-if}
-use Rattle.counts.specs.Accept.{sides-fit, records-whole, limits-test, first-bad, ideal-ok, ranges, shared-edge, side-test, pair-test, region-test, pairs-test}
+use Rattle.counts.specs.Accept.{sides-fit, records-whole, limits-test, first-bad, ideal-ok, ranges, shared-edge, side-test, pair-test, region-test, pairs-test, max-regions, max-edges}
 use Rattle.base.proofs.TestLaws.{then-test-assoc}
 use Rattle.base.proofs.Turns.{drop-at}
 
@@ -88,40 +88,40 @@ side-end n r k s es i h = ap (side-test n r k s) (drop-of-length-le es h)
 -- ---- the sides' numbers of edges, one side after the other
 abbrev pub each-fits : ℕ → List ℕ → Bool
 each-fits zero l = true
-each-fits (suc m) l = leb (getD l 0 0) places && each-fits m (drop 17 l)
+each-fits (suc m) l = leb (getD l 0 0) places && each-fits m (drop (side-size places) l)
 
 pub sides-one-by-one : (m : ℕ) (l : List ℕ) → sides-fit places m l ≡ each-fits (m * 4) l
 unfolding sides-fit
 sides-one-by-one zero l = refl
 sides-one-by-one (suc m) l =
     let e : suc m * 4 ≡ suc (suc (suc (suc (m * 4)))) = omega arith in
-    let d2 : drop 17 (drop 17 l) ≡ drop 34 l = drop-drop 17 17 l in
-    let d3 : drop 17 (drop 34 l) ≡ drop 51 l = drop-drop 17 34 l in
-    let d4 : drop 17 (drop 51 l) ≡ drop 68 l = drop-drop 17 51 l in
-    let g1 : getD (drop 17 l) 0 0 ≡ getD l 17 0 = getD-drop 17 l 0 0 in
-    let g2 : getD (drop 34 l) 0 0 ≡ getD l 34 0 = getD-drop 34 l 0 0 in
-    let g3 : getD (drop 51 l) 0 0 ≡ getD l 51 0 = getD-drop 51 l 0 0 in
-    simp (e, d2, d3, d4, g1, g2, g3, sides-one-by-one m (drop 68 l))
+    let d2 : drop (side-size places) (drop (side-size places) l) ≡ drop (2 * side-size places) l = drop-drop (side-size places) (side-size places) l in
+    let d3 : drop (side-size places) (drop (2 * side-size places) l) ≡ drop (3 * side-size places) l = drop-drop (side-size places) (2 * side-size places) l in
+    let d4 : drop (side-size places) (drop (3 * side-size places) l) ≡ drop (record-size places) l = drop-drop (side-size places) (3 * side-size places) l in
+    let g1 : getD (drop (side-size places) l) 0 0 ≡ getD l (side-size places) 0 = getD-drop (side-size places) l 0 0 in
+    let g2 : getD (drop (2 * side-size places) l) 0 0 ≡ getD l (2 * side-size places) 0 = getD-drop (2 * side-size places) l 0 0 in
+    let g3 : getD (drop (3 * side-size places) l) 0 0 ≡ getD l (3 * side-size places) 0 = getD-drop (3 * side-size places) l 0 0 in
+    simp (e, d2, d3, d4, g1, g2, g3, sides-one-by-one m (drop (record-size places) l))
 
-module _ (l : List ℕ) (at : ℕ) (h : at < length l) (whole : (length l - at) % 17 ≡ 0) where
-  fits-turn : (b : Bool) → leb (getD l at 0) places ≡ b → each-fits ((length l - at) / 17) (drop at l) ≡ b && each-fits ((length l - (at + 17)) / 17) (drop (at + 17) l)
+module _ (l : List ℕ) (at : ℕ) (h : at < length l) (whole : (length l - at) % side-size places ≡ 0) where
+  fits-turn : (b : Bool) → leb (getD l at 0) places ≡ b → each-fits ((length l - at) / side-size places) (drop at l) ≡ b && each-fits ((length l - (at + side-size places)) / side-size places) (drop (at + side-size places) l)
   fits-turn b t =
-      let e : (length l - at) / 17 ≡ suc ((length l - (at + 17)) / 17) = omega arith in
+      let e : (length l - at) / side-size places ≡ suc ((length l - (at + side-size places)) / side-size places) = omega arith in
       let g : getD (drop at l) 0 0 ≡ getD l at 0 = getD-drop at l 0 0 ∙ ap (λ (k : ℕ). getD l k 0) (add-zero at) in
       ap (λ (k : ℕ). each-fits k (drop at l)) e
-      ∙ ap (λ (x : ℕ). leb x places && each-fits ((length l - (at + 17)) / 17) (drop 17 (drop at l))) g
-      ∙ ap (λ (x : List ℕ). leb (getD l at 0) places && each-fits ((length l - (at + 17)) / 17) x) (drop-drop 17 at l)
-      ∙ ap (λ (x : Bool). x && each-fits ((length l - (at + 17)) / 17) (drop (at + 17) l)) t
+      ∙ ap (λ (x : ℕ). leb x places && each-fits ((length l - (at + side-size places)) / side-size places) (drop (side-size places) (drop at l))) g
+      ∙ ap (λ (x : List ℕ). leb (getD l at 0) places && each-fits ((length l - (at + side-size places)) / side-size places) x) (drop-drop (side-size places) at l)
+      ∙ ap (λ (x : Bool). x && each-fits ((length l - (at + side-size places)) / side-size places) (drop (at + side-size places) l)) t
 
-  pub fits-next : leb (getD l at 0) places ≡ true → each-fits ((length l - at) / 17) (drop at l) ≡ each-fits ((length l - (at + 17)) / 17) (drop (at + 17) l)
+  pub fits-next : leb (getD l at 0) places ≡ true → each-fits ((length l - at) / side-size places) (drop at l) ≡ each-fits ((length l - (at + side-size places)) / side-size places) (drop (at + side-size places) l)
   fits-next t = fits-turn true t
 
-  pub fits-not : leb (getD l at 0) places ≡ false → each-fits ((length l - at) / 17) (drop at l) ≡ false
+  pub fits-not : leb (getD l at 0) places ≡ false → each-fits ((length l - at) / side-size places) (drop at l) ≡ false
   fits-not t = fits-turn false t
 
-pub fits-end : (l : List ℕ) (at : ℕ) → length l ≤ at → each-fits ((length l - at) / 17) (drop at l) ≡ true
+pub fits-end : (l : List ℕ) (at : ℕ) → length l ≤ at → each-fits ((length l - at) / side-size places) (drop at l) ≡ true
 fits-end l at h =
-    let e : (length l - at) / 17 ≡ 0 = omega arith in
+    let e : (length l - at) / side-size places ≡ 0 = omega arith in
     ap (λ (k : ℕ). each-fits k (drop at l)) e
 
 -- ---- region by region
@@ -129,38 +129,38 @@ pub sides-first : (m : ℕ) (l : List ℕ) → T (sides-fit places (suc m) l) �
 unfolding sides-fit
 sides-first m l t =
     let t1 = and-r (leb (getD l 0 0) places) _ t in
-    let t2 = and-r (leb (getD l 17 0) places) _ t1 in
-    let t3 = and-r (leb (getD l 34 0) places) _ t2 in
+    let t2 = and-r (leb (getD l (side-size places) 0) places) _ t1 in
+    let t3 = and-r (leb (getD l (2 * side-size places) 0) places) _ t2 in
     and-i (leb (getD l 0 0) places) _ (and-l (leb (getD l 0 0) places) _ t)
-    (and-i (leb (getD l 17 0) places) _ (and-l (leb (getD l 17 0) places) _ t1)
-    (and-i (leb (getD l 34 0) places) _ (and-l (leb (getD l 34 0) places) _ t2)
-    (and-i (leb (getD l 51 0) places) true (and-l (leb (getD l 51 0) places) _ t3) tt)))
+    (and-i (leb (getD l (side-size places) 0) places) _ (and-l (leb (getD l (side-size places) 0) places) _ t1)
+    (and-i (leb (getD l (2 * side-size places) 0) places) _ (and-l (leb (getD l (2 * side-size places) 0) places) _ t2)
+    (and-i (leb (getD l (3 * side-size places) 0) places) true (and-l (leb (getD l (3 * side-size places) 0) places) _ t3) tt)))
 
-pub sides-rest : (m : ℕ) (l : List ℕ) → T (sides-fit places (suc m) l) → T (sides-fit places m (drop 68 l))
+pub sides-rest : (m : ℕ) (l : List ℕ) → T (sides-fit places (suc m) l) → T (sides-fit places m (drop (record-size places) l))
 unfolding sides-fit
 sides-rest m l t =
     let t1 = and-r (leb (getD l 0 0) places) _ t in
-    let t2 = and-r (leb (getD l 17 0) places) _ t1 in
-    let t3 = and-r (leb (getD l 34 0) places) _ t2 in
-    and-r (leb (getD l 51 0) places) _ t3
+    let t2 = and-r (leb (getD l (side-size places) 0) places) _ t1 in
+    let t3 = and-r (leb (getD l (2 * side-size places) 0) places) _ t2 in
+    and-r (leb (getD l (3 * side-size places) 0) places) _ t3
 
 -- ---- whole records
 module _ (l : List ℕ) (t : T (records-whole places l)) where
-  pub whole-few : length l / 68 ≤ 128
+  pub whole-few : length l / record-size places ≤ max-regions
   unfolding records-whole
-  whole-few = leb→le (length l / 68) 128 (and-l (leb (length l / 68) 128) _ (and-r (eqb (length l % 68) 0) _ t))
+  whole-few = leb→le (length l / record-size places) max-regions (and-l (leb (length l / record-size places) max-regions) _ (and-r (eqb (length l % record-size places) 0) _ t))
 
-  pub whole-sides : T (sides-fit places (length l / 68) l)
+  pub whole-sides : T (sides-fit places (length l / record-size places) l)
   unfolding records-whole
-  whole-sides = and-r (leb (length l / 68) 128) _ (and-r (eqb (length l % 68) 0) _ t)
+  whole-sides = and-r (leb (length l / record-size places) max-regions) _ (and-r (eqb (length l % record-size places) 0) _ t)
 
 -- what test 1 lets by
-pub limits-passed : (n : ℕ) (l : List ℕ) → is-passed (limits-test places n l) ≡ true → (n ≤ 256) × T (records-whole places l)
+pub limits-passed : (n : ℕ) (l : List ℕ) → is-passed (limits-test places n l) ≡ true → (n ≤ max-edges) × T (records-whole places l)
 unfolding limits-test
-limits-passed n l e = go (leb n 256) (records-whole places l) (λ t. t) e
+limits-passed n l e = go (leb n max-edges) (records-whole places l) (λ t. t) e
   where
-    go : (a b : Bool) → (T a → T (leb n 256)) → is-passed (refuse-if (not (a && b)) (refused 1 0 0)) ≡ true → (n ≤ 256) × T b
-    go true true h q = (leb→le n 256 (h tt), tt)
+    go : (a b : Bool) → (T a → T (leb n max-edges)) → is-passed (refuse-if (not (a && b)) (refused 1 0 0)) ≡ true → (n ≤ max-edges) × T b
+    go true true h q = (leb→le n max-edges (h tt), tt)
     go true false h q = absurd (true≢false (sym q))
     go false b h q = absurd (true≢false (sym q))
 
@@ -169,39 +169,39 @@ pub rest : {A : Type 0} (at : ℕ) (l : List A) → take (length l - at) (drop a
 rest at l = take-all (length l - at) (drop at l) (let e = length-drop at l in omega arith)
 
 -- what the records from region r on say of the side k of region r
-pub side-few : (l : List ℕ) → T (sides-fit places 1 l) → (getD l 0 0 ≤ 16) × (getD l 17 0 ≤ 16) × (getD l 34 0 ≤ 16) × (getD l 51 0 ≤ 16)
+pub side-few : (l : List ℕ) → T (sides-fit places 1 l) → (getD l 0 0 ≤ places) × (getD l (side-size places) 0 ≤ places) × (getD l (2 * side-size places) 0 ≤ places) × (getD l (3 * side-size places) 0 ≤ places)
 unfolding sides-fit
 side-few l t =
     let t1 = and-r (leb (getD l 0 0) places) _ t in
-    let t2 = and-r (leb (getD l 17 0) places) _ t1 in
-    let t3 = and-r (leb (getD l 34 0) places) _ t2 in (
-      leb→le (getD l 0 0) 16 (and-l (leb (getD l 0 0) places) _ t),
-      leb→le (getD l 17 0) 16 (and-l (leb (getD l 17 0) places) _ t1),
-      leb→le (getD l 34 0) 16 (and-l (leb (getD l 34 0) places) _ t2),
-      leb→le (getD l 51 0) 16 (and-l (leb (getD l 51 0) places) true t3),
+    let t2 = and-r (leb (getD l (side-size places) 0) places) _ t1 in
+    let t3 = and-r (leb (getD l (2 * side-size places) 0) places) _ t2 in (
+      leb→le (getD l 0 0) places (and-l (leb (getD l 0 0) places) _ t),
+      leb→le (getD l (side-size places) 0) places (and-l (leb (getD l (side-size places) 0) places) _ t1),
+      leb→le (getD l (2 * side-size places) 0) places (and-l (leb (getD l (2 * side-size places) 0) places) _ t2),
+      leb→le (getD l (3 * side-size places) 0) places (and-l (leb (getD l (3 * side-size places) 0) places) true t3),
     )
 
 module _ (m r : ℕ) (l : List ℕ) (h : r < m) where
   pub count-down : m - r ≡ suc (m - (r + 1))
   count-down = omega arith
 
-  pub next-record : drop 68 (drop (r * 68) l) ≡ drop ((r + 1) * 68) l
-  next-record = let e : r * 68 + 68 ≡ (r + 1) * 68 = omega arith in drop-drop 68 (r * 68) l ∙ ap (λ (k : ℕ). drop k l) e
+  pub next-record : drop (record-size places) (drop (r * record-size places) l) ≡ drop ((r + 1) * record-size places) l
+  next-record = let e : r * record-size places + record-size places ≡ (r + 1) * record-size places = omega arith in drop-drop (record-size places) (r * record-size places) l ∙ ap (λ (k : ℕ). drop k l) e
 
-  pub sides-now : T (sides-fit places (m - r) (drop (r * 68) l)) → T (sides-fit places 1 (drop (r * 68) l))
-  sides-now t = sides-first (m - (r + 1)) (drop (r * 68) l) (subst (λ (k : ℕ). T (sides-fit places k (drop (r * 68) l))) count-down t)
+  pub sides-now : T (sides-fit places (m - r) (drop (r * record-size places) l)) → T (sides-fit places 1 (drop (r * record-size places) l))
+  sides-now t = sides-first (m - (r + 1)) (drop (r * record-size places) l) (subst (λ (k : ℕ). T (sides-fit places k (drop (r * record-size places) l))) count-down t)
 
-  pub sides-after : T (sides-fit places (m - r) (drop (r * 68) l)) → T (sides-fit places (m - (r + 1)) (drop ((r + 1) * 68) l))
+  pub sides-after : T (sides-fit places (m - r) (drop (r * record-size places) l)) → T (sides-fit places (m - (r + 1)) (drop ((r + 1) * record-size places) l))
   sides-after t =
       subst (λ (x : List ℕ). T (sides-fit places (m - (r + 1)) x)) next-record
-      (sides-rest (m - (r + 1)) (drop (r * 68) l) (subst (λ (k : ℕ). T (sides-fit places k (drop (r * 68) l))) count-down t))
+      (sides-rest (m - (r + 1)) (drop (r * record-size places) l) (subst (λ (k : ℕ). T (sides-fit places k (drop (r * record-size places) l))) count-down t))
 
-  pub pairs-turn : (n : ℕ) → pairs-test places n r (m - r) (drop (r * 68) l) ≡ then-test (region-test places n r (drop (r * 68) l)) (pairs-test places n (r + 1) (m - (r + 1)) (drop ((r + 1) * 68) l))
+  pub pairs-turn : (n : ℕ) → pairs-test places n r (m - r) (drop (r * record-size places) l) ≡ then-test (region-test places n r (drop (r * record-size places) l)) (pairs-test places n (r + 1) (m - (r + 1)) (drop ((r + 1) * record-size places) l))
   unfolding pairs-test
   pairs-turn n =
-      ap (λ (k : ℕ). pairs-test places n r k (drop (r * 68) l)) count-down
-      ∙ ap (λ (x : List ℕ). then-test (region-test places n r (drop (r * 68) l)) (pairs-test places n (suc r) (m - (r + 1)) x)) next-record
-      ∙ ap (λ (k : ℕ). then-test (region-test places n r (drop (r * 68) l)) (pairs-test places n k (m - (r + 1)) (drop ((r + 1) * 68) l))) (sym (add-one r))
+      ap (λ (k : ℕ). pairs-test places n r k (drop (r * record-size places) l)) count-down
+      ∙ ap (λ (x : List ℕ). then-test (region-test places n r (drop (r * record-size places) l)) (pairs-test places n (suc r) (m - (r + 1)) x)) next-record
+      ∙ ap (λ (k : ℕ). then-test (region-test places n r (drop (r * record-size places) l)) (pairs-test places n k (m - (r + 1)) (drop ((r + 1) * record-size places) l))) (sym (add-one r))
 
 pub pairs-end : (n m r : ℕ) (l : List ℕ) → m ≤ r → pairs-test places n r (m - r) l ≡ passed
 unfolding pairs-test

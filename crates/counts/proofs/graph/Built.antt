@@ -15,9 +15,9 @@ use lib.Ieee.Fits.{and-l, and-r}
 use Rattle.base.specs.Lists.{In, member, Distinct}
 use Rattle.base.specs.declared.verdict.Verdict.{Verdict}
 use Rattle.base.specs.Refusal.{passed, refused, outcome, verdict-of, then-test, refuse-if, is-passed}
-use Rattle.counts.specs.Region.{Constraint, places, region-count, constraint, holds, incidence}
-use Rattle.counts.specs.Accept.{records-whole, sides-fit, limits-test, pairs-test, overused-test}
-use Rattle.counts.specs.inner.Tables.{the-graph, no-constraint, edges-of, across, StandsOn, Tables}
+use Rattle.counts.specs.Region.{Constraint, places, region-count, constraint, holds, incidence, side-size, record-size}
+use Rattle.counts.specs.Accept.{records-whole, sides-fit, limits-test, pairs-test, overused-test, max-regions, max-edges}
+use Rattle.counts.specs.inner.Tables.{the-graph, no-constraint, edges-of, across, StandsOn, Tables, edge-places}
 use Rattle.counts.specs.inner.Graph.{first-side, second-side, side-of, PairTested, Tested, Placed, Filled}
 use Rattle.base.specs.declared.refusal.Check.the-variants.{Passed, Refused}
 use Rattle.base.specs.declared.refusal.Refusal.the-variants.{EdgeOverused}
@@ -32,21 +32,21 @@ use Rattle.counts.proofs.region.Laws.{sides-are, sides-few, length-cons
 -- ---- what the tests give
 
 pub record Limits (n : ℕ) (regions : List ℕ) : Type 0 where
-  pub edges-few : n ≤ 256
-  pub regions-few : region-count places regions ≤ 128
+  pub edges-few : n ≤ max-edges
+  pub regions-few : region-count places regions ≤ max-regions
   pub fit : T (sides-fit places (region-count places regions) regions)
 
 pub limits : (n : ℕ) (regions : List ℕ) → T (is-passed (limits-test places n regions)) → Limits n regions
 unfolding limits-test records-whole
 limits n regions t =
     let m = region-count places regions in
-    let whole = eqb (length regions % 68) 0 && (leb m 128 && sides-fit places m regions) in
-    let t1 = not-not (leb n 256 && whole) (not-refused (not (leb n 256 && whole)) 0 0 0 t) in
-    let t2 = and-r (eqb (length regions % 68) 0) (leb m 128 && sides-fit places m regions) (and-r (leb n 256) whole t1) in
+    let whole = eqb (length regions % record-size places) 0 && (leb m max-regions && sides-fit places m regions) in
+    let t1 = not-not (leb n max-edges && whole) (not-refused (not (leb n max-edges && whole)) 0 0 0 t) in
+    let t2 = and-r (eqb (length regions % record-size places) 0) (leb m max-regions && sides-fit places m regions) (and-r (leb n max-edges) whole t1) in
     record {
-      edges-few = leb→le n 256 (and-l (leb n 256) whole t1);
-      regions-few = leb→le m 128 (and-l (leb m 128) (sides-fit places m regions) t2);
-      fit = and-r (leb m 128) (sides-fit places m regions) t2;
+      edges-few = leb→le n max-edges (and-l (leb n max-edges) whole t1);
+      regions-few = leb→le m max-regions (and-l (leb m max-regions) (sides-fit places m regions) t2);
+      fit = and-r (leb m max-regions) (sides-fit places m regions) t2;
     }
   where
     not-not : (b : Bool) → T (not (not b)) → T b
@@ -63,7 +63,7 @@ tested n regions t1 t3 = record { few = lim .regions-few; pair-tested = pair }
     ok : (i : ℕ) → ConstraintOk n (constraint (the-graph regions) i)
     ok = pairs-ok places n 0 (region-count places regions) regions t3
 
-    inside : (i y : ℕ) → T (holds (constraint (the-graph regions) i) y) → y < 256
+    inside : (i y : ℕ) → T (holds (constraint (the-graph regions) i) y) → y < max-edges
     inside i y h = let l = ltb→lt y n (ok i .inside y h) in let k = lim .edges-few in omega (arith, l, k)
 
     pair : (i : ℕ) → i < region-count places regions * 2 → PairTested regions i
@@ -163,9 +163,9 @@ module _ (regions : List ℕ) (i y : ℕ) (ok : PairTested regions i) (h : i < r
         own-is = cond-yes (member y (c .a)) (c .a) (c .b) t ∙ are .0;
         opposite-is = cond-yes (member y (c .a)) (c .b) (c .a) t ∙ are .1 ∙ ap (edges-of regions) (sym over);
         own-fits = ok .first .fits;
-        opposite-fits = subst (λ (s : ℕ). s * 17 + 17 ≤ length regions) (sym over) (ok .second .fits);
+        opposite-fits = subst (λ (s : ℕ). s * side-size places + side-size places ≤ length regions) (sym over) (ok .second .fits);
         own-few = ok .first .few;
-        opposite-few = subst (λ (s : ℕ). getD regions (s * 17) 0 ≤ 16) (sym over) (ok .second .few);
+        opposite-few = subst (λ (s : ℕ). getD regions (s * side-size places) 0 ≤ places) (sym over) (ok .second .few);
         first = T-true (member y (c .a)) t ∙ sym (T-true (ltb (first-side i % 4) 2) first);
       }
 
@@ -181,9 +181,9 @@ module _ (regions : List ℕ) (i y : ℕ) (ok : PairTested regions i) (h : i < r
         own-is = cond-no (member y (c .a)) (c .a) (c .b) n ∙ are .1;
         opposite-is = cond-no (member y (c .a)) (c .b) (c .a) n ∙ are .0 ∙ ap (edges-of regions) (sym over);
         own-fits = ok .second .fits;
-        opposite-fits = subst (λ (s : ℕ). s * 17 + 17 ≤ length regions) (sym over) (ok .first .fits);
+        opposite-fits = subst (λ (s : ℕ). s * side-size places + side-size places ≤ length regions) (sym over) (ok .first .fits);
         own-few = ok .second .few;
-        opposite-few = subst (λ (s : ℕ). getD regions (s * 17) 0 ≤ 16) (sym over) (ok .first .few);
+        opposite-few = subst (λ (s : ℕ). getD regions (s * side-size places) 0 ≤ places) (sym over) (ok .first .few);
         first = not-T-false (member y (c .a)) n ∙ sym (not-T-false (ltb (second-side i % 4) 2) second);
       }
 
@@ -230,7 +230,7 @@ tables n regions incident own uses t1 t3 t6 f =
           | inr t ↦ short (incidence (the-graph regions) y) (λ i j. clash (ltb y n) (ok i .inside y (incidence→holds (the-graph regions) i y j)) t)
         ]
 
-    stands-at : (y k : ℕ) → y < 256 → k < 2 → getD incident (y * 2 + k) 0 < no-constraint
+    stands-at : (y k : ℕ) → y < max-edges → k < 2 → getD incident (y * 2 + k) 0 < no-constraint
         → StandsOn regions (getD incident (y * 2 + k) 0) y (getD own (y * 2 + k) 0)
     stands-at y k ly lk h =
         let i = getD incident (y * 2 + k) 0 in
@@ -240,7 +240,7 @@ tables n regions incident own uses t1 t3 t6 f =
         let r = in-range i y held in
         subst (StandsOn regions i y) (sym (f .own-is y k ly lk h)) (stands-on regions i y (tested n regions t1 t3 .pair-tested i r) r)
 
-    stands : (p : ℕ) → p < 512 → getD incident p 0 < no-constraint → StandsOn regions (getD incident p 0) (p / 2) (getD own p 0)
+    stands : (p : ℕ) → p < edge-places → getD incident p 0 < no-constraint → StandsOn regions (getD incident p 0) (p / 2) (getD own p 0)
     stands p l h =
         let e : p / 2 * 2 + p % 2 ≡ p = omega arith in
         subst (λ (q : ℕ). StandsOn regions (getD incident q 0) (p / 2) (getD own q 0)) e

@@ -14,8 +14,9 @@ use lib.Dec.{T, eqb, eqb→eq}
 use lib.Ieee.Fits.{and-i, and-l, and-r}
 use Rattle.base.specs.Lists.{member}
 use Rattle.counts.specs.Region.{Constraint, constraint, holds, incidence}
-use Rattle.counts.specs.inner.Tables.{no-constraint}
+use Rattle.counts.specs.inner.Tables.{no-constraint, edge-places}
 use Rattle.counts.specs.inner.Graph.{first-side, second-side, side-of, Sized, Placed, Filled}
+use Rattle.counts.specs.Accept.{max-edges}
 use Rattle.base.proofs.BoolLaws.{T-or-not, clash, eq→eqb, cond-yes, cond-no}
 use Rattle.base.proofs.ListLaws.{member-append, one-in, in-one, length-grown, getD-grown}
 use Rattle.counts.proofs.region.Constraints.{incidence-take, length-incidence}
@@ -23,7 +24,7 @@ use Rattle.counts.proofs.region.Constraints.{incidence-take, length-inc
 -- ---- one edge
 
 -- a table read at place k of y, once v stands at place n of e; u is n if y is e
-set-place : (table : List ℕ) (e n v y k u : ℕ) → length table ≡ 512 → e < 256 → n < 2 → k < 2 → (y ≡ e → u ≡ n)
+set-place : (table : List ℕ) (e n v y k u : ℕ) → length table ≡ edge-places → e < max-edges → n < 2 → k < 2 → (y ≡ e → u ≡ n)
     → getD (set table (e * 2 + n) v) (y * 2 + k) 0 ≡ cond (member y (e ∷ []) && eqb u k) v (getD table (y * 2 + k) 0)
 set-place table e n v y k u size le ln lk un = elim (T-or-not (member y (e ∷ []) && eqb u k)) [ inl t ↦ here t | inr t ↦ there t ]
   where
@@ -64,7 +65,7 @@ count-one uses e n y le en = elim (T-or-not (member y (e ∷ []))) [ inl t ↦ h
         ∙ sym (add-zero (getD uses y 0))
         ∙ ap (λ (p : ℕ). getD uses y 0 + p) (sym (cond-no (member y (e ∷ [])) 1 0 (λ q. clash (member y (e ∷ [])) q t)))
 
-module _ (i s e n : ℕ) (incident own uses : List ℕ) (size : Sized incident own uses) (le : e < 256) (en : n ≡ getD uses e 0) where
+module _ (i s e n : ℕ) (incident own uses : List ℕ) (size : Sized incident own uses) (le : e < max-edges) (en : n ≡ getD uses e 0) where
   has : (y : ℕ) → y ≡ e → getD uses y 0 ≡ n
   has y q = ap (λ (p : ℕ). getD uses p 0) q ∙ sym en
 
@@ -124,11 +125,11 @@ placed-none i s incident own uses size =
     }
 
 -- an edge that is not among those placed has as many uses as before
-pub not-counted : {i s y : ℕ} {l incident own uses incident1 own1 uses1 : List ℕ} → Placed i s l incident own uses incident1 own1 uses1 → y < 256
+pub not-counted : {i s y : ℕ} {l incident own uses incident1 own1 uses1 : List ℕ} → Placed i s l incident own uses incident1 own1 uses1 → y < max-edges
     → (T (member y l) → ⊥) → getD uses1 y 0 ≡ getD uses y 0
 not-counted {y = y} {l = l} {uses = uses} a ly n = a .counted y ly ∙ ap (λ (k : ℕ). getD uses y 0 + k) (cond-no (member y l) 1 0 n) ∙ add-zero (getD uses y 0)
 
-pub counted-once : {i s y : ℕ} {l incident own uses incident1 own1 uses1 : List ℕ} → Placed i s l incident own uses incident1 own1 uses1 → y < 256
+pub counted-once : {i s y : ℕ} {l incident own uses incident1 own1 uses1 : List ℕ} → Placed i s l incident own uses incident1 own1 uses1 → y < max-edges
     → getD uses1 y 0 ≤ getD uses y 0 + 1
 counted-once {y = y} {l = l} a ly = let e = a .counted y ly in let h = at-most-one (member y l) in omega (arith, e, h)
   where
@@ -154,7 +155,7 @@ placed-more i s l m incident own uses incident1 own1 uses1 incident2 own2 uses2 
       own-at = λ y k ly lk. at y k ly s (getD own (y * 2 + k) 0) _ _ (a .own-at y k ly lk) (b .own-at y k ly lk);
     }
   where
-    at : (y k : ℕ) → y < 256 → (v t t1 t2 : ℕ) → t1 ≡ cond (member y l && eqb (getD uses y 0) k) v t → t2 ≡ cond (member y m && eqb (getD uses1 y 0) k) v t1
+    at : (y k : ℕ) → y < max-edges → (v t t1 t2 : ℕ) → t1 ≡ cond (member y l && eqb (getD uses y 0) k) v t → t2 ≡ cond (member y m && eqb (getD uses1 y 0) k) v t1
         → t2 ≡ cond (member y (l ++ m) && eqb (getD uses y 0) k) v t
     at y k ly v t t1 t2 p q =
         q
@@ -165,7 +166,7 @@ placed-more i s l m incident own uses incident1 own1 uses1 incident2 own2 uses2 
 
 -- ---- one constraint after the other
 
-pub uses-few : {g : List Constraint} (i : ℕ) {incident own uses : List ℕ} → Filled g (take i g) incident own uses → (y : ℕ) → y < 256 → getD uses y 0 ≤ i
+pub uses-few : {g : List Constraint} (i : ℕ) {incident own uses : List ℕ} → Filled g (take i g) incident own uses → (y : ℕ) → y < max-edges → getD uses y 0 ≤ i
 uses-few {g} i f y ly = let e = f .counted y ly in let h = length-incidence 0 (take i g) y in let k = length-take i g in omega (arith, e, h, k)
 
 -- the side that stands beside a constraint is the one on which the edge stands in it
@@ -175,23 +176,23 @@ own-kept f i s s' n o p true hp hq h l = hq tt
 own-kept f i s s' n o true false hp hq h l = hp tt
 own-kept f i s s' n o false false hp hq h l = h l
 
-pub filled-none : (g : List Constraint) (incident own uses : List ℕ) → incident ≡ replicate 512 no-constraint → length own ≡ 512 → uses ≡ replicate 256 0
+pub filled-none : (g : List Constraint) (incident own uses : List ℕ) → incident ≡ replicate edge-places no-constraint → length own ≡ edge-places → uses ≡ replicate max-edges 0
     → Filled g [] incident own uses
 filled-none g incident own uses ei size eu =
     record {
       sized =
           record {
-            incident-size = ap length ei ∙ length-replicate {A = ℕ} 512 no-constraint;
+            incident-size = ap length ei ∙ length-replicate {A = ℕ} edge-places no-constraint;
             own-size = size;
-            uses-size = ap length eu ∙ length-replicate {A = ℕ} 256 0;
+            uses-size = ap length eu ∙ length-replicate {A = ℕ} max-edges 0;
           };
-      counted = λ y ly. ap (λ (l : List ℕ). getD l y 0) eu ∙ getD-replicate 256 y 0 0 ly;
+      counted = λ y ly. ap (λ (l : List ℕ). getD l y 0) eu ∙ getD-replicate max-edges y 0 0 ly;
       incident-is = empty;
       own-is = λ y k ly lk h. let e = empty y k ly lk in absurd (omega (arith, e));
     }
   where
-    empty : (y k : ℕ) → y < 256 → k < 2 → getD incident (y * 2 + k) 0 ≡ no-constraint
-    empty y k ly lk = ap (λ (l : List ℕ). getD l (y * 2 + k) 0) ei ∙ getD-replicate 512 (y * 2 + k) no-constraint 0 (omega arith)
+    empty : (y k : ℕ) → y < max-edges → k < 2 → getD incident (y * 2 + k) 0 ≡ no-constraint
+    empty y k ly lk = ap (λ (l : List ℕ). getD l (y * 2 + k) 0) ei ∙ getD-replicate edge-places (y * 2 + k) no-constraint 0 (omega arith)
 
 pub filled-more : (g : List Constraint) (i : ℕ) (incident own uses incident1 own1 uses1 incident2 own2 uses2 : List ℕ) → i < length g
     → ((y : ℕ) → T (member y (constraint g i .a)) → T (member y (constraint g i .b)) → ⊥)
@@ -225,10 +226,10 @@ filled-more g i incident own uses incident1 own1 uses1 incident2 own2 uses2 li a
     before : ℕ → List ℕ
     before y = incidence (take i g) y
 
-    count1 : (y : ℕ) → y < 256 → getD uses1 y 0 ≡ length (before y) + cond (in-a y) 1 0
+    count1 : (y : ℕ) → y < max-edges → getD uses1 y 0 ≡ length (before y) + cond (in-a y) 1 0
     count1 y ly = a .counted y ly ∙ ap (λ (u : ℕ). u + cond (in-a y) 1 0) (f .counted y ly)
 
-    incident-now : (y k : ℕ) → y < 256 → k < 2
+    incident-now : (y k : ℕ) → y < max-edges → k < 2
         → getD incident2 (y * 2 + k) 0
         ≡ cond (in-b y && eqb (length (before y) + cond (in-a y) 1 0) k) i (cond (in-a y && eqb (length (before y)) k) i (getD (before y) k no-constraint))
     incident-now y k ly lk =
@@ -239,7 +240,7 @@ filled-more g i incident own uses incident1 own1 uses1 incident2 own2 uses2 li a
         ∙ ap (λ (u : ℕ). cond (in-a y && eqb u k) i (getD incident (y * 2 + k) 0)) (f .counted y ly)
         ∙ ap (λ (w : ℕ). cond (in-a y && eqb (length (before y)) k) i w) (f .incident-is y k ly lk))
 
-    own-now : (y k : ℕ) → y < 256 → k < 2 → getD incident2 (y * 2 + k) 0 < no-constraint → getD own2 (y * 2 + k) 0 ≡ side-of g y (getD incident2 (y * 2 + k) 0)
+    own-now : (y k : ℕ) → y < max-edges → k < 2 → getD incident2 (y * 2 + k) 0 < no-constraint → getD own2 (y * 2 + k) 0 ≡ side-of g y (getD incident2 (y * 2 + k) 0)
     own-now y k ly lk h =
         let p = in-a y && eqb (getD uses y 0) k in
         let q = in-b y && eqb (getD uses1 y 0) k in

@@ -17,7 +17,7 @@ use Rattle.base.specs.Lists.{all, member, differs}
 use Rattle.counts.specs.Region.{Constraint, constraint, holds, incidence}
 use Rattle.counts.specs.Move.{Change, balances, select}
 use Rattle.counts.specs.Search.{Act, State, entered, eps, free, is-used, others-changed, path-is-complete, record-path, skip, visit, visit-by}
-use Rattle.counts.specs.inner.Tables.{Other, Tables, after, all-decoded, allowed-in, alone, before, cost-in, decoded, path-of, state-of, the-graph}
+use Rattle.counts.specs.inner.Tables.{Other, Tables, after, all-decoded, allowed-in, alone, before, cost-in, decoded, path-of, state-of, the-graph, no-constraint}
 use Rattle.counts.specs.inner.SearchContract.{Crossed, MayCross, MayStep, Stepped, changed-by, dfs-of, try-partner-of, visit-of}
 use Rattle.counts.specs.declared.search.SearchState.{SearchState}
 use Rattle.counts.specs.declared.search.Changed.{Changed}
@@ -48,12 +48,12 @@ module _ (regions incident own : List ℕ) (costs : List Float) (allowed : List 
   abbrev cost : Float
   cost = add binary64 t (cost-in costs (d / 2) (eqb (d % 2) 1))
 
-  only : Other (the-graph regions) (d / 2) i 256 → incidence (the-graph regions) (d / 2) ≡ i ∷ []
+  only : Other (the-graph regions) (d / 2) i no-constraint → incidence (the-graph regions) (d / 2) ≡ i ∷ []
   only (alone q r) = r
   only (after q r s) = absurd (omega (arith, q))
   only (before q r s) = absurd (omega (arith, q))
 
-  enters-end : MayStep (the-graph regions) used path n e i d home → d / 2 ≢ e → getD allowed d false ≡ true → Other (the-graph regions) (d / 2) i 256 → st .expansions < limit
+  enters-end : MayStep (the-graph regions) used path n e i d home → d / 2 ≢ e → getD allowed d false ≡ true → Other (the-graph regions) (d / 2) i no-constraint → st .expansions < limit
       → record-path (the-graph regions) used (path-of n path ++ decoded d ∷ []) cost (entered (state-of st best)) ≡ try-partner-of regions costs allowed limit c0 (suc (free used)) used (path-of n path) e t i (decoded d) (state-of st best)
   enters-end s ne h w l =
       enter-none (the-graph regions) (cost-in costs) (allowed-in allowed) limit (c0 / 2) (eqb (c0 % 2) 1) (dfs-of regions costs allowed limit c0 (free used)) used (path-of n path ++ decoded d ∷ []) (d / 2) (eqb (d % 2) 1) cost (state-of st best)
@@ -65,14 +65,14 @@ module _ (regions incident own : List ℕ) (costs : List Float) (allowed : List 
   entered-once = ap (λ (k : ℕ). record { expansions = k; cut = st .cut; kept = st .kept; best = path-of (st .len) best }) (add-one (st .expansions))
 
   -- the entry is past the limit
-  pub end-turned-back : MayStep (the-graph regions) used path n e i d home → d / 2 ≢ e → getD allowed d false ≡ true → Other (the-graph regions) (d / 2) i 256 → limit ≤ st .expansions
+  pub end-turned-back : MayStep (the-graph regions) used path n e i d home → d / 2 ≢ e → getD allowed d false ≡ true → Other (the-graph regions) (d / 2) i no-constraint → limit ≤ st .expansions
       → Stepped regions costs allowed limit used path best n e i d t st used path best (record { kept = st .kept; expansions = st .expansions; len = st .len; cut = true })
   end-turned-back s ne h w l =
       nothing-written regions costs allowed limit used path best n e i d t st _ refl (dfs-turned-back (the-graph regions) (cost-in costs) (allowed-in allowed) limit (c0 / 2) (eqb (c0 % 2) 1) (free used) used (path-of n path ++ decoded d ∷ []) (d / 2) (eqb (d % 2) 1) cost (state-of st best) l
       ∙ step-taken regions costs allowed limit used path best n e i d t st home s ne h (barred-alone (the-graph regions) used (d / 2) i (only w)))
 
   -- the start is still open
-  pub end-open : MayStep (the-graph regions) used path n e i d home → d / 2 ≢ e → getD allowed d false ≡ true → Other (the-graph regions) (d / 2) i 256 → st .expansions < limit → home ≢ 256
+  pub end-open : MayStep (the-graph regions) used path n e i d home → d / 2 ≢ e → getD allowed d false ≡ true → Other (the-graph regions) (d / 2) i no-constraint → st .expansions < limit → home ≢ no-constraint
       → Stepped regions costs allowed limit used path best n e i d t st used path best (record { kept = st .kept; expansions = st .expansions + 1; len = st .len; cut = st .cut })
   end-open s ne h w l nh =
       nothing-written regions costs allowed limit used path best n e i d t st _ refl (entered-once ∙ record-incomplete (the-graph regions) used (path-of n path ++ decoded d ∷ []) cost (entered (state-of st best)) (incomplete (the-graph regions) used path n home (decoded d ∷ []) (s .one) (let q = s .path-long in omega (arith, q)) (s .home-is .at-start nh) (s .home-is .unmet nh)) ∙ enters-end s ne h w l)
@@ -81,13 +81,13 @@ module _ (regions incident own : List ℕ) (costs : List Float) (allowed : List 
   cost-is p q = ap (λ (v : Float). add binary64 t v) (cost-at costs d p q)
 
   -- the path is complete, but its cost is not below the kept one
-  pub end-high : (p : Float) → MayStep (the-graph regions) used path n e i d home → d / 2 ≢ e → getD allowed d false ≡ true → Other (the-graph regions) (d / 2) i 256 → st .expansions < limit → p ≡ getD costs d nan → lt (add binary64 t p) (sub binary64 (st .kept) eps) ≡ false
+  pub end-high : (p : Float) → MayStep (the-graph regions) used path n e i d home → d / 2 ≢ e → getD allowed d false ≡ true → Other (the-graph regions) (d / 2) i no-constraint → st .expansions < limit → p ≡ getD costs d nan → lt (add binary64 t p) (sub binary64 (st .kept) eps) ≡ false
       → Stepped regions costs allowed limit used path best n e i d t st used path best (record { kept = st .kept; expansions = st .expansions + 1; len = st .len; cut = st .cut })
   end-high p s ne h w l q b =
       nothing-written regions costs allowed limit used path best n e i d t st _ refl (entered-once ∙ record-high (the-graph regions) used (path-of n path ++ decoded d ∷ []) cost (entered (state-of st best)) (ap (λ (v : Float). lt v (sub binary64 (st .kept) eps)) (sym (cost-is p q)) ∙ b) ∙ enters-end s ne h w l)
 
   -- it is kept
-  pub end-kept : (p : Float) (best' : List ℕ) → Tables regions incident own → MayStep (the-graph regions) used path n e i d home → d / 2 ≢ e → getD allowed d false ≡ true → Other (the-graph regions) (d / 2) i 256 → st .expansions < limit → home ≡ 256 → p ≡ getD costs d nan → lt (add binary64 t p) (sub binary64 (st .kept) eps) ≡ true
+  pub end-kept : (p : Float) (best' : List ℕ) → Tables regions incident own → MayStep (the-graph regions) used path n e i d home → d / 2 ≢ e → getD allowed d false ≡ true → Other (the-graph regions) (d / 2) i no-constraint → st .expansions < limit → home ≡ no-constraint → p ≡ getD costs d nan → lt (add binary64 t p) (sub binary64 (st .kept) eps) ≡ true
       → take (n + 1) best' ≡ take (n + 1) (set path n d) → length best' ≡ length best
       → Stepped regions costs allowed limit used path best n e i d t st used (set path n d) best' (record { kept = add binary64 t p; expansions = st .expansions + 1; len = n + 1; cut = st .cut })
   end-kept p best' f s ne h w l hm q b tk lb =

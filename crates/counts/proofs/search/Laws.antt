@@ -16,7 +16,7 @@ use Rattle.base.specs.Lists.{In, all, any, each, filter, member, differs}
 use Rattle.counts.specs.Region.{Constraint, constraint, holds, incidence, opposite-side, own-side}
 use Rattle.counts.specs.Move.{Change, select}
 use Rattle.counts.specs.Search.{Act, Go, State, dfs, enter, enter-by, entered, eps, is-used, keep-reading, may-step, others-changed, partners, path-is-complete, record-path, signed, skip, try-step, turned-back, visit, visit-by}
-use Rattle.counts.specs.inner.Tables.{Other, after, alone, before}
+use Rattle.counts.specs.inner.Tables.{Other, after, alone, before, no-constraint}
 use Rattle.counts.specs.inner.SearchContract.{both-signed}
 use Rattle.base.proofs.BoolLaws.{T-true, clash, false-T, ne→eqb, not-T-false, same→eqb}
 use Rattle.base.proofs.ListLaws.{every, in-split, not-any, nothing-in}
@@ -42,7 +42,7 @@ module _ (g : List Constraint) where
   pub unused-alone : (used : List Bool) (y i : ℕ) → incidence g y ≡ i ∷ [] → is-used used i ≡ true → unused-of used y ≡ []
   unused-alone used y i e u = ap (filter (λ (j : ℕ). not (is-used used j))) e ∙ ap (λ (b : Bool). cond {A = List ℕ} (not b) (i ∷ []) []) u
 
-  pub unused-other : (used : List Bool) (y i o : ℕ) → o < 256 → Other g y i o → is-used used i ≡ true → is-used used o ≡ false → unused-of used y ≡ o ∷ []
+  pub unused-other : (used : List Bool) (y i o : ℕ) → o < no-constraint → Other g y i o → is-used used i ≡ true → is-used used o ≡ false → unused-of used y ≡ o ∷ []
   unused-other used y i o h (alone e q) u v = absurd (omega (arith, e))
   unused-other used y i o h (after l n q) u v =
       ap (filter (λ (j : ℕ). not (is-used used j))) q
@@ -60,7 +60,7 @@ module _ (g : List Constraint) where
   pub barred-alone : (used : List Bool) (y i : ℕ) → incidence g y ≡ i ∷ [] → barred used i y ≡ false
   barred-alone used y i e = ap (any (λ (j : ℕ). differs i j && is-used used j)) e ∙ ap (λ (b : Bool). (not b && is-used used i) || false) (same→eqb i)
 
-  pub barred-other : (used : List Bool) (y i o : ℕ) → o < 256 → Other g y i o → barred used i y ≡ is-used used o
+  pub barred-other : (used : List Bool) (y i o : ℕ) → o < no-constraint → Other g y i o → barred used i y ≡ is-used used o
   barred-other used y i o h (alone e q) = absurd (omega (arith, e))
   barred-other used y i o h (after l n q) =
       ap (any (λ (j : ℕ). differs i j && is-used used j)) q
@@ -208,7 +208,7 @@ all-used g used path f = T-true (path-is-complete g used path) (every (λ (z : C
 
 -- a chain that ends at an edge with the one constraint i
 pub chain-complete : (g : List Constraint) (used : List Bool) (path : List Change) (z : Change) (i : ℕ)
-    → ((j : ℕ) → is-used used j ≡ false → j ≢ 256 → select (holds (constraint g j)) path ≡ []) → ((j y : ℕ) → T (holds (constraint g j) y) → j < 256) → incidence g (z .0) ≡ i ∷ [] → is-used used i ≡ true → path-is-complete g used (path ++ z ∷ []) ≡ true
+    → ((j : ℕ) → is-used used j ≡ false → j ≢ no-constraint → select (holds (constraint g j)) path ≡ []) → ((j y : ℕ) → T (holds (constraint g j) y) → j < no-constraint) → incidence g (z .0) ≡ i ∷ [] → is-used used i ≡ true → path-is-complete g used (path ++ z ∷ []) ≡ true
 chain-complete g used path z i away few one u =
     all-used g used (path ++ z ∷ []) (λ w j m k v. elim (in-split w path (z ∷ []) m) [
       | inl a ↦ nothing-in w (select (holds (constraint g j)) path) (select-in (holds (constraint g j)) w path a (incidence→holds g j (w .0) k)) (away j v (λ q. let b = few j (w .0) (incidence→holds g j (w .0) k) in omega (arith, b, q)))

@@ -1,5 +1,5 @@
 -- Two lists of marks that agree on every constraint that holds an edge, and any two counts of fuel above their unused constraints, give the same
--- search. Assumes nothing. So the code's 257 marks, with number 256 always used, do as well as the definition's one for each constraint.
+-- search. Assumes nothing. So the code's marks, with that of no constraint always used, do as well as the definition's one for each constraint.
 use mathlib.Core.Logic.{_≢_, inl, inr}
 use mathlib.Core.Path.{_≡_, refl, sym, ap, subst, _∙_}
 use mathlib.Core.Bool.{Bool, true, false, not, _&&_, _||_, cond}

@@ -16,7 +16,8 @@ use lib.Ieee.{Float, nan}
 use Rattle.base.specs.Lists.{In}
 use Rattle.counts.specs.Region.{Constraint, constraint, holds, incidence, incidence-from}
 use Rattle.counts.specs.Move.{Change}
-use Rattle.counts.specs.inner.Tables.{Other, StandsOn, Tables, across, after, all-decoded, alone, before, cost-in, decoded, encoded, no-constraint, path-of, the-graph}
+use Rattle.counts.specs.inner.Tables.{Other, StandsOn, Tables, across, after, all-decoded, alone, before, cost-in, decoded, encoded, no-constraint, path-of, the-graph, max-sides, edge-places}
+use Rattle.counts.specs.Accept.{max-edges}
 use Rattle.base.proofs.BoolLaws.{T-true, clash, not-T-false}
 use Rattle.counts.proofs.region.Constraints.{holds→incidence, incidence-out, incidence→holds}
 
@@ -66,7 +67,7 @@ across-low s h = ap (λ (b : Bool). cond b (s + 2) (s - 2)) (sym (T-true (ltb (s
 pub across-high : (s : ℕ) → 2 ≤ s % 4 → s - 2 ≡ across s
 across-high s h = ap (λ (b : Bool). cond b (s + 2) (s - 2)) (sym (not-T-false (ltb (s % 4) 2) (λ u. clash (ltb (s % 4) 2) u (le→nltb (s % 4) 2 h))))
 
-pub across-below : (s : ℕ) → s < 512 → across s < 514
+pub across-below : (s : ℕ) → s < max-sides → across s < 514
 across-below s h = go (ltb (s % 4) 2)
   where
     go : (b : Bool) → cond b (s + 2) (s - 2) < 514
@@ -100,17 +101,17 @@ in-or-none (x ∷ l) zero = inl (inl refl)
 in-or-none (x ∷ l) (suc k) = elim (in-or-none l k) [ inl i ↦ inl (inr i) | inr e ↦ inr e ]
 
 module _ (regions incident own : List ℕ) (tables : Tables regions incident own) where
-  entry-is : (p : ℕ) → p < 512 → getD incident p 0 ≡ getD (incidence (the-graph regions) (p / 2)) (p % 2) no-constraint
+  entry-is : (p : ℕ) → p < edge-places → getD incident p 0 ≡ getD (incidence (the-graph regions) (p / 2)) (p % 2) no-constraint
   entry-is p h = ap (λ (k : ℕ). getD incident k 0) (let q : p ≡ p / 2 * 2 + p % 2 = omega arith in q) ∙ tables .incident-is (p / 2) (p % 2) (omega (arith, h)) (omega arith)
 
-  pub entry-most : (p : ℕ) → p < 512 → getD incident p 0 ≤ no-constraint
+  pub entry-most : (p : ℕ) → p < edge-places → getD incident p 0 ≤ no-constraint
   entry-most p h = subst (λ (k : ℕ). k ≤ no-constraint) (sym (entry-is p h)) (go (in-or-none (incidence (the-graph regions) (p / 2)) (p % 2)))
     where
       go : {i : ℕ} → In i (incidence (the-graph regions) (p / 2)) ⊎ (i ≡ no-constraint) → i ≤ no-constraint
       go {i} (inl m) = let b = tables .numbered i (p / 2) (incidence→holds (the-graph regions) i (p / 2) m) in omega (arith, b)
       go {i} (inr e) = omega (arith, e)
 
-  pub entry-holds : (p : ℕ) → p < 512 → getD incident p 0 < no-constraint → T (holds (constraint (the-graph regions) (getD incident p 0)) (p / 2))
+  pub entry-holds : (p : ℕ) → p < edge-places → getD incident p 0 < no-constraint → T (holds (constraint (the-graph regions) (getD incident p 0)) (p / 2))
   entry-holds p h l = incidence→holds (the-graph regions) (getD incident p 0) (p / 2) (subst (λ (k : ℕ). In k (incidence (the-graph regions) (p / 2))) (sym (entry-is p h)) (go (in-or-none (incidence (the-graph regions) (p / 2)) (p % 2))))
     where
       go : In (getD (incidence (the-graph regions) (p / 2)) (p % 2) no-constraint) (incidence (the-graph regions) (p / 2)) ⊎ (getD (incidence (the-graph regions) (p / 2)) (p % 2) no-constraint ≡ no-constraint) → In (getD (incidence (the-graph regions) (p / 2)) (p % 2) no-constraint) (incidence (the-graph regions) (p / 2))
@@ -118,7 +119,7 @@ module _ (regions incident own : List ℕ) (tables : Tables regions incident own
       go (inr e) = let q = entry-is p h in absurd (omega (arith, e, q, l))
 
   -- the constraints of an edge, by the entries at its two places
-  module _ (y : ℕ) (h : y < 256) where
+  module _ (y : ℕ) (h : y < max-edges) where
     first-is : getD incident (y * 2) 0 ≡ getD (incidence (the-graph regions) y) 0 no-constraint
     first-is = ap (λ (k : ℕ). getD incident k 0) (let q : y * 2 ≡ y * 2 + 0 = omega arith in q) ∙ tables .incident-is y 0 h (omega arith)
 
@@ -172,7 +173,7 @@ module _ (regions incident own : List ℕ) (tables : Tables regions incident own
   pub two-places : (i y : ℕ) → T (holds (constraint (the-graph regions) i) y) → TwoPlaces i y
   two-places i y h = go (incidence (the-graph regions) y) refl (holds→incidence (the-graph regions) i y h)
     where
-      low : y < 256
+      low : y < max-edges
       low = tables .few i y h
 
       go : (l : List ℕ) → incidence (the-graph regions) y ≡ l → In i l → TwoPlaces i y
@@ -220,14 +221,14 @@ other-differs g y i o (before h n q) l = λ r. n (sym r)
 -- ---- the place of a constraint, and of the other one
 
 module _ (regions incident own : List ℕ) (y i : ℕ) (tables : Tables regions incident own) (h : T (holds (constraint (the-graph regions) i) y)) where
-  low : y < 256
+  low : y < max-edges
   low = tables .few i y h
 
   abbrev IsOther : ℕ → Type 0
-  IsOther p = (p < 512) × (p / 2 ≡ y) × (getD incident p 0 ≤ no-constraint) × Other (the-graph regions) y i (getD incident p 0)
+  IsOther p = (p < edge-places) × (p / 2 ≡ y) × (getD incident p 0 ≤ no-constraint) × Other (the-graph regions) y i (getD incident p 0)
 
   abbrev IsPlace : ℕ → Type 0
-  IsPlace p = (p < 512) × (p / 2 ≡ y) × (getD incident p 0 ≡ i)
+  IsPlace p = (p < edge-places) × (p / 2 ≡ y) × (getD incident p 0 ≡ i)
 
   pub other-second : getD incident (y * 2) 0 ≡ i → IsOther (y * 2 + 1)
   other-second e =

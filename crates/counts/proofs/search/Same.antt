@@ -1,5 +1,5 @@
 -- A search depends on what the edges joined to its start cost, and on nothing else: where costs and allowed changes agree on a set K of edges
--- that is closed under constraints, a search from an edge of K gives the same. (K by a bound on the edges: tables serve for lists. K by a part
+-- that is closed under constraints, a search from an edge of K gives the same. (K by a bound on the edges: tables serve for lists. K by a component
 -- of the farm that no move has touched: an earlier result still holds.) Assumes nothing.
 use mathlib.Core.Logic.{_⊎_, inl, inr}
 use mathlib.Core.Path.{_≡_, refl, ap, _∙_}

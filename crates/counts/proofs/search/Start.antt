@@ -17,9 +17,10 @@ use Rattle.base.specs.Lists.{In, all, each, filter}
 use Rattle.counts.specs.Region.{Constraint, constraint, holds, incidence}
 use Rattle.counts.specs.Move.{Change}
 use Rattle.counts.specs.Search.{Act, State, dfs, enter, enter-by, entered, eps, free, fresh, is-used, others-changed, run, skip, turned-back}
-use Rattle.counts.specs.inner.Tables.{Other, Tables, all-decoded, allowed-in, cost-in, decoded, no-constraint, path-of, state-of, the-graph}
+use Rattle.counts.specs.inner.Tables.{Other, Tables, all-decoded, allowed-in, cost-in, decoded, no-constraint, path-of, state-of, the-graph, max-constraints, edge-places, changes, marks-size, path-size}
 use Rattle.counts.specs.inner.SearchContract.{Crossed, CrossedAll, Entered, MayCross, Searched, crossing-of, dfs-of, entry-by, entry-of, fresh-state, no-marks, start-cost, visit-of}
 use Rattle.counts.specs.declared.search.SearchState.{SearchState}
+use Rattle.counts.specs.Accept.{max-edges}
 use Rattle.base.proofs.BoolLaws.{T-true, clash, false-T, not-T-false}
 use Rattle.counts.proofs.search.Used.{free-set}
 use Rattle.counts.proofs.region.Constraints.{holds→incidence, incidence→holds}
@@ -31,27 +32,27 @@ use Rattle.counts.proofs.search.Marks.{dfs-like}
 -- ---- the marks at the start
 
 -- as a caller makes them
-pub marks-made : set (replicate 257 false) 256 true ≡ no-marks
+pub marks-made : set (replicate marks-size false) no-constraint true ≡ no-marks
 unfolding no-marks
 marks-made = refl
 
-marks-long : length no-marks ≡ 257
+marks-long : length no-marks ≡ marks-size
 unfolding no-marks
-marks-long = length-set (replicate 257 false) no-constraint true ∙ length-replicate 257 false
+marks-long = length-set (replicate marks-size false) no-constraint true ∙ length-replicate marks-size false
 
 marks-open : (i : ℕ) → i < no-constraint → is-used no-marks i ≡ false
 unfolding no-marks
-marks-open i h = getD-set-other (replicate 257 false) no-constraint i true true (λ q. omega (arith, h, q)) ∙ getD-replicate 257 i false true (omega (arith, h))
+marks-open i h = getD-set-other (replicate marks-size false) no-constraint i true true (λ q. omega (arith, h, q)) ∙ getD-replicate marks-size i false true (omega (arith, h))
 
 free-replicate : (n : ℕ) → free (replicate n false) ≡ n
 free-replicate zero = refl
 free-replicate (suc n) = ap suc (free-replicate n)
 
-marks-free : free no-marks ≡ 256
+marks-free : free no-marks ≡ max-constraints
 unfolding no-marks
 marks-free =
-    let q = free-set (replicate 257 false) no-constraint (false-T (is-used (replicate 257 false) no-constraint) (getD-replicate 257 no-constraint false true (omega arith))) in
-    let r = free-replicate 257 in
+    let q = free-set (replicate marks-size false) no-constraint (false-T (is-used (replicate marks-size false) no-constraint) (getD-replicate marks-size no-constraint false true (omega arith))) in
+    let r = free-replicate marks-size in
     omega (arith, q, r)
 
 in-graph : (g : List Constraint) (i y : ℕ) → T (holds (constraint g i) y) → i < length g
@@ -89,7 +90,7 @@ module _ (regions incident own : List ℕ) (costs : List Float) (limit start : �
     next = record { kept = st .kept; expansions = st .expansions + 1; len = st .len; cut = st .cut }
 
     -- there is a constraint to cross
-    pub entered-held : start < 512 → getD incident (start / 2 * 2) 0 ≢ no-constraint → Entered regions costs limit start path best st (set path 0 start) best next
+    pub entered-held : start < changes → getD incident (start / 2 * 2) 0 ≢ no-constraint → Entered regions costs limit start path best st (set path 0 start) best next
     entered-held small n = record { path-is = refl; best-kept = refl; short = λ s. s; answer = once ∙ go (incidence (the-graph regions) (start / 2)) refl }
       where
         go : (is : List ℕ) → incidence (the-graph regions) (start / 2) ≡ is → entered (state-of st best) ≡ entry-of regions costs limit start (state-of st best)
@@ -97,7 +98,7 @@ module _ (regions incident own : List ℕ) (costs : List Float) (limit start : �
         go (i ∷ is) e = went-on (i ∷ is) e
 
     -- a free edge: the one change is complete
-    module _ (small : start < 512) (is-free : getD incident (start / 2 * 2) 0 ≡ no-constraint) (t : Float) (is-cost : t ≡ start-cost regions costs limit start) where
+    module _ (small : start < changes) (is-free : getD incident (start / 2 * 2) 0 ≡ no-constraint) (t : Float) (is-cost : t ≡ start-cost regions costs limit start) where
       alone : incidence (the-graph regions) (start / 2) ≡ []
       alone = in-none regions incident own tables (start / 2) (omega (arith, small)) is-free
 
@@ -113,7 +114,7 @@ module _ (regions incident own : List ℕ) (costs : List Float) (limit start : �
             answer = once ∙ record-high (the-graph regions) no-marks (decoded start ∷ []) (start-cost regions costs limit start) (entered (state-of st best)) (cheap q) ∙ went-on [] alone;
           }
 
-      pub entered-free : (best' : List ℕ) → lt t (sub binary64 (st .kept) eps) ≡ true → length path ≡ 257 → take 1 best' ≡ take 1 (set path 0 start) → length best' ≡ length best
+      pub entered-free : (best' : List ℕ) → lt t (sub binary64 (st .kept) eps) ≡ true → length path ≡ path-size → take 1 best' ≡ take 1 (set path 0 start) → length best' ≡ length best
           → Entered regions costs limit start path best st (set path 0 start) best' (record { kept = t; expansions = st .expansions + 1; len = 1; cut = st .cut })
       entered-free best' q long k lb =
           record {
@@ -148,7 +149,7 @@ module _ (regions incident own : List ℕ) (costs : List Float) (allowed : List 
   abbrev begun : State
   begun = entered (fresh g (cost-in costs) (allowed-in allowed) limit edge sign)
 
-  -- the definition marks as many constraints as there are and is given as much fuel; 257 marks and their fuel do as well
+  -- the definition marks as many constraints as there are and is given as much fuel; the marks of the code and their fuel do as well
   by-marks : dfs g (cost-in costs) (allowed-in allowed) limit edge sign (suc (free no-marks)) no-marks (decoded start ∷ []) edge sign cost (fresh g (cost-in costs) (allowed-in allowed) limit edge sign) ≡ outcome
   unfolding run
   by-marks =
@@ -174,7 +175,7 @@ module _ (regions incident own : List ℕ) (costs : List Float) (allowed : List 
 
   -- ---- a crossing from the start
 
-  pub may-start : (used : List Bool) (path : List ℕ) (p home : ℕ) → used ≡ no-marks → length path ≡ 257 → getD path 0 0 ≡ start → p < 512 → p / 2 ≡ edge → getD incident p 0 < no-constraint → Other g edge (getD incident p 0) home → home ≤ no-constraint
+  pub may-start : (used : List Bool) (path : List ℕ) (p home : ℕ) → used ≡ no-marks → length path ≡ path-size → getD path 0 0 ≡ start → p < edge-places → p / 2 ≡ edge → getD incident p 0 < no-constraint → Other g edge (getD incident p 0) home → home ≤ no-constraint
       → MayCross g incident used path 1 p home
   may-start used path p home us long at-start small here real other most =
       subst (λ (u : List Bool). MayCross g incident u path 1 p home) (sym us)
@@ -199,7 +200,7 @@ module _ (regions incident own : List ℕ) (costs : List Float) (allowed : List 
       })
 
   -- what one crossing leaves
-  crossed-start : (used : List Bool) (path best : List ℕ) (p : ℕ) (t : Float) (st : SearchState) (used' : List Bool) (path' best' : List ℕ) (r : SearchState) → used ≡ no-marks → length path ≡ 257 → getD path 0 0 ≡ start → t ≡ cost
+  crossed-start : (used : List Bool) (path best : List ℕ) (p : ℕ) (t : Float) (st : SearchState) (used' : List Bool) (path' best' : List ℕ) (r : SearchState) → used ≡ no-marks → length path ≡ path-size → getD path 0 0 ≡ start → t ≡ cost
       → Crossed regions incident costs allowed limit used path best 1 p t st used' path' best' r → state-of r best' ≡ visit-at (getD incident p 0) (state-of st best)
   crossed-start used path best p t st used' path' best' r us long at-start q c =
       c .answer
@@ -224,13 +225,13 @@ module _ (regions incident own : List ℕ) (costs : List Float) (allowed : List 
     pub crossed-cut : st .cut ≡ true → CrossedAll regions costs allowed limit start used path best st used path best st
     crossed-cut e = stays (ap (λ (b : Bool). cond b skip (each visit-at (incidence g edge)) (state-of st best)) (sym e))
 
-    pub crossed-none : start < 512 → st .cut ≡ false → getD incident (edge * 2) 0 ≡ no-constraint → CrossedAll regions costs allowed limit start used path best st used path best st
+    pub crossed-none : start < changes → st .cut ≡ false → getD incident (edge * 2) 0 ≡ no-constraint → CrossedAll regions costs allowed limit start used path best st used path best st
     crossed-none small whole e = stays (crosses st best whole [] (in-none regions incident own tables edge (omega (arith, small)) e))
 
   -- `first` and `second` are the entries at the start's two places, and the first is a constraint
-  module _ (used : List Bool) (path best : List ℕ) (us : used ≡ no-marks) (path-long : length path ≡ 257) (best-long : length best ≡ 257) (at-start : getD path 0 0 ≡ start) (small : start < 512)
+  module _ (used : List Bool) (path best : List ℕ) (us : used ≡ no-marks) (path-long : length path ≡ path-size) (best-long : length best ≡ path-size) (at-start : getD path 0 0 ≡ start) (small : start < changes)
       (first second : ℕ) (is-first : first ≡ getD incident (edge * 2) 0) (is-second : second ≡ getD incident (edge * 2 + 1) 0) (crossable : first ≢ no-constraint) where
-    low : edge < 256
+    low : edge < max-edges
     low = omega (arith, small)
 
     first-real : getD incident (edge * 2) 0 < no-constraint
@@ -310,7 +311,7 @@ module _ (regions incident own : List ℕ) (costs : List Float) (allowed : List 
           ap (crossing-of regions costs limit start allowed) (sym (went-on regions incident own costs limit start tables [] [] fresh-state (omega (arith, e)) (incidence g edge) refl))
           ∙ sym (by-edge (incidence g edge)) ∙ enters (omega (arith, e))
 
-  pub searched : (used : List Bool) (path best path' best' : List ℕ) (st : SearchState) (used'' : List Bool) (path'' best'' : List ℕ) (r : SearchState) → used ≡ no-marks → length path ≡ 257 → length best ≡ 257
+  pub searched : (used : List Bool) (path best path' best' : List ℕ) (st : SearchState) (used'' : List Bool) (path'' best'' : List ℕ) (r : SearchState) → used ≡ no-marks → length path ≡ path-size → length best ≡ path-size
       → Entered regions costs limit start path best fresh-state path' best' st → CrossedAll regions costs allowed limit start used path' best' st used'' path'' best'' r → Searched regions costs allowed limit start used'' path'' best'' r
   searched used path best path' best' st used'' path'' best'' r us path-long best-long n c =
       record {

@@ -18,7 +18,7 @@ use Rattle.base.specs.Lists.{In, any, each, differs}
 use Rattle.counts.specs.Region.{Constraint, constraint, holds, incidence}
 use Rattle.counts.specs.Move.{Change, select}
 use Rattle.counts.specs.Search.{Act, State, free, is-used, others-changed, partners, skip, visit}
-use Rattle.counts.specs.inner.Tables.{Other, Tables, all-decoded, allowed-in, cost-in, decoded, path-of, state-of, the-graph}
+use Rattle.counts.specs.inner.Tables.{Other, Tables, all-decoded, allowed-in, cost-in, decoded, path-of, state-of, the-graph, no-constraint, edge-places, changes, path-size}
 use Rattle.counts.specs.inner.SearchContract.{Crossed, MayCross, MayStep, SidesAt, Stepped, both-signed, dfs-of, try-partner-of, try-step-of, visit-of}
 use Rattle.counts.specs.declared.search.SearchState.{SearchState}
 use Rattle.base.proofs.BoolLaws.{T-true, clash, false-T, ne→eqb, not-T-false, same→eqb}
@@ -42,7 +42,7 @@ module _ (regions : List ℕ) (costs : List Float) (allowed : List Bool) (limit 
   -- no change is written, and the kept reading stays
   pub nothing-written : (r : SearchState) → r .len ≡ st .len → state-of r best ≡ try-partner-of regions costs allowed limit c0 (suc (free used)) used (path-of n path) e t i (decoded d) (state-of st best)
       → Stepped regions costs allowed limit used path best n e i d t st used path best r
-  nothing-written r q a = record { used-kept = refl; path-kept = refl; long-kept = refl; best-kept = refl; short = λ h. subst (λ (k : ℕ). k ≤ 257) (sym q) h; answer = a }
+  nothing-written r q a = record { used-kept = refl; path-kept = refl; long-kept = refl; best-kept = refl; short = λ h. subst (λ (k : ℕ). k ≤ path-size) (sym q) h; answer = a }
 
   -- no step back to the last edge
   pub step-back : d / 2 ≡ e → Stepped regions costs allowed limit used path best n e i d t st used path best st
@@ -59,7 +59,7 @@ module _ (regions : List ℕ) (costs : List Float) (allowed : List Bool) (limit 
       ∙ partner-differs (eqb (d / 2) e) here (state-of st best) (ne→eqb (d / 2) e ne))
 
   -- its other constraint is used already
-  pub step-shut : (home o : ℕ) → MayStep (the-graph regions) used path n e i d home → d / 2 ≢ e → getD allowed d false ≡ true → o < 256 → Other (the-graph regions) (d / 2) i o → is-used used o ≡ true
+  pub step-shut : (home o : ℕ) → MayStep (the-graph regions) used path n e i d home → d / 2 ≢ e → getD allowed d false ≡ true → o < no-constraint → Other (the-graph regions) (d / 2) i o → is-used used o ≡ true
       → Stepped regions costs allowed limit used path best n e i d t st used path best st
   step-shut home o s ne h l w u =
       nothing-written _ refl (try-step-no (the-graph regions) (cost-in costs) (allowed-in allowed) limit (c0 / 2) (eqb (c0 % 2) 1) (dfs-of regions costs allowed limit c0 (suc (free used))) used (path-of n path) t i (decoded d) (state-of st best)
@@ -77,7 +77,7 @@ module _ (regions : List ℕ) (costs : List Float) (allowed : List Bool) (limit 
       ∙ partner-differs (eqb (d / 2) e) here (state-of st best) (ne→eqb (d / 2) e ne)
 
   -- the entry is past the limit
-  pub step-turned-back : (home o : ℕ) → MayStep (the-graph regions) used path n e i d home → d / 2 ≢ e → getD allowed d false ≡ true → o < 256 → Other (the-graph regions) (d / 2) i o → is-used used o ≡ false → limit ≤ st .expansions
+  pub step-turned-back : (home o : ℕ) → MayStep (the-graph regions) used path n e i d home → d / 2 ≢ e → getD allowed d false ≡ true → o < no-constraint → Other (the-graph regions) (d / 2) i o → is-used used o ≡ false → limit ≤ st .expansions
       → Stepped regions costs allowed limit used path best n e i d t st used path best (record { kept = st .kept; expansions = st .expansions; len = st .len; cut = true })
   step-turned-back home o s ne h l w u k =
       nothing-written _ refl (dfs-turned-back (the-graph regions) (cost-in costs) (allowed-in allowed) limit (c0 / 2) (eqb (c0 % 2) 1) (free used) used (path-of n path ++ decoded d ∷ []) (d / 2) (eqb (d % 2) 1) (add binary64 t (cost-in costs (d / 2) (eqb (d % 2) 1))) (state-of st best) k
@@ -85,7 +85,7 @@ module _ (regions : List ℕ) (costs : List Float) (allowed : List Bool) (limit 
 
   -- the step is taken, and dfs crosses the other constraint
   pub step-crosses : (home o k : ℕ) (incident : List ℕ) (p : Float) (used' : List Bool) (path' best' : List ℕ) (r : SearchState)
-      → MayStep (the-graph regions) used path n e i d home → d / 2 ≢ e → getD allowed d false ≡ true → o < 256 → Other (the-graph regions) (d / 2) i o → is-used used o ≡ false → st .expansions < limit
+      → MayStep (the-graph regions) used path n e i d home → d / 2 ≢ e → getD allowed d false ≡ true → o < no-constraint → Other (the-graph regions) (d / 2) i o → is-used used o ≡ false → st .expansions < limit
       → o ≡ getD incident k 0 → p ≡ getD costs d nan
       → Crossed regions incident costs allowed limit used (set path n d) best (n + 1) k (add binary64 t p) (record { kept = st .kept; expansions = st .expansions + 1; len = st .len; cut = st .cut }) used' path' best' r
       → Stepped regions costs allowed limit used path best n e i d t st used' path' best' r
@@ -129,7 +129,7 @@ start-differs (x ∷ l) (suc n) y h h' e q = true≢false (sym (ap (λ (b : Bool
 
 -- what `dfs` is lent: of the new edge's two constraints one is used and the other is to be crossed, so both invariants hold again
 pub may-cross-next : (g : List Constraint) (incident : List ℕ) (used : List Bool) (path : List ℕ) (n e i d home o k : ℕ)
-    → MayStep g used path n e i d home → d / 2 ≢ e → o < 256 → Other g (d / 2) i o → is-used used o ≡ false → o ≡ getD incident k 0 → k < 512 → k / 2 ≡ d / 2
+    → MayStep g used path n e i d home → d / 2 ≢ e → o < no-constraint → Other g (d / 2) i o → is-used used o ≡ false → o ≡ getD incident k 0 → k < edge-places → k / 2 ≡ d / 2
     → MayCross g incident used (set path n d) (n + 1) k home
 may-cross-next g incident used path n e i d home o k s ne l w u on small at-y =
     record {
@@ -139,7 +139,7 @@ may-cross-next g incident used path n e i d home o k s ne l w u on small at-y =
       path-long = length-set path n d ∙ s .path-long;
       small = small;
       here = ap (λ (m : ℕ). getD (set path n d) m 0 / 2) (let q : n + 1 - 1 ≡ n = omega arith in q) ∙ ap (λ (m : ℕ). m / 2) (getD-set-same path n d 0 room) ∙ sym at-y;
-      real = subst (λ (m : ℕ). m < 256) on l;
+      real = subst (λ (m : ℕ). m < no-constraint) on l;
       unused = ap (is-used used) (sym on) ∙ u;
       away = λ j v nh. ap (λ (y : ℕ). others-changed (constraint g j) y (path-of (n + 1) (set path n d))) at-y ∙ ap (others-changed (constraint g j) (d / 2)) (path-longer path n d room) ∙ none-but-next (constraint g j) (d / 2) (eqb (d % 2) 1) (path-of n path) (s .away j v nh);
       mine = λ j v nh h. which j v (holds→incidence g j (d / 2) (subst (λ (y : ℕ). T (holds (constraint g j) y)) at-y h)) ∙ on;
@@ -173,13 +173,13 @@ pub record Walking (regions : List ℕ) (costs : List Float) (allowed : List Boo
   pub same-path : take n path ≡ take n path₀
   pub same-long : length path ≡ length path₀
   pub same-best : length best ≡ length best₀
-  pub short : s₀ .len ≤ 257 → s .len ≤ 257
+  pub short : s₀ .len ≤ path-size → s .len ≤ path-size
   pub below : j ≤ total
   pub so-far : state-of s best ≡ each (try-partner-of regions costs allowed limit (getD path₀ 0 0) (suc (free used₀)) used₀ (path-of n path₀) (p / 2) t ci) (take j (both-signed (constraint (the-graph regions) ci) (p / 2) (eqb (c % 2) 1))) (state-of s₀ best₀)
 
 -- what `try_step` is lent: the constraint crossed is used now, so `mine` makes every unused one but `home` free of the path's edges
 pub may-step-now : (g : List Constraint) (incident : List ℕ) (used₀ : List Bool) (path₀ : List ℕ) (n p home ci d : ℕ) (used : List Bool) (path : List ℕ)
-    → MayCross g incident used₀ path₀ n p home → ci ≡ getD incident p 0 → ci ≢ home → used ≡ set used₀ ci true → take n path ≡ take n path₀ → length path ≡ length path₀ → d < 512 → T (holds (constraint g (getD incident p 0)) (d / 2))
+    → MayCross g incident used₀ path₀ n p home → ci ≡ getD incident p 0 → ci ≢ home → used ≡ set used₀ ci true → take n path ≡ take n path₀ → length path ≡ length path₀ → d < changes → T (holds (constraint g (getD incident p 0)) (d / 2))
     → MayStep g used path n (p / 2) ci d home × (suc (free used) ≡ free used₀)
 may-step-now g incident used₀ path₀ n p home ci d used path rd cn nh us ps lp small h = (
   record {

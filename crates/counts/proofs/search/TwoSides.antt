@@ -10,10 +10,10 @@ use lib.ListN.{length, getD, take, drop, length-drop, length-append}
 use lib.Seq.{getD-take, getD-drop, getD-append-add, length-take-le}
 use lib.Dec.{eqb, T}
 use Rattle.base.specs.Lists.{In, member}
-use Rattle.counts.specs.Region.{Constraint, constraint, holds, opposite-side, own-side}
+use Rattle.counts.specs.Region.{Constraint, constraint, holds, opposite-side, own-side, places, side-size}
 use Rattle.counts.specs.Move.{Change}
 use Rattle.counts.specs.Search.{signed}
-use Rattle.counts.specs.inner.Tables.{StandsOn, Tables, across, decoded, edges-of, the-graph}
+use Rattle.counts.specs.inner.Tables.{StandsOn, Tables, across, decoded, edges-of, the-graph, changes}
 use Rattle.counts.specs.inner.SearchContract.{SidesAt, both-sides, both-signed}
 use Rattle.base.proofs.BoolLaws.{T-true, true-T}
 use Rattle.base.proofs.ListLaws.{in→member}
@@ -43,27 +43,27 @@ holds-both c x e = go (member x (c .a)) ∙ sym (member-append e (opposite-side 
 
 -- ---- where the two sides stand
 
-length-edges-of : (regions : List ℕ) (s : ℕ) → s * 17 + 17 ≤ length regions → getD regions (s * 17) 0 ≤ 16 → length (edges-of regions s) ≡ getD regions (s * 17) 0
-length-edges-of regions s h k = length-take-le (getD regions (s * 17) 0) (drop (s * 17 + 1) regions) (let q = length-drop (s * 17 + 1) regions in omega (arith, q, h, k))
+length-edges-of : (regions : List ℕ) (s : ℕ) → s * side-size places + side-size places ≤ length regions → getD regions (s * side-size places) 0 ≤ places → length (edges-of regions s) ≡ getD regions (s * side-size places) 0
+length-edges-of regions s h k = length-take-le (getD regions (s * side-size places) 0) (drop (s * side-size places + 1) regions) (let q = length-drop (s * side-size places + 1) regions in omega (arith, q, h, k))
 
-pub sides-at : (regions : List ℕ) (i x s s' a b : ℕ) → StandsOn regions i x s → s' ≡ across s → a ≡ getD regions (s' * 17) 0 → b ≡ getD regions (s * 17) 0 → SidesAt regions i x (s' * 17 + 1) a (s * 17 + 1) (a + b)
+pub sides-at : (regions : List ℕ) (i x s s' a b : ℕ) → StandsOn regions i x s → s' ≡ across s → a ≡ getD regions (s' * side-size places) 0 → b ≡ getD regions (s * side-size places) 0 → SidesAt regions i x (s' * side-size places + 1) a (s * side-size places + 1) (a + b)
 sides-at regions i x s s' a b d e p q =
     record {
-      opposite-is = d .opposite-is ∙ ap (edges-of regions) (sym e) ∙ ap (λ (k : ℕ). take k (drop (s' * 17 + 1) regions)) (sym p);
-      own-is = d .own-is ∙ ap (λ (k : ℕ). take k (drop (s * 17 + 1) regions)) (sym q ∙ (let r : b ≡ a + b - a = omega arith in r));
+      opposite-is = d .opposite-is ∙ ap (edges-of regions) (sym e) ∙ ap (λ (k : ℕ). take k (drop (s' * side-size places + 1) regions)) (sym p);
+      own-is = d .own-is ∙ ap (λ (k : ℕ). take k (drop (s * side-size places + 1) regions)) (sym q ∙ (let r : b ≡ a + b - a = omega arith in r));
       opposite-fits = (let r = fits' in let k = few' in omega (arith, r, k, p));
       own-fits = (let r = d .own-fits in let k = d .own-few in omega (arith, r, k, q));
       in-order = omega arith;
       few = (let k = few' in let l = d .own-few in omega (arith, k, l, p, q));
-      count = ap (λ (n : ℕ). n + b) p ∙ ap (λ (n : ℕ). getD regions (s' * 17) 0 + n) q ∙ sym (ap (λ (n : ℕ). n + length (own-side (constraint (the-graph regions) i) x)) (ap length (d .opposite-is) ∙ ap (λ (k : ℕ). length (edges-of regions k)) (sym e) ∙ length-edges-of regions s' fits' few')
-          ∙ ap (λ (n : ℕ). getD regions (s' * 17) 0 + n) (ap length (d .own-is) ∙ length-edges-of regions s (d .own-fits) (d .own-few)));
+      count = ap (λ (n : ℕ). n + b) p ∙ ap (λ (n : ℕ). getD regions (s' * side-size places) 0 + n) q ∙ sym (ap (λ (n : ℕ). n + length (own-side (constraint (the-graph regions) i) x)) (ap length (d .opposite-is) ∙ ap (λ (k : ℕ). length (edges-of regions k)) (sym e) ∙ length-edges-of regions s' fits' few')
+          ∙ ap (λ (n : ℕ). getD regions (s' * side-size places) 0 + n) (ap length (d .own-is) ∙ length-edges-of regions s (d .own-fits) (d .own-few)));
     }
   where
-    fits' : s' * 17 + 17 ≤ length regions
-    fits' = subst (λ (k : ℕ). k * 17 + 17 ≤ length regions) (sym e) (d .opposite-fits)
+    fits' : s' * side-size places + side-size places ≤ length regions
+    fits' = subst (λ (k : ℕ). k * side-size places + side-size places ≤ length regions) (sym e) (d .opposite-fits)
 
-    few' : getD regions (s' * 17) 0 ≤ 16
-    few' = subst (λ (k : ℕ). getD regions (k * 17) 0 ≤ 16) (sym e) (d .opposite-few)
+    few' : getD regions (s' * side-size places) 0 ≤ places
+    few' = subst (λ (k : ℕ). getD regions (k * side-size places) 0 ≤ places) (sym e) (d .opposite-few)
 
 opposite-long : (regions : List ℕ) (i x a b b' total : ℕ) → SidesAt regions i x a b b' total → length (opposite-side (constraint (the-graph regions) i) x) ≡ b
 opposite-long regions i x a b b' total l = ap length (l .opposite-is) ∙ length-take-le b (drop a regions) (let q = length-drop a regions in let r = l .opposite-fits in omega (arith, q, r))
@@ -125,7 +125,7 @@ module _ (regions incident own : List ℕ) (i x a b b' total c j y : ℕ) (table
   k = constraint (the-graph regions) i
 
   abbrev Partner : ℕ → Type 0
-  Partner r = (r < 512) × T (holds k (r / 2)) × (decoded r ≡ getD (both-signed k x (eqb (c % 2) 1)) j (decoded 0))
+  Partner r = (r < changes) × T (holds k (r / 2)) × (decoded r ≡ getD (both-signed k x (eqb (c % 2) 1)) j (decoded 0))
 
   partner : (r : ℕ) → r < 2 → j < total → y ≡ getD (both-sides k x) j 0 → (y, eqb r 1) ≡ getD (both-signed k x (eqb (c % 2) 1)) j (decoded 0) → Partner (y * 2 + r)
   partner r h h' e q =

@@ -1,4 +1,4 @@
--- What is kept from round to round: a search never leaves the part of its start, so that a move touches the results of its own part alone.
+-- What is kept from round to round: a search never leaves the component of its start, so that a move touches the results of its own component alone.
 -- Assumes nothing.
 use mathlib.Core.Logic.{_≢_, inl, inr}
 use mathlib.Core.Path.{_≡_, refl, sym, ap, subst, _∙_}
@@ -15,9 +15,10 @@ use Rattle.counts.specs.Move.{Change, Joined, same, next, edges, is-allo
 use Rattle.counts.specs.Cost.{CostModel, Local}
 use Rattle.counts.specs.Search.{State, run}
 use Rattle.counts.specs.Round.{Found, find-move}
-use Rattle.counts.specs.inner.Tables.{the-graph, decoded, encoded, path-of, cost-in, allowed-in, no-constraint, Tables}
+use Rattle.counts.specs.inner.Tables.{the-graph, decoded, encoded, path-of, cost-in, allowed-in, no-constraint, Tables, changes, path-size}
 use Rattle.counts.specs.inner.Components.{At, Labels, Outside, Refreshed}
 use Rattle.counts.specs.inner.RoundContract.{CanApply, Result, Ready, search-of, nothing-searched}
+use Rattle.counts.specs.Accept.{max-edges}
 use Rattle.counts.proofs.check.Accepted.{Accepted}
 use Rattle.counts.proofs.augment.Applying.{apply-length, apply-other}
 use Rattle.base.proofs.BoolLaws.{by-cases, clash, or-split, or-left, or-right, eq→eqb}
@@ -38,7 +39,7 @@ held-at regions incident own tables i x h = elim (two-places regions incident ow
   | inr p ↦ inr (first-there, p .0)
 ]
   where
-    low : x < 256
+    low : x < max-edges
     low = tables .few i x h
 
     first-there : getD incident (x * 2) 0 < no-constraint
@@ -59,25 +60,25 @@ module _ (regions incident own labels : List ℕ) (n : ℕ) (tables : Tables reg
   joined-label l x y (same _) = refl
   joined-label l x z (next _ y _ j m s) = let k = link (the-graph regions) y z s in joined-label l x y j ∙ same-label (k .0) y z (k .1) (k .2)
 
-  -- ---- results outside of one part
+  -- ---- results outside of one component
 
-  module _ (part : ℕ) (costs costs' : List Float) (allowed allowed' : List Bool)
-      (same-cost : (k : ℕ) → Outside n labels part (k / 2) → getD costs' k nan ≡ getD costs k nan)
-      (same-allowed : (k : ℕ) → Outside n labels part (k / 2) → getD allowed' k false ≡ getD allowed k false) where
+  module _ (component : ℕ) (costs costs' : List Float) (allowed allowed' : List Bool)
+      (same-cost : (k : ℕ) → Outside n labels component (k / 2) → getD costs' k nan ≡ getD costs k nan)
+      (same-allowed : (k : ℕ) → Outside n labels component (k / 2) → getD allowed' k false ≡ getD allowed k false) where
     abbrev untouched : ℕ → Bool
-    untouched y = not (ltb y n) || not (eqb (getD labels y 0) part)
+    untouched y = not (ltb y n) || not (eqb (getD labels y 0) component)
 
-    out : (y : ℕ) → T (untouched y) → Outside n labels part y
-    out y t l q = elim (or-split (not (ltb y n)) (not (eqb (getD labels y 0) part)) t) [
+    out : (y : ℕ) → T (untouched y) → Outside n labels component y
+    out y t l q = elim (or-split (not (ltb y n)) (not (eqb (getD labels y 0) component)) t) [
       | inl u ↦ clash (ltb y n) (lt→ltb y n l) u
-      | inr u ↦ clash (eqb (getD labels y 0) part) (eq→eqb (getD labels y 0) part q) u
+      | inr u ↦ clash (eqb (getD labels y 0) component) (eq→eqb (getD labels y 0) component q) u
     ]
 
-    back : (y : ℕ) → Outside n labels part y → T (untouched y)
+    back : (y : ℕ) → Outside n labels component y → T (untouched y)
     back y o =
         by-cases (ltb y n)
-        (λ t. or-right (not (ltb y n)) (not (eqb (getD labels y 0) part)) (not-T (eqb (getD labels y 0) part) (λ u. o (ltb→lt y n t) (eqb→eq (getD labels y 0) part u))))
-        (λ t. or-left (not (ltb y n)) (not (eqb (getD labels y 0) part)) t)
+        (λ t. or-right (not (ltb y n)) (not (eqb (getD labels y 0) component)) (not-T (eqb (getD labels y 0) component) (λ u. o (ltb→lt y n t) (eqb→eq (getD labels y 0) component u))))
+        (λ t. or-left (not (ltb y n)) (not (eqb (getD labels y 0) component)) t)
 
     closed : (i x y : ℕ) → T (holds (constraint (the-graph regions) i) x) → T (holds (constraint (the-graph regions) i) y) → T (untouched x) → T (untouched y)
     closed i x y hx hy u = back y (λ l q. out x u (ltb→lt x n (ok .constraint-ok i .inside x hx)) (same-label i x y hx hy ∙ q))
@@ -86,13 +87,13 @@ module _ (regions incident own labels : List ℕ) (n : ℕ) (tables : Tables reg
     half y true = omega arith
     half y false = omega arith
 
-    pub cost-same : (y : ℕ) (s : Bool) → Outside n labels part y → cost-in costs' y s ≡ cost-in costs y s
-    cost-same y s o = same-cost (encoded y s) (subst (λ (k : ℕ). Outside n labels part k) (sym (half y s)) o)
+    pub cost-same : (y : ℕ) (s : Bool) → Outside n labels component y → cost-in costs' y s ≡ cost-in costs y s
+    cost-same y s o = same-cost (encoded y s) (subst (λ (k : ℕ). Outside n labels component k) (sym (half y s)) o)
 
-    pub may-same : (y : ℕ) (s : Bool) → Outside n labels part y → allowed-in allowed' y s ≡ allowed-in allowed y s
-    may-same y s o = same-allowed (encoded y s) (subst (λ (k : ℕ). Outside n labels part k) (sym (half y s)) o)
+    pub may-same : (y : ℕ) (s : Bool) → Outside n labels component y → allowed-in allowed' y s ≡ allowed-in allowed y s
+    may-same y s o = same-allowed (encoded y s) (subst (λ (k : ℕ). Outside n labels component k) (sym (half y s)) o)
 
-    pub search-same : (limit c : ℕ) → Outside n labels part (c / 2) → search-of regions costs allowed limit c ≡ search-of regions costs' allowed' limit c
+    pub search-same : (limit c : ℕ) → Outside n labels component (c / 2) → search-of regions costs allowed limit c ≡ search-of regions costs' allowed' limit c
     unfolding search-of
     search-same limit c o =
         let s = eqb (c % 2) 1 in
@@ -101,12 +102,12 @@ module _ (regions incident own labels : List ℕ) (n : ℕ) (tables : Tables reg
         (run-same (the-graph regions) (cost-in costs) (cost-in costs') (allowed-in allowed) (allowed-in allowed') limit (c / 2) s untouched closed
         (λ y t u. sym (cost-same y t (out y u))) (λ y t u. sym (may-same y t (out y u))) (back (c / 2) o))
 
--- ---- the move found touches one part
+-- ---- the move found touches one component
 
-pub one-part : (regions incident own labels counts : List ℕ) (model : CostModel) (limit : ℕ) → Tables regions incident own → (ok : Accepted (length counts) (the-graph regions)) → Labels (length counts) incident labels
+pub one-component : (regions incident own labels counts : List ℕ) (model : CostModel) (limit : ℕ) → Tables regions incident own → (ok : Accepted (length counts) (the-graph regions)) → Labels (length counts) incident labels
     → (z w : Change) → In z (find-move (the-graph regions) model counts limit .best) → In w (find-move (the-graph regions) model counts limit .best)
     → getD labels (z .0) 0 ≡ getD labels (w .0) 0
-one-part regions incident own labels counts model limit tables ok lab z w iz iw = go (found (the-graph regions) counts ok model limit)
+one-component regions incident own labels counts model limit tables ok lab z w iz iw = go (found (the-graph regions) counts ok model limit)
   where
     b : Found
     b = find-move (the-graph regions) model counts limit
@@ -119,16 +120,16 @@ one-part regions incident own labels counts model limit tables ok lab z w iz iw 
 
 -- ---- the tables after a move
 
-module _ (regions incident own labels counts after : List ℕ) (model : CostModel) (limit part : ℕ) (costs costs' : List Float) (allowed allowed' : List Bool) (kept : List Float) (cut known known' : List Bool) (r : List Change)
+module _ (regions incident own labels counts after : List ℕ) (model : CostModel) (limit component : ℕ) (costs costs' : List Float) (allowed allowed' : List Bool) (kept : List Float) (cut known known' : List Bool) (r : List Change)
     (local : Local model) (tables : Tables regions incident own) (ok : Accepted (length counts) (the-graph regions)) (lab : Labels (length counts) incident labels)
     (ready : Ready regions model limit counts costs allowed kept cut known) (made : after ≡ apply-changes r counts)
-    (touched : (z : Change) → In z r → getD labels (z .0) 0 ≡ part) (fresh : Refreshed (length counts) labels part after model costs allowed known costs' allowed' known') where
+    (touched : (z : Change) → In z r → getD labels (z .0) 0 ≡ component) (fresh : Refreshed (length counts) labels component after model costs allowed known costs' allowed' known') where
   in-change : (x : ℕ) (l : List Change) → In x (edges l) → (z : Change) × In z l × (x ≡ z .0)
   in-change x [] i = absurd i
   in-change x (z ∷ l) (inl e) = (z, inl refl, e)
   in-change x (z ∷ l) (inr i) = let k = in-change x l i in (k .0, inr (k .1), k .2)
 
-  count-same : (y : ℕ) → getD labels y 0 ≢ part → getD after y 0 ≡ getD counts y 0
+  count-same : (y : ℕ) → getD labels y 0 ≢ component → getD after y 0 ≡ getD counts y 0
   count-same y n =
       ap (λ (l : List ℕ). getD l y 0) made
       ∙ apply-other r counts y (not-T (member y (edges r)) (λ t. let k = in-change y r (member→in y (edges r) t) in n (ap (λ (x : ℕ). getD labels x 0) (k .2) ∙ touched (k .0) (k .1))))
@@ -138,25 +139,25 @@ module _ (regions incident own labels counts after : List ℕ) (model : CostMode
 
   cost-now : (y : ℕ) (s : Bool) → y < length after → cost-in costs' y s ≡ model after y s
   cost-now y s h =
-      by-cases (eqb (getD labels y 0) part) (λ t. entry-cost after model costs' allowed' y s (fresh .fresh y (inside y h) (eqb→eq (getD labels y 0) part t)))
-      (λ t. let n : getD labels y 0 ≢ part = λ q. clash (eqb (getD labels y 0) part) (eq→eqb (getD labels y 0) part q) t in
-      cost-same regions incident own labels (length counts) tables ok lab part costs costs' allowed allowed' (fresh .same-cost) (fresh .same-allowed) y s (λ l. n)
+      by-cases (eqb (getD labels y 0) component) (λ t. entry-cost after model costs' allowed' y s (fresh .fresh y (inside y h) (eqb→eq (getD labels y 0) component t)))
+      (λ t. let n : getD labels y 0 ≢ component = λ q. clash (eqb (getD labels y 0) component) (eq→eqb (getD labels y 0) component q) t in
+      cost-same regions incident own labels (length counts) tables ok lab component costs costs' allowed allowed' (fresh .same-cost) (fresh .same-allowed) y s (λ l. n)
       ∙ ready .priced .cost-is y s (inside y h)
       ∙ sym (local counts after y s (count-same y n)))
 
   may-now : (y : ℕ) (s : Bool) → y < length after → allowed-in allowed' y s ≡ is-allowed after y s
   may-now y s h =
-      by-cases (eqb (getD labels y 0) part) (λ t. entry-allowed after model costs' allowed' y s (fresh .fresh y (inside y h) (eqb→eq (getD labels y 0) part t)))
-      (λ t. let n : getD labels y 0 ≢ part = λ q. clash (eqb (getD labels y 0) part) (eq→eqb (getD labels y 0) part q) t in
-      may-same regions incident own labels (length counts) tables ok lab part costs costs' allowed allowed' (fresh .same-cost) (fresh .same-allowed) y s (λ l. n)
+      by-cases (eqb (getD labels y 0) component) (λ t. entry-allowed after model costs' allowed' y s (fresh .fresh y (inside y h) (eqb→eq (getD labels y 0) component t)))
+      (λ t. let n : getD labels y 0 ≢ component = λ q. clash (eqb (getD labels y 0) component) (eq→eqb (getD labels y 0) component q) t in
+      may-same regions incident own labels (length counts) tables ok lab component costs costs' allowed allowed' (fresh .same-cost) (fresh .same-allowed) y s (λ l. n)
       ∙ ready .priced .allowed-is y s (inside y h)
       ∙ ap (λ (k : ℕ). s || ltb 0 k) (sym (count-same y n)))
 
-  still-right : (c : ℕ) → c < 512 → getD known' c false ≡ true → Result regions costs' allowed' limit c kept cut
+  still-right : (c : ℕ) → c < changes → getD known' c false ≡ true → Result regions costs' allowed' limit c kept cut
   still-right c h q =
       let k = fresh .still-known c q in
       let old = ready .remembered .right c h (k .1) in
-      let e = search-same regions incident own labels (length counts) tables ok lab part costs costs' allowed allowed' (fresh .same-cost) (fresh .same-allowed) limit c (k .0) in
+      let e = search-same regions incident own labels (length counts) tables ok lab component costs costs' allowed allowed' (fresh .same-cost) (fresh .same-allowed) limit c (k .0) in
       record { kept-is = old .kept-is ∙ ap (λ (st : State). st .kept) e; cut-is = old .cut-is ∙ ap (λ (st : State). st .cut) e }
 
   pub ready-again : Ready regions model limit after costs' allowed' kept cut known'
@@ -172,7 +173,7 @@ module _ (regions incident own labels counts after : List ℕ) (model : CostMode
             };
       }
 
--- what the code refreshes is the part of the move's first change
+-- what the code refreshes is the component of the move's first change
 pub refreshed-by : (labels counts after : List ℕ) (model : CostModel) (costs costs' : List Float) (allowed allowed' known known' : List Bool) (r : List Change) (c d : ℕ) → after ≡ apply-changes r counts → c ≡ d
     → Refreshed (length after) labels (getD labels (c / 2) 0) after model costs allowed known costs' allowed' known' → Refreshed (length counts) labels (getD labels (d / 2) 0) after model costs allowed known costs' allowed' known'
 refreshed-by labels counts after model costs costs' allowed allowed' known known' r c d made q f =
@@ -180,5 +181,5 @@ refreshed-by labels counts after model costs costs' allowed allowed' known known
     (subst (λ (k : ℕ). Refreshed (length after) labels (getD labels (k / 2) 0) after model costs allowed known costs' allowed' known') q f)
 
 -- the edge of the first change
-pub first-below : (counts best : List ℕ) (len : ℕ) → CanApply counts (path-of len best) → 0 < len → length best ≡ 257 → getD best 0 0 / 2 < length counts
+pub first-below : (counts best : List ℕ) (len : ℕ) → CanApply counts (path-of len best) → 0 < len → length best ≡ path-size → getD best 0 0 / 2 < length counts
 first-below counts best len can h l = can .below (decoded (getD best 0 0)) (start-in best len (omega (arith, h)) (omega (arith, l)))

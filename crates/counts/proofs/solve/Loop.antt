@@ -17,7 +17,7 @@ use Rattle.counts.specs.Cost.{CostModel, Local}
 use Rattle.counts.specs.Round.{Found, find-move, Solved, solve-by, solve-from, max-moves}
 use Rattle.counts.specs.Accept.{regions-test}
 use Rattle.counts.specs.Solver.{made, round-of, round-made, round-by}
-use Rattle.counts.specs.inner.Tables.{the-graph, decoded, path-of, Tables}
+use Rattle.counts.specs.inner.Tables.{the-graph, decoded, path-of, Tables, path-size}
 use Rattle.counts.specs.inner.Components.{Labels, Refreshed}
 use Rattle.counts.specs.inner.RoundContract.{Buffers, RoundInput, CanApply, Priced, Ready, FoundIn, found-of, solved-of}
 use Rattle.counts.specs.declared.answer.RoundAnswer.the-variants.{Moved, Idle}
@@ -25,7 +25,7 @@ use Rattle.counts.specs.declared.augment.FoundMove.{FoundMove}
 use Rattle.counts.proofs.augment.Applying.{apply-length}
 use Rattle.base.proofs.BoolLaws.{by-cases, or-split}
 use Rattle.counts.proofs.augment.Finding.{by-tables, can-apply, tested-ok}
-use Rattle.counts.proofs.solve.Keeping.{ready-again, one-part}
+use Rattle.counts.proofs.solve.Keeping.{ready-again, one-component}
 use Rattle.counts.proofs.Makes.{makes-apply}
 use Rattle.counts.proofs.search.Places.{start-in}
 use Rattle.counts.proofs.Solving.{getD-zeros}
@@ -36,7 +36,7 @@ path-none : (n : ℕ) (best : List ℕ) → n ≡ 0 → path-of n best ≡ []
 path-none n best e = ap (λ (k : ℕ). path-of k best) e
 
 -- a buffer that holds a change
-path-some : (n : ℕ) (best : List ℕ) → n ≢ 0 → length best ≡ 257 → (z : Change) × (r : List Change) × (path-of n best ≡ z ∷ r)
+path-some : (n : ℕ) (best : List ℕ) → n ≢ 0 → length best ≡ path-size → (z : Change) × (r : List Change) × (path-of n best ≡ z ∷ r)
 path-some zero best h l = absurd (h refl)
 path-some (suc n) [] h l = absurd (omega arith)
 path-some (suc n) (c ∷ best) h l = (_, _, refl)
@@ -45,7 +45,7 @@ module _ (r : FoundMove) (best : List ℕ) (b : Found) (is : found-of r best ≡
   pub found-none : len ≡ 0 → b .best ≡ []
   found-none e = sym (ap (λ (f : Found). f .best) is) ∙ path-none (r .len) best (sym same ∙ e)
 
-  pub found-some : len ≢ 0 → length best ≡ 257 → (z : Change) × (l : List Change) × (b .best ≡ z ∷ l)
+  pub found-some : len ≢ 0 → length best ≡ path-size → (z : Change) × (l : List Change) × (b .best ≡ z ∷ l)
   found-some n h =
       let s = path-some (r .len) best (λ e. n (same ∙ e)) h in (s .0, s .1, sym (ap (λ (f : Found). f .best) is) ∙ s .2)
 
@@ -60,7 +60,7 @@ module _ (r : FoundMove) (best : List ℕ) (b : Found) (is : found-of r best ≡
       ap (λ (l : List Change). round-made (r .cut) l (r .kept) counts) (sym (path-none (r .len) best (sym same ∙ e)))
       ∙ ap (λ (f : Found). round-by f counts) is
 
-  pub round-moved : (counts after : List ℕ) → len ≢ 0 → length best ≡ 257 → after ≡ apply-changes (path-of len best) counts
+  pub round-moved : (counts after : List ℕ) → len ≢ 0 → length best ≡ path-size → after ≡ apply-changes (path-of len best) counts
       → round-of (Moved (r .kept) (r .cut)) after ≡ round-by b counts
   unfolding round-of
   round-moved counts after n h e =
@@ -192,8 +192,8 @@ move-is regions model counts limit costs allowed used path best kept cut known r
     f .answer ∙ by-tables regions model counts limit costs allowed (tested-ok regions counts t) p
 
 pub move-can : (regions : List ℕ) (model : CostModel) (counts : List ℕ) (limit : ℕ) (r : FoundMove) (best : List ℕ) (len : ℕ) → RoundInput regions counts
-    → found-of r best ≡ round-at regions model counts limit → len ≡ r .len → r .len ≤ 257 → length best ≡ 257
-    → CanApply counts (path-of len best) × (len ≤ 257) × (length best ≡ 257)
+    → found-of r best ≡ round-at regions model counts limit → len ≡ r .len → r .len ≤ path-size → length best ≡ path-size
+    → CanApply counts (path-of len best) × (len ≤ path-size) × (length best ≡ path-size)
 move-can regions model counts limit r best len t is same h l = (
   subst (λ (m : List Change). CanApply counts m) (sym (best-path r best (round-at regions model counts limit) is len same))
       (can-apply (the-graph regions) model counts limit (tested-ok regions counts t) (t .small)),
@@ -221,4 +221,4 @@ stays-ready regions incident own labels model limit start counts after costs cos
     let first : In (decoded (getD best 0 0)) (round-at regions model counts limit .best) = subst (λ (m : List Change). In (decoded (getD best 0 0)) m) (best-path r best (round-at regions model counts limit) is len same) b in
     ready-again regions incident own labels counts after model limit (getD labels (getD best 0 0 / 2) 0) costs costs' allowed allowed' kept cut known known' (round-at regions model counts limit .best) local tables ok l
     (record { priced = p; remembered = f .remembered }) (move-made regions model counts after limit r best len is same now)
-    (λ z i. one-part regions incident own labels counts model limit tables ok l z (decoded (getD best 0 0)) i first) fresh
+    (λ z i. one-component regions incident own labels counts model limit tables ok l z (decoded (getD best 0 0)) i first) fresh

@@ -1,4 +1,4 @@
--- The parts of the farm: what labels of edges say, how they are made, and what a move touches of the tables (inner contracts of src/parts.rt).
+-- The components of the farm: what labels of edges say, how they are made, and what a move touches of the tables (inner contracts of src/parts.rt).
 -- Assumes nothing.
 use mathlib.Core.Logic.{_≢_, _⊎_}
 use mathlib.Core.Path.{_≡_}
@@ -9,7 +9,7 @@ use lib.ListN.{length, getD}
 use lib.Dec.{eqb, ltb}
 use lib.Ieee.{Float, nan}
 use Rattle.counts.specs.Cost.{CostModel}
-use Rattle.counts.specs.inner.Tables.{set-both, Entries, no-constraint}
+use Rattle.counts.specs.inner.Tables.{set-both, Entries, no-constraint, max-constraints, changes}
 
 -- ---- labels
 
@@ -27,8 +27,8 @@ renamed from to l = cond (eqb l from) to l
 
 -- marks of constraints that were equal still are
 pub record StillEqual (marks marks' : List ℕ) : Type 0 where
-  pub long : length marks' ≡ 256
-  pub equal : (i j : ℕ) → i < 256 → j < 256 → getD marks i 0 ≡ getD marks j 0 → getD marks' i 0 ≡ getD marks' j 0
+  pub long : length marks' ≡ max-constraints
+  pub equal : (i j : ℕ) → i < max-constraints → j < max-constraints → getD marks i 0 ≡ getD marks j 0 → getD marks' i 0 ≡ getD marks' j 0
 
 -- the two constraints of edge x, if it has two, have one mark
 abbrev pub OneMark : List ℕ → List ℕ → ℕ → Type 0
@@ -44,21 +44,21 @@ Taken incident marks labels x = getD incident (x * 2) 0 < no-constraint → getD
 
 -- edge y is not among the first m that have this label
 abbrev pub Outside : ℕ → List ℕ → ℕ → ℕ → Type 0
-Outside m labels part y = y < m → getD labels y 0 ≢ part
+Outside m labels component y = y < m → getD labels y 0 ≢ component
 
 -- edge e has new entries, by what its changes cost now, and its starts are forgotten, if its label is this one
 abbrev pub EdgeRefreshed : ℕ → ℕ → ℕ → (Bool → Float) → ℕ → List Float → List Bool → List Bool → List Float → List Bool → List Bool → Type 0
-EdgeRefreshed label part s price e costs allowed known costs' allowed' known' =
-    ((label ≢ part) × (costs' ≡ costs) × (allowed' ≡ allowed) × (known' ≡ known))
-    ⊎ ((label ≡ part) × (costs' ≡ set-both costs e (price true) (price false)) × (allowed' ≡ set-both allowed e true (ltb 0 s))
+EdgeRefreshed label component s price e costs allowed known costs' allowed' known' =
+    ((label ≢ component) × (costs' ≡ costs) × (allowed' ≡ allowed) × (known' ≡ known))
+    ⊎ ((label ≡ component) × (costs' ≡ set-both costs e (price true) (price false)) × (allowed' ≡ set-both allowed e true (ltb 0 s))
     × (known' ≡ set-both known e false false))
 
 -- the first m edges that have this label have the entries of these counts, and their starts are forgotten; all else is as it was
-pub record Refreshed (m : ℕ) (labels : List ℕ) (part : ℕ) (counts : List ℕ) (model : CostModel) (costs : List Float) (allowed known : List Bool) (costs' : List Float) (allowed' known' : List Bool) : Type 0 where
-  pub costs-long : length costs' ≡ 512
-  pub allowed-long : length allowed' ≡ 512
-  pub known-long : length known' ≡ 512
-  pub fresh : (y : ℕ) → y < m → getD labels y 0 ≡ part → Entries counts model costs' allowed' y
-  pub same-cost : (k : ℕ) → Outside m labels part (k / 2) → getD costs' k nan ≡ getD costs k nan
-  pub same-allowed : (k : ℕ) → Outside m labels part (k / 2) → getD allowed' k false ≡ getD allowed k false
-  pub still-known : (k : ℕ) → getD known' k false ≡ true → Outside m labels part (k / 2) × (getD known k false ≡ true)
+pub record Refreshed (m : ℕ) (labels : List ℕ) (component : ℕ) (counts : List ℕ) (model : CostModel) (costs : List Float) (allowed known : List Bool) (costs' : List Float) (allowed' known' : List Bool) : Type 0 where
+  pub costs-long : length costs' ≡ changes
+  pub allowed-long : length allowed' ≡ changes
+  pub known-long : length known' ≡ changes
+  pub fresh : (y : ℕ) → y < m → getD labels y 0 ≡ component → Entries counts model costs' allowed' y
+  pub same-cost : (k : ℕ) → Outside m labels component (k / 2) → getD costs' k nan ≡ getD costs k nan
+  pub same-allowed : (k : ℕ) → Outside m labels component (k / 2) → getD allowed' k false ≡ getD allowed k false
+  pub still-known : (k : ℕ) → getD known' k false ≡ true → Outside m labels component (k / 2) × (getD known k false ≡ true)

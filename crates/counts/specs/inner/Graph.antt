@@ -9,9 +9,9 @@ use lib.Dec.{T, eqb}
 use Rattle.base.specs.Lists.{member, Distinct}
 use Rattle.base.specs.declared.verdict.Verdict.{Verdict}
 use Rattle.base.specs.Refusal.{is-passed}
-use Rattle.counts.specs.Region.{Constraint, places, region-count, constraint, incidence}
+use Rattle.counts.specs.Region.{Constraint, places, region-count, constraint, incidence, side-size}
 use Rattle.counts.specs.Accept.{max-regions, max-edges, overused-test}
-use Rattle.counts.specs.inner.Tables.{the-graph, no-constraint, edges-of, Tables}
+use Rattle.counts.specs.inner.Tables.{the-graph, no-constraint, edges-of, Tables, max-sides, edge-places}
 
 abbrev pub first-side : ℕ → ℕ
 first-side i = i / 2 * 4 + i % 2
@@ -23,9 +23,9 @@ second-side i = first-side i + 2
 
 -- of side s: it is there, its number of edges fits, its edges are distinct and each has its places
 pub record SideTested (regions : List ℕ) (s : ℕ) : Type 0 where
-  pub numbered : s < 512
-  pub fits : s * 17 + 17 ≤ length regions
-  pub few : getD regions (s * 17) 0 ≤ places
+  pub numbered : s < max-sides
+  pub fits : s * side-size places + side-size places ≤ length regions
+  pub few : getD regions (s * side-size places) 0 ≤ places
   pub inside : (y : ℕ) → T (member y (edges-of regions s)) → y < max-edges
   pub once : Distinct (edges-of regions s)
 
@@ -42,20 +42,20 @@ pub record Tested (regions : List ℕ) : Type 0 where
 -- ---- what stands in the tables: `uses` has the number of constraints of each edge
 
 pub record Sized (incident own uses : List ℕ) : Type 0 where
-  pub incident-size : length incident ≡ 512
-  pub own-size : length own ≡ 512
-  pub uses-size : length uses ≡ 256
+  pub incident-size : length incident ≡ edge-places
+  pub own-size : length own ≡ edge-places
+  pub uses-size : length uses ≡ max-edges
 
 -- The edges of l, which stand on side s of constraint i, are put into the tables: each counts one use more, and i and s stand at its place
 -- with the number of its uses before, if that is below 2. All else is as it was.
 pub record Placed (i s : ℕ) (l incident own uses incident' own' uses' : List ℕ) : Type 0 where
   pub sized : Sized incident' own' uses'
-  pub counted : (y : ℕ) → y < 256 → getD uses' y 0 ≡ getD uses y 0 + cond (member y l) 1 0
+  pub counted : (y : ℕ) → y < max-edges → getD uses' y 0 ≡ getD uses y 0 + cond (member y l) 1 0
   pub incident-at :
-      (y k : ℕ) → y < 256 → k < 2
+      (y k : ℕ) → y < max-edges → k < 2
       → getD incident' (y * 2 + k) 0 ≡ cond (member y l && eqb (getD uses y 0) k) i (getD incident (y * 2 + k) 0)
   pub own-at :
-      (y k : ℕ) → y < 256 → k < 2 → getD own' (y * 2 + k) 0 ≡ cond (member y l && eqb (getD uses y 0) k) s (getD own (y * 2 + k) 0)
+      (y k : ℕ) → y < max-edges → k < 2 → getD own' (y * 2 + k) 0 ≡ cond (member y l && eqb (getD uses y 0) k) s (getD own (y * 2 + k) 0)
 
 -- the side of constraint i on which y stands
 abbrev pub side-of : List Constraint → ℕ → ℕ → ℕ
@@ -64,14 +64,14 @@ side-of g y i = first-side i + cond (member y (constraint g i .a)) 0 2
 -- the tables hold the constraints `placed`, the first ones of g
 pub record Filled (g placed : List Constraint) (incident own uses : List ℕ) : Type 0 where
   pub sized : Sized incident own uses
-  pub counted : (y : ℕ) → y < 256 → getD uses y 0 ≡ length (incidence placed y)
-  pub incident-is : (y k : ℕ) → y < 256 → k < 2 → getD incident (y * 2 + k) 0 ≡ getD (incidence placed y) k no-constraint
+  pub counted : (y : ℕ) → y < max-edges → getD uses y 0 ≡ length (incidence placed y)
+  pub incident-is : (y k : ℕ) → y < max-edges → k < 2 → getD incident (y * 2 + k) 0 ≡ getD (incidence placed y) k no-constraint
   pub own-is :
-      (y k : ℕ) → y < 256 → k < 2 → getD incident (y * 2 + k) 0 < no-constraint → getD own (y * 2 + k) 0 ≡ side-of g y (getD incident (y * 2 + k) 0)
+      (y k : ℕ) → y < max-edges → k < 2 → getD incident (y * 2 + k) 0 < no-constraint → getD own (y * 2 + k) 0 ≡ side-of g y (getD incident (y * 2 + k) 0)
 
 -- what `build_graph` leaves for n edges: 6's verdict, and the search's tables if that is that it passed
 pub record Built (n : ℕ) (regions incident own : List ℕ) (verdict : Verdict) : Type 0 where
   pub verdict-is : verdict ≡ overused-test (the-graph regions) 0 n
   pub tables : T (is-passed verdict) → Tables regions incident own
-  pub incident-size : length incident ≡ 512
-  pub own-size : length own ≡ 512
+  pub incident-size : length incident ≡ edge-places
+  pub own-size : length own ≡ edge-places

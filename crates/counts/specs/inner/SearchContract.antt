@@ -14,7 +14,7 @@ use Rattle.base.specs.Lists.{any, each, differs}
 use Rattle.counts.specs.Region.{Constraint, constraint, holds, own-side, opposite-side, incidence}
 use Rattle.counts.specs.Move.{Change, select}
 use Rattle.counts.specs.Search.{Go, Act, State, skip, turned-back, entered, record-path, signed, others-changed, is-used, free, try-step, visit, dfs, run}
-use Rattle.counts.specs.inner.Tables.{decoded, path-of, state-of, the-graph, cost-in, allowed-in, no-constraint, Other, Tables}
+use Rattle.counts.specs.inner.Tables.{decoded, path-of, state-of, the-graph, cost-in, allowed-in, no-constraint, Other, Tables, edge-places, changes, marks-size, path-size}
 use Rattle.counts.specs.declared.search.SearchState.{SearchState}
 use Rattle.counts.specs.declared.search.Changed.{Changed}
 use Rattle.counts.specs.declared.search.Changed.the-variants.{Nothing, One, Many}
@@ -72,10 +72,10 @@ pub record Home (g : List Constraint) (used : List Bool) (path : List ℕ) (home
 -- `dfs` is to cross the unused constraint at place p of the last of n changes
 pub record MayCross (g : List Constraint) (incident : List ℕ) (used : List Bool) (path : List ℕ) (n p home : ℕ) : Type 0 where
   pub one : 1 ≤ n
-  pub room : n + free used ≤ 257
-  pub long : length used ≡ 257
-  pub path-long : length path ≡ 257
-  pub small : p < 512
+  pub room : n + free used ≤ marks-size
+  pub long : length used ≡ marks-size
+  pub path-long : length path ≡ path-size
+  pub small : p < edge-places
   pub here : getD path (n - 1) 0 / 2 ≡ p / 2
   pub real : getD incident p 0 < no-constraint
   pub unused : is-used used (getD incident p 0) ≡ false
@@ -87,10 +87,10 @@ pub record MayCross (g : List Constraint) (incident : List ℕ) (used : List Boo
 -- `try_step` is to see whether change d can follow the last one, of edge e, through the used constraint i
 pub record MayStep (g : List Constraint) (used : List Bool) (path : List ℕ) (n e i d home : ℕ) : Type 0 where
   pub one : 1 ≤ n
-  pub room : n + 1 + free used ≤ 257
-  pub long : length used ≡ 257
-  pub path-long : length path ≡ 257
-  pub small : d < 512
+  pub room : n + 1 + free used ≤ marks-size
+  pub long : length used ≡ marks-size
+  pub path-long : length path ≡ path-size
+  pub small : d < changes
   pub through : T (holds (constraint g i) (d / 2))
   pub taken : is-used used i ≡ true
   pub new : d / 2 ≢ e → any (λ (w : Change). eqb (w .0) (d / 2)) (path-of n path) ≡ false
@@ -105,7 +105,7 @@ pub record Crossed (regions incident : List ℕ) (costs : List Float) (allowed :
   pub path-kept : take n path' ≡ take n path
   pub long-kept : length path' ≡ length path
   pub best-kept : length best' ≡ length best
-  pub short : st .len ≤ 257 → r .len ≤ 257
+  pub short : st .len ≤ path-size → r .len ≤ path-size
   pub answer : state-of r best' ≡ visit-of regions costs allowed limit (getD path 0 0) (free used) used (path-of n path) (getD path (n - 1) 0) t (getD incident p 0) (state-of st best)
 
 pub record Stepped (regions : List ℕ) (costs : List Float) (allowed : List Bool) (limit : ℕ) (used : List Bool) (path best : List ℕ) (n e i d : ℕ) (t : Float) (st : SearchState)
@@ -114,7 +114,7 @@ pub record Stepped (regions : List ℕ) (costs : List Float) (allowed : List Boo
   pub path-kept : take n path' ≡ take n path
   pub long-kept : length path' ≡ length path
   pub best-kept : length best' ≡ length best
-  pub short : st .len ≤ 257 → r .len ≤ 257
+  pub short : st .len ≤ path-size → r .len ≤ path-size
   pub answer : state-of r best' ≡ try-partner-of regions costs allowed limit (getD path 0 0) (suc (free used)) used (path-of n path) e t i (decoded d) (state-of st best)
 
 -- the entry to an edge whose constraints are all used: a step, whatever tables and marks led there
@@ -127,7 +127,7 @@ Ended costs limit path best n d t home st path' best' r =
 
 -- the marks that it starts with: no constraint is used yet, and `none` always counts as used
 unfoldable pub no-marks : List Bool
-no-marks = set (replicate 257 false) no-constraint true
+no-marks = set (replicate marks-size false) no-constraint true
 
 -- the state that it starts with
 abbrev pub fresh-state : SearchState
@@ -154,7 +154,7 @@ module _ (regions : List ℕ) (costs : List Float) (limit start : ℕ) where
 pub record Entered (regions : List ℕ) (costs : List Float) (limit start : ℕ) (path best : List ℕ) (st : SearchState) (path' best' : List ℕ) (r : SearchState) : Type 0 where
   pub path-is : path' ≡ set path 0 start
   pub best-kept : length best' ≡ length best
-  pub short : st .len ≤ 257 → r .len ≤ 257
+  pub short : st .len ≤ path-size → r .len ≤ path-size
   pub answer : state-of r best' ≡ entry-of regions costs limit start (state-of st best)
 
 pub record CrossedAll (regions : List ℕ) (costs : List Float) (allowed : List Bool) (limit start : ℕ) (used : List Bool) (path best : List ℕ) (st : SearchState)
@@ -163,13 +163,13 @@ pub record CrossedAll (regions : List ℕ) (costs : List Float) (allowed : List 
   pub path-kept : take 1 path' ≡ take 1 path
   pub long-kept : length path' ≡ length path
   pub best-kept : length best' ≡ length best
-  pub short : st .len ≤ 257 → r .len ≤ 257
+  pub short : st .len ≤ path-size → r .len ≤ path-size
   pub answer : state-of r best' ≡ crossing-of regions costs limit start allowed (state-of st best)
 
 -- both, from the fresh state
 pub record Searched (regions : List ℕ) (costs : List Float) (allowed : List Bool) (limit start : ℕ) (used' : List Bool) (path' best' : List ℕ) (r : SearchState) : Type 0 where
   pub used-kept : used' ≡ no-marks
-  pub long-kept : length path' ≡ 257
-  pub best-kept : length best' ≡ 257
-  pub short : r .len ≤ 257
+  pub long-kept : length path' ≡ path-size
+  pub best-kept : length best' ≡ path-size
+  pub short : r .len ≤ path-size
   pub answer : state-of r best' ≡ run (the-graph regions) (cost-in costs) (allowed-in allowed) limit (start / 2) (eqb (start % 2) 1)

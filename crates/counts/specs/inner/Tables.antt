@@ -10,7 +10,8 @@ use lib.ListN.{length, getD, set, take, drop}
 use lib.Dec.{eqb, ltb, T}
 use lib.Ieee.{Float, nan}
 use Rattle.base.specs.Lists.{member, any, differs}
-use Rattle.counts.specs.Region.{Constraint, places, graph, constraint, holds, own-side, opposite-side, incidence}
+use Rattle.counts.specs.Region.{Constraint, places, graph, constraint, holds, own-side, opposite-side, incidence, side-size}
+use Rattle.counts.specs.Accept.{max-regions, max-edges}
 use Rattle.counts.specs.Move.{Change, EdgeCost, select, is-allowed}
 use Rattle.counts.specs.Cost.{CostModel}
 use Rattle.counts.specs.Search.{State, Go, Act, skip, signed, others-changed, is-used, try-step, visit, dfs}
@@ -59,13 +60,38 @@ pub record Entries (counts : List ℕ) (model : CostModel) (costs : List Float) 
   pub plus-allowed : getD allowed (x * 2 + 1) false ≡ is-allowed counts x true
   pub minus-allowed : getD allowed (x * 2) false ≡ is-allowed counts x false
 
+-- ---- sizes, which follow from 01's limits (src/limits.rt)
+
+-- each region gives two constraints and has four sides
+abbrev pub max-constraints : ℕ
+max-constraints = 2 * max-regions
+
+abbrev pub max-sides : ℕ
+max-sides = 4 * max-regions
+
 -- stands for "no constraint" in a table, and is the number of a constraint that is always used
 abbrev pub no-constraint : ℕ
-no-constraint = 256
+no-constraint = max-constraints
+
+-- an edge has two places, one for each of its constraints, and two changes, +1 and -1
+abbrev pub edge-places : ℕ
+edge-places = 2 * max-edges
+
+abbrev pub changes : ℕ
+changes = 2 * max-edges
+
+-- a mark for each constraint, and one for none; a path has at most one edge more than there are constraints
+abbrev pub marks-size : ℕ
+marks-size = max-constraints + 1
+
+abbrev pub path-size : ℕ
+path-size = max-constraints + 1
+
+-- ---- what stands in the tables
 
 -- the edges of side s, sides counted over all records
 abbrev pub edges-of : List ℕ → ℕ → List ℕ
-edges-of regions s = take (getD regions (s * 17) 0) (drop (s * 17 + 1) regions)
+edges-of regions s = take (getD regions (s * side-size places) 0) (drop (s * side-size places + 1) regions)
 
 -- the side opposite s
 abbrev pub across : ℕ → ℕ
@@ -79,20 +105,20 @@ pub data Other (g : List Constraint) (y i o : ℕ) : Type 0 where
 
 -- edge x of constraint i stands on side s
 pub record StandsOn (regions : List ℕ) (i x s : ℕ) : Type 0 where
-  pub below : s < 512
+  pub below : s < max-sides
   pub own-is : own-side (constraint (the-graph regions) i) x ≡ edges-of regions s
   pub opposite-is : opposite-side (constraint (the-graph regions) i) x ≡ edges-of regions (across s)
-  pub own-fits : s * 17 + 17 ≤ length regions
-  pub opposite-fits : across s * 17 + 17 ≤ length regions
-  pub own-few : getD regions (s * 17) 0 ≤ 16
-  pub opposite-few : getD regions (across s * 17) 0 ≤ 16
+  pub own-fits : s * side-size places + side-size places ≤ length regions
+  pub opposite-fits : across s * side-size places + side-size places ≤ length regions
+  pub own-few : getD regions (s * side-size places) 0 ≤ places
+  pub opposite-few : getD regions (across s * side-size places) 0 ≤ places
   pub first : member x (constraint (the-graph regions) i .a) ≡ ltb (s % 4) 2
 
 -- The tables stand for the records: `incident` has the constraint at each place, or none, and `own` the side on which the edge stands there.
 pub record Tables (regions incident own : List ℕ) : Type 0 where
   pub parted : (i y : ℕ) → T (member y (constraint (the-graph regions) i .a)) → T (member y (constraint (the-graph regions) i .b)) → ⊥
-  pub few : (i y : ℕ) → T (holds (constraint (the-graph regions) i) y) → y < 256
-  pub numbered : (i y : ℕ) → T (holds (constraint (the-graph regions) i) y) → i < 256
-  pub incident-is : (y k : ℕ) → y < 256 → k < 2 → getD incident (y * 2 + k) 0 ≡ getD (incidence (the-graph regions) y) k no-constraint
+  pub few : (i y : ℕ) → T (holds (constraint (the-graph regions) i) y) → y < max-edges
+  pub numbered : (i y : ℕ) → T (holds (constraint (the-graph regions) i) y) → i < max-constraints
+  pub incident-is : (y k : ℕ) → y < max-edges → k < 2 → getD incident (y * 2 + k) 0 ≡ getD (incidence (the-graph regions) y) k no-constraint
   pub thin : (y : ℕ) → length (incidence (the-graph regions) y) ≤ 2
-  pub stands : (p : ℕ) → p < 512 → getD incident p 0 < no-constraint → StandsOn regions (getD incident p 0) (p / 2) (getD own p 0)
+  pub stands : (p : ℕ) → p < edge-places → getD incident p 0 < no-constraint → StandsOn regions (getD incident p 0) (p / 2) (getD own p 0)

@@ -6,6 +6,7 @@ use native.Mathlib.Omega.{arith}
 use borrow.Author.Needs.{needs}
 use mathlib.Core.Path.{_≡_, refl, sym, ap, _∙_}
 use Rattle.counts.specs.inner.RoundContract.{chosen}
+use Rattle.counts.specs.inner.Tables.{changes}
 use Rattle.counts.proofs.augment.Laws.{choose-turn, winner-fits}
 use Rattle.counts.proofs.augment.choose.Statement.{statement}
 use Rattle.counts.proofs.augment.choose.Tie as tie
@@ -13,7 +14,7 @@ use Rattle.counts.proofs.augment.choose.Reads as reads
 use Rattle.counts.proofs.augment.choose.Lts as lts
 
 abbrev Inv-loop : tie.InvT-loop
-Inv-loop kept cut n out₀ k₀ out k = (out ≡ chosen kept cut k) × (out .winner ≤ 512) × (k ≤ n * 2)
+Inv-loop kept cut n out₀ k₀ out k = (out ≡ chosen kept cut k) × (out .winner ≤ changes) × (k ≤ n * 2)
 
 abbrev μ-loop : tie.MeasureT-loop
 μ-loop kept cut n out₀ k₀ out k = n * 2 - k

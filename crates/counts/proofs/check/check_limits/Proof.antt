@@ -5,7 +5,8 @@ use denote.Ref.{now}
 use borrow.Author.Tests.{le-leb, lt-leb, eq-eqb, ne-eqb}
 use lib.ListN.{length}
 use Rattle.base.specs.Refusal.{outcome, verdict-of}
-use Rattle.counts.specs.Accept.{records-whole, limits-test}
+use Rattle.counts.specs.Accept.{records-whole, limits-test, max-regions, max-edges}
+use Rattle.counts.specs.Region.{places, record-size}
 use Rattle.counts.proofs.check.check_limits.Statement.{statement}
 use Rattle.counts.proofs.check.check_limits.Tie as tie
 
@@ -14,21 +15,21 @@ unfolding outcome verdict-of limits-test records-whole
 returns c =
     let l = now (c .before .before .args .regions) in
     let n = c .before .before .args .n in
-    simp (lt-leb n 256 (c .if1 .taken))
+    simp (lt-leb n max-edges (c .if1 .taken))
 
 returns-2 : tie.Need-returns-2
 unfolding outcome verdict-of limits-test records-whole
 returns-2 c =
     let l = now (c .before .before .before .args .regions) in
     let n = c .before .before .before .args .n in
-    simp (le-leb n 256 (c .before .if1 .left), ne-eqb (length l % 68) 0 (c .if2 .taken))
+    simp (le-leb n max-edges (c .before .if1 .left), ne-eqb (length l % record-size places) 0 (c .if2 .taken))
 
 returns-3 : tie.Need-returns-3
 unfolding outcome verdict-of limits-test records-whole
 returns-3 c =
     let l = now (c .before .before .before .before .args .regions) in
     let n = c .before .before .before .before .args .n in
-    simp (le-leb n 256 (c .before .before .if1 .left), eq-eqb (length l % 68) 0 (c .before .if2 .left), lt-leb (length l / 68) 128 (c .if3 .taken))
+    simp (le-leb n max-edges (c .before .before .if1 .left), eq-eqb (length l % record-size places) 0 (c .before .if2 .left), lt-leb (length l / record-size places) max-regions (c .if3 .taken))
 
 sides-fit-requires : tie.Need-sides-fit-requires
 sides-fit-requires c κs = search needs
@@ -38,14 +39,14 @@ unfolding outcome verdict-of limits-test records-whole
 returns-4 c =
     let l = now (c .before .before .before .before .before .before .args .regions) in
     let n = c .before .before .before .before .before .before .args .n in
-    simp (le-leb n 256 (c .before .before .before .before .if1 .left), eq-eqb (length l % 68) 0 (c .before .before .before .if2 .left), le-leb (length l / 68) 128 (c .before .before .if3 .left), ← c .before .sides-fit .ensures, c .if4 .taken)
+    simp (le-leb n max-edges (c .before .before .before .before .if1 .left), eq-eqb (length l % record-size places) 0 (c .before .before .before .if2 .left), le-leb (length l / record-size places) max-regions (c .before .before .if3 .left), ← c .before .sides-fit .ensures, c .if4 .taken)
 
 returns-5 : tie.Need-returns-5
 unfolding outcome verdict-of limits-test records-whole
 returns-5 c =
     let l = now (c .before .before .before .before .before .before .args .regions) in
     let n = c .before .before .before .before .before .before .args .n in
-    simp (le-leb n 256 (c .before .before .before .before .if1 .left), eq-eqb (length l % 68) 0 (c .before .before .before .if2 .left), le-leb (length l / 68) 128 (c .before .before .if3 .left), ← c .before .sides-fit .ensures, c .if4 .left)
+    simp (le-leb n max-edges (c .before .before .before .before .if1 .left), eq-eqb (length l % record-size places) 0 (c .before .before .before .if2 .left), le-leb (length l / record-size places) max-regions (c .before .before .if3 .left), ← c .before .sides-fit .ensures, c .if4 .left)
 
 pub check-limits-spec : {M : Type 1} → statement M
 check-limits-spec =

@@ -8,7 +8,7 @@ use denote.Ref.{now}
 use lib.ListN.{length, drop, length-drop}
 use lib.Dec.{T}
 use Rattle.base.specs.Refusal.{outcome}
-use Rattle.counts.specs.Region.{places}
+use Rattle.counts.specs.Region.{places, record-size}
 use Rattle.counts.specs.Accept.{sides-fit, region-test, pairs-test}
 use Rattle.counts.proofs.check.Laws.{whole-few, whole-sides, rest, sides-now, sides-after, pairs-turn, pairs-end}
 use Rattle.base.proofs.TestLaws.{chain-ends, chain-goes-on}
@@ -16,7 +16,7 @@ use Rattle.counts.proofs.check.check_pairs.Statement.{statement}
 use Rattle.counts.proofs.check.check_pairs.Tie as tie
 
 abbrev Inv-loop : tie.InvT-loop
-Inv-loop regions n m r₀ r = (r ≤ m) × T (sides-fit places (m - r) (drop (r * 68) regions)) × (pairs-test places n 0 m regions ≡ pairs-test places n r (m - r) (drop (r * 68) regions))
+Inv-loop regions n m r₀ r = (r ≤ m) × T (sides-fit places (m - r) (drop (r * record-size places) regions)) × (pairs-test places n 0 m regions ≡ pairs-test places n r (m - r) (drop (r * record-size places) regions))
 
 abbrev μ-loop : tie.MeasureT-loop
 μ-loop regions n m r₀ r = m - r
@@ -25,7 +25,7 @@ loop-holds : tie.Need-loop-holds Inv-loop μ-loop
 loop-holds c =
     let a = c .before .args in
     let l = now (a .regions) in
-    let m : ℕ = length l / 68 in
+    let m : ℕ = length l / record-size places in
     let e : m ≡ m - 0 = omega arith in
     (omega arith, subst (λ (k : ℕ). T (sides-fit places k l)) e (whole-sides l (c .before .pre)), ap (λ (k : ℕ). pairs-test places (a .n) 0 k l) e)
 
@@ -51,9 +51,9 @@ check-region-requires : tie.Need-check-region-requires Inv-loop μ-loop
 check-region-requires c κs =
     let a = c .before .before .before .before .args in
     let l = now (a .regions) in
-    let m : ℕ = length l / 68 in
+    let m : ℕ = length l / record-size places in
     let r = c .before .before .loop .r in
-    simp (rest (r * 68) l) (simp length-drop (omega arith), sides-now m r l (c .before .loop-test .taken) (c .before .before .loop .inv .1))
+    simp (rest (r * record-size places) l) (simp length-drop (omega arith), sides-now m r l (c .before .loop-test .taken) (c .before .before .loop .inv .1))
 
 enum-told : tie.Need-enum-told Inv-loop μ-loop
 enum-told c = search needs
@@ -62,11 +62,11 @@ returns : tie.Need-returns Inv-loop μ-loop
 returns c =
     let a = c .before .before .before .before .before .before .before .args in
     let l = now (a .regions) in
-    let m : ℕ = length l / 68 in
+    let m : ℕ = length l / record-size places in
     let r = c .before .before .before .before .before .loop .r in
-    let p : outcome (c .before .before .check-region .result) ≡ region-test places (a .n) r (drop (r * 68) l) = simp (rest (r * 68) l) at (c .before .before .check-region .ensures) in
-    let v = region-test places (a .n) r (drop (r * 68) l) in
-    let w = pairs-test places (a .n) (r + 1) (m - (r + 1)) (drop ((r + 1) * 68) l) in
+    let p : outcome (c .before .before .check-region .result) ≡ region-test places (a .n) r (drop (r * record-size places) l) = simp (rest (r * record-size places) l) at (c .before .before .check-region .ensures) in
+    let v = region-test places (a .n) r (drop (r * record-size places) l) in
+    let w = pairs-test places (a .n) (r + 1) (m - (r + 1)) (drop ((r + 1) * record-size places) l) in
     chain-ends w (c .enum-told .given .1) p
     ∙ sym (c .before .before .before .before .before .loop .inv .2 ∙ pairs-turn m r l (c .before .before .before .before .loop-test .taken) (a .n))
 
@@ -83,11 +83,11 @@ loop-again : tie.Need-loop-again Inv-loop μ-loop
 loop-again c =
     let a = c .before .before .before .before .before .before .before .args in
     let l = now (a .regions) in
-    let m : ℕ = length l / 68 in
+    let m : ℕ = length l / record-size places in
     let r = c .before .before .before .before .before .loop .r in
-    let p : outcome (c .before .before .check-region .result) ≡ region-test places (a .n) r (drop (r * 68) l) = simp (rest (r * 68) l) at (c .before .before .check-region .ensures) in
-    let v = region-test places (a .n) r (drop (r * 68) l) in
-    let w = pairs-test places (a .n) (r + 1) (m - (r + 1)) (drop ((r + 1) * 68) l) in
+    let p : outcome (c .before .before .check-region .result) ≡ region-test places (a .n) r (drop (r * record-size places) l) = simp (rest (r * record-size places) l) at (c .before .before .check-region .ensures) in
+    let v = region-test places (a .n) r (drop (r * record-size places) l) in
+    let w = pairs-test places (a .n) (r + 1) (m - (r + 1)) (drop ((r + 1) * record-size places) l) in
     (omega arith, sides-after m r l (c .before .before .before .before .loop-test .taken) (c .before .before .before .before .before .loop .inv .1), c .before .before .before .before .before .loop .inv .2 ∙ pairs-turn m r l (c .before .before .before .before .loop-test .taken) (a .n) ∙ sym (chain-goes-on (c .enum-told2 .given .1) p))
 
 returns-2 : tie.Need-returns-2 Inv-loop μ-loop
@@ -95,9 +95,9 @@ unfolding outcome
 returns-2 c =
     let a = c .before .before .before .args in
     let l = now (a .regions) in
-    let m : ℕ = length l / 68 in
+    let m : ℕ = length l / record-size places in
     let r = c .before .loop .r in
-    sym (c .before .loop .inv .2 ∙ pairs-end (a .n) m r (drop (r * 68) l) (c .loop-test .left))
+    sym (c .before .loop .inv .2 ∙ pairs-end (a .n) m r (drop (r * record-size places) l) (c .loop-test .left))
 
 pub check-pairs-spec : {M : Type 1} → statement M
 check-pairs-spec =

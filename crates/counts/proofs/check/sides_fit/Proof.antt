@@ -7,13 +7,13 @@ use denote.Ref.{now}
 use borrow.Author.Tests.{le-leb, lt-leb}
 use lib.ListN.{length, getD, drop}
 use Rattle.counts.specs.Accept.{sides-fit}
-use Rattle.counts.specs.Region.{places, region-count}
+use Rattle.counts.specs.Region.{places, region-count, side-size, record-size}
 use Rattle.counts.proofs.check.Laws.{each-fits, sides-one-by-one, fits-next, fits-not, fits-end}
 use Rattle.counts.proofs.check.sides_fit.Statement.{statement}
 use Rattle.counts.proofs.check.sides_fit.Tie as tie
 
 abbrev Inv-loop : tie.InvT-loop
-Inv-loop regions at₀ at = ((length regions - at) % 17 ≡ 0) × (sides-fit places (region-count places regions) regions ≡ each-fits ((length regions - at) / 17) (drop at regions))
+Inv-loop regions at₀ at = ((length regions - at) % side-size places ≡ 0) × (sides-fit places (region-count places regions) regions ≡ each-fits ((length regions - at) / side-size places) (drop at regions))
 
 abbrev μ-loop : tie.MeasureT-loop
 μ-loop regions at₀ at = length regions - at
@@ -21,8 +21,8 @@ abbrev μ-loop : tie.MeasureT-loop
 loop-holds : tie.Need-loop-holds Inv-loop μ-loop
 loop-holds c =
     let l = now (c .args .regions) in
-    let e : length l / 68 * 4 ≡ (length l - 0) / 17 = omega arith in
-    (omega arith, sides-one-by-one (length l / 68) l ∙ ap (λ (k : ℕ). each-fits k l) e)
+    let e : length l / record-size places * 4 ≡ (length l - 0) / side-size places = omega arith in
+    (omega arith, sides-one-by-one (length l / record-size places) l ∙ ap (λ (k : ℕ). each-fits k l) e)
 
 mul-if1 : tie.Need-mul-if1 Inv-loop μ-loop
 mul-if1 c = omega arith
@@ -34,7 +34,7 @@ returns : tie.Need-returns Inv-loop μ-loop
 returns c =
     let l = now (c .before .before .before .before .args .regions) in
     let at = c .before .before .before .loop .at in
-    sym (c .before .before .before .loop .inv .1 ∙ fits-not l at (c .before .before .loop-test .taken) (c .before .before .before .loop .inv .0) (lt-leb (getD l at 0) 16 (c .if1 .taken)))
+    sym (c .before .before .before .loop .inv .1 ∙ fits-not l at (c .before .before .loop-test .taken) (c .before .before .before .loop .inv .0) (lt-leb (getD l at 0) places (c .if1 .taken)))
 
 add-at : tie.Need-add-at Inv-loop μ-loop
 add-at c = omega arith
@@ -46,7 +46,7 @@ loop-again : tie.Need-loop-again Inv-loop μ-loop
 loop-again c =
     let l = now (c .before .before .before .before .args .regions) in
     let at = c .before .before .before .loop .at in
-    (omega arith, c .before .before .before .loop .inv .1 ∙ fits-next l at (c .before .before .loop-test .taken) (c .before .before .before .loop .inv .0) (le-leb (getD l at 0) 16 (c .if1 .left)))
+    (omega arith, c .before .before .before .loop .inv .1 ∙ fits-next l at (c .before .before .loop-test .taken) (c .before .before .before .loop .inv .0) (le-leb (getD l at 0) places (c .if1 .left)))
 
 returns-2 : tie.Need-returns-2 Inv-loop μ-loop
 returns-2 c =

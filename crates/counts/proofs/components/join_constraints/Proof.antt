@@ -1,16 +1,17 @@
--- `parts::join_constraints` meets its contract. Invariant: the constraints of the edges below e have one mark. Measure: the edges that are left.
+-- `components::join_constraints` meets its contract. Invariant: the constraints of the edges below e have one mark. Measure: the edges that are left.
 -- Assumes nothing.
 use Prim.Native.Nat.{ℕ, _-_, _≤_, _<_}
 use mathlib.Core.Path.{_≡_}
 use native.Mathlib.Omega.{arith}
 use lib.ListN.{length}
 use Rattle.counts.specs.inner.Components.{OneMark}
+use Rattle.counts.specs.inner.Tables.{max-constraints}
 use Rattle.counts.proofs.components.Laws.{join-more}
 use Rattle.counts.proofs.components.join_constraints.Statement.{statement}
 use Rattle.counts.proofs.components.join_constraints.Tie as tie
 
 abbrev Inv-loop : tie.InvT-loop
-Inv-loop incident n marks₀ e₀ marks e = (e ≤ n) × (length marks ≡ 256) × ((x : ℕ) → x < e → OneMark incident marks x)
+Inv-loop incident n marks₀ e₀ marks e = (e ≤ n) × (length marks ≡ max-constraints) × ((x : ℕ) → x < e → OneMark incident marks x)
 
 abbrev μ-loop : tie.MeasureT-loop
 μ-loop incident n marks₀ e₀ marks e = n - e

@@ -1,4 +1,4 @@
--- `parts::label_edges` meets its contract. Assumes nothing.
+-- `components::label_edges` meets its contract. Assumes nothing.
 use mathlib.Core.Path.{_≡_, refl}
 use Rattle.counts.proofs.components.Laws.{labelled}
 use Rattle.counts.proofs.components.label_edges.Statement.{statement}

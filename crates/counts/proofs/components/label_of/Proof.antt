@@ -1,4 +1,4 @@
--- `parts::label_of` meets its contract, by whether the edge is in a constraint. Assumes nothing.
+-- `components::label_of` meets its contract, by whether the edge is in a constraint. Assumes nothing.
 use Prim.Native.Nat.{ℕ}
 use mathlib.Core.Path.{_≡_, ap}
 use lib.ListN.{getD}

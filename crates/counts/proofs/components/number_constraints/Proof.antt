@@ -1,16 +1,17 @@
--- `parts::number_constraints` meets its contract. Invariant: the length. Measure: the constraints that are left. Assumes nothing.
+-- `components::number_constraints` meets its contract. Invariant: the length. Measure: the constraints that are left. Assumes nothing.
 use Prim.Native.Nat.{_-_, _≤_}
 use mathlib.Core.Path.{_≡_, _∙_}
 use native.Mathlib.Omega.{arith}
 use lib.ListN.{length, length-set}
 use Rattle.counts.proofs.components.number_constraints.Statement.{statement}
 use Rattle.counts.proofs.components.number_constraints.Tie as tie
+use Rattle.counts.specs.inner.Tables.{max-constraints}
 
 abbrev Inv-loop : tie.InvT-loop
-Inv-loop marks₀ i₀ marks i = (length marks ≡ 256) × (i ≤ 256)
+Inv-loop marks₀ i₀ marks i = (length marks ≡ max-constraints) × (i ≤ max-constraints)
 
 abbrev μ-loop : tie.MeasureT-loop
-μ-loop marks₀ i₀ marks i = 256 - i
+μ-loop marks₀ i₀ marks i = max-constraints - i
 
 loop-holds : tie.Need-loop-holds Inv-loop μ-loop
 loop-holds c = (c .pre, omega arith)

@@ -1,4 +1,4 @@
--- `parts::refresh_edge` meets its contract, by whether the edge is of the part. Assumes nothing.
+-- `components::refresh_edge` meets its contract, by whether the edge is of the component. Assumes nothing.
 use mathlib.Core.Logic.{inl, inr}
 use mathlib.Core.Path.{_≡_, refl}
 use borrow.Author.Needs.{needs}

@@ -1,20 +1,21 @@
--- `parts::rename` meets its contract. Invariant: marks below i are renamed, the others as they were. Measure: the marks that are left. Assumes nothing.
+-- `components::rename` meets its contract. Invariant: marks below i are renamed, the others as they were. Measure: the marks that are left. Assumes nothing.
 use Prim.Native.Nat.{ℕ, _-_, _≤_, _<_}
 use mathlib.Core.Path.{_≡_, refl, _∙_}
 use native.Mathlib.Omega.{arith}
 use borrow.Author.Needs.{needs}
 use lib.ListN.{length, getD, length-set}
 use Rattle.counts.specs.inner.Components.{renamed}
+use Rattle.counts.specs.inner.Tables.{max-constraints}
 use Rattle.counts.proofs.components.Laws.{rename-more, rename-rest}
 use Rattle.counts.proofs.components.rename.Statement.{statement}
 use Rattle.counts.proofs.components.rename.Tie as tie
 
 abbrev Inv-loop : tie.InvT-loop
 Inv-loop marks₀ from to i₀ marks i =
-    (length marks ≡ 256) × (i ≤ 256) × ((k : ℕ) → k < i → getD marks k 0 ≡ renamed from to (getD marks₀ k 0)) × ((k : ℕ) → i ≤ k → getD marks k 0 ≡ getD marks₀ k 0)
+    (length marks ≡ max-constraints) × (i ≤ max-constraints) × ((k : ℕ) → k < i → getD marks k 0 ≡ renamed from to (getD marks₀ k 0)) × ((k : ℕ) → i ≤ k → getD marks k 0 ≡ getD marks₀ k 0)
 
 abbrev μ-loop : tie.MeasureT-loop
-μ-loop marks₀ from to i₀ marks i = 256 - i
+μ-loop marks₀ from to i₀ marks i = max-constraints - i
 
 loop-holds : tie.Need-loop-holds Inv-loop μ-loop
 loop-holds c = (c .pre, omega arith, (λ k l. absurd (omega arith)), (λ k l. refl))

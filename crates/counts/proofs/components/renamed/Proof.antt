@@ -1,4 +1,4 @@
--- `parts::renamed` meets its contract, by whether the label is the one that changes. Assumes nothing.
+-- `components::renamed` meets its contract, by whether the label is the one that changes. Assumes nothing.
 use mathlib.Core.Path.{_≡_, sym}
 use lib.Dec.{eqb, eqb→eq}
 use Rattle.base.proofs.BoolLaws.{cond-yes, cond-no, eq→eqb}

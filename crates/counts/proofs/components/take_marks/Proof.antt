@@ -1,15 +1,16 @@
--- `parts::take_marks` meets its contract. Invariant: the edges below e have their marks. Measure: the edges that are left. Assumes nothing.
+-- `components::take_marks` meets its contract. Invariant: the edges below e have their marks. Measure: the edges that are left. Assumes nothing.
 use Prim.Native.Nat.{ℕ, _-_, _≤_, _<_}
 use mathlib.Core.Path.{_≡_, _∙_}
 use native.Mathlib.Omega.{arith}
 use lib.ListN.{length, length-set}
 use Rattle.counts.specs.inner.Components.{Taken}
+use Rattle.counts.specs.Accept.{max-edges}
 use Rattle.counts.proofs.components.Laws.{taken-more}
 use Rattle.counts.proofs.components.take_marks.Statement.{statement}
 use Rattle.counts.proofs.components.take_marks.Tie as tie
 
 abbrev Inv-loop : tie.InvT-loop
-Inv-loop incident n marks labels₀ e₀ labels e = (e ≤ n) × (length labels ≡ 256) × ((x : ℕ) → x < e → Taken incident marks labels x)
+Inv-loop incident n marks labels₀ e₀ labels e = (e ≤ n) × (length labels ≡ max-edges) × ((x : ℕ) → x < e → Taken incident marks labels x)
 
 abbrev μ-loop : tie.MeasureT-loop
 μ-loop incident n marks labels₀ e₀ labels e = n - e

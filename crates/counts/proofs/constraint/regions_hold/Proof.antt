@@ -8,7 +8,7 @@ use borrow.Author.Tests.{not-true, not-false}
 use lib.ListN.{length, drop, length-drop}
 use lib.Dec.{T}
 use Rattle.base.specs.Lists.{all}
-use Rattle.counts.specs.Region.{places, constraints}
+use Rattle.counts.specs.Region.{places, constraints, record-size}
 use Rattle.counts.specs.Accept.{sides-fit}
 use Rattle.counts.specs.Solver.{constraint-holds}
 use Rattle.counts.proofs.check.Laws.{whole-sides, rest, sides-now, sides-after}
@@ -17,7 +17,7 @@ use Rattle.counts.proofs.constraint.regions_hold.Statement.{statement}
 use Rattle.counts.proofs.constraint.regions_hold.Tie as tie
 
 abbrev Inv-loop : tie.InvT-loop
-Inv-loop regions counts m r₀ r = (r ≤ m) × T (sides-fit places (m - r) (drop (r * 68) regions)) × (all (constraint-holds counts) (constraints places m regions) ≡ all (constraint-holds counts) (constraints places (m - r) (drop (r * 68) regions)))
+Inv-loop regions counts m r₀ r = (r ≤ m) × T (sides-fit places (m - r) (drop (r * record-size places) regions)) × (all (constraint-holds counts) (constraints places m regions) ≡ all (constraint-holds counts) (constraints places (m - r) (drop (r * record-size places) regions)))
 
 abbrev μ-loop : tie.MeasureT-loop
 μ-loop regions counts m r₀ r = m - r
@@ -26,7 +26,7 @@ loop-holds : tie.Need-loop-holds Inv-loop μ-loop
 loop-holds c =
     let s = c .before .before .args in
     let l = now (s .regions) in
-    let m : ℕ = length l / 68 in
+    let m : ℕ = length l / record-size places in
     let e : m ≡ m - 0 = omega arith in
     (omega arith, subst (λ (k : ℕ). T (sides-fit places k l)) e (whole-sides l (c .before .before .pre)), ap (λ (k : ℕ). all (constraint-holds (now (s .counts))) (constraints places k l)) e)
 
@@ -50,19 +50,19 @@ region-holds-requires c κs =
     let s = c .before .before .before .before .before .args in
     let l = now (s .regions) in
     let xs = now (s .counts) in
-    let m : ℕ = length l / 68 in
+    let m : ℕ = length l / record-size places in
     let r = c .before .before .loop .r in
-    simp (rest (r * 68) l) (simp length-drop (omega arith), sides-now m r l (c .before .loop-test .taken) (c .before .before .loop .inv .1))
+    simp (rest (r * record-size places) l) (simp length-drop (omega arith), sides-now m r l (c .before .loop-test .taken) (c .before .before .loop .inv .1))
 
 returns : tie.Need-returns Inv-loop μ-loop
 returns c =
     let s = c .before .before .before .before .before .before .before .args in
     let l = now (s .regions) in
     let xs = now (s .counts) in
-    let m : ℕ = length l / 68 in
+    let m : ℕ = length l / record-size places in
     let r = c .before .before .before .before .loop .r in
-    let p : c .before .region-holds .result ≡ all (constraint-holds xs) (constraints places 1 (drop (r * 68) l)) = simp (rest (r * 68) l) at (c .before .region-holds .ensures) in
-    sym (c .before .before .before .before .loop .inv .2 ∙ hold-turn (constraint-holds xs) m r l (c .before .before .before .loop-test .taken) ∙ ap (λ (b : Bool). b && all (constraint-holds xs) (constraints places (m - (r + 1)) (drop ((r + 1) * 68) l))) (sym p ∙ not-true (c .before .region-holds .result) (c .if1 .taken)))
+    let p : c .before .region-holds .result ≡ all (constraint-holds xs) (constraints places 1 (drop (r * record-size places) l)) = simp (rest (r * record-size places) l) at (c .before .region-holds .ensures) in
+    sym (c .before .before .before .before .loop .inv .2 ∙ hold-turn (constraint-holds xs) m r l (c .before .before .before .loop-test .taken) ∙ ap (λ (b : Bool). b && all (constraint-holds xs) (constraints places (m - (r + 1)) (drop ((r + 1) * record-size places) l))) (sym p ∙ not-true (c .before .region-holds .result) (c .if1 .taken)))
 
 add-r : tie.Need-add-r Inv-loop μ-loop
 add-r c = omega arith
@@ -75,19 +75,19 @@ loop-again c =
     let s = c .before .before .before .before .before .before .before .args in
     let l = now (s .regions) in
     let xs = now (s .counts) in
-    let m : ℕ = length l / 68 in
+    let m : ℕ = length l / record-size places in
     let r = c .before .before .before .before .loop .r in
-    let p : c .before .region-holds .result ≡ all (constraint-holds xs) (constraints places 1 (drop (r * 68) l)) = simp (rest (r * 68) l) at (c .before .region-holds .ensures) in
-    (omega arith, sides-after m r l (c .before .before .before .loop-test .taken) (c .before .before .before .before .loop .inv .1), c .before .before .before .before .loop .inv .2 ∙ hold-turn (constraint-holds xs) m r l (c .before .before .before .loop-test .taken) ∙ ap (λ (b : Bool). b && all (constraint-holds xs) (constraints places (m - (r + 1)) (drop ((r + 1) * 68) l))) (sym p ∙ not-false (c .before .region-holds .result) (c .if1 .left)))
+    let p : c .before .region-holds .result ≡ all (constraint-holds xs) (constraints places 1 (drop (r * record-size places) l)) = simp (rest (r * record-size places) l) at (c .before .region-holds .ensures) in
+    (omega arith, sides-after m r l (c .before .before .before .loop-test .taken) (c .before .before .before .before .loop .inv .1), c .before .before .before .before .loop .inv .2 ∙ hold-turn (constraint-holds xs) m r l (c .before .before .before .loop-test .taken) ∙ ap (λ (b : Bool). b && all (constraint-holds xs) (constraints places (m - (r + 1)) (drop ((r + 1) * record-size places) l))) (sym p ∙ not-false (c .before .region-holds .result) (c .if1 .left)))
 
 returns-2 : tie.Need-returns-2 Inv-loop μ-loop
 returns-2 c =
     let s = c .before .before .before .before .args in
     let l = now (s .regions) in
     let xs = now (s .counts) in
-    let m : ℕ = length l / 68 in
+    let m : ℕ = length l / record-size places in
     let r = c .before .loop .r in
-    sym (c .before .loop .inv .2 ∙ hold-end (constraint-holds xs) m r (drop (r * 68) l) (c .loop-test .left))
+    sym (c .before .loop .inv .2 ∙ hold-end (constraint-holds xs) m r (drop (r * record-size places) l) (c .loop-test .left))
 
 pub regions-hold-spec : {M : Type 1} → statement M
 regions-hold-spec =

@@ -5,14 +5,14 @@ use native.Mathlib.Omega.{arith}
 use borrow.Author.Needs.{needs}
 use lib.ListN.{length}
 use lib.Ieee.{nan}
-use Rattle.counts.specs.inner.Tables.{Entries}
+use Rattle.counts.specs.inner.Tables.{Entries, changes}
 use Rattle.counts.specs.Cost.{by-ranges}
 use Rattle.counts.proofs.cost.Laws.{length-both, entries-more, range-price}
 use Rattle.counts.proofs.cost.fill_costs.Statement.{statement}
 use Rattle.counts.proofs.cost.fill_costs.Tie as tie
 
 abbrev Inv-loop : tie.InvT-loop
-Inv-loop counts least most costs₀ allowed₀ e₀ costs allowed e = (e ≤ length counts) × (length costs ≡ 512) × (length allowed ≡ 512) × ((y : ℕ) → y < e → Entries counts (by-ranges least most) costs allowed y)
+Inv-loop counts least most costs₀ allowed₀ e₀ costs allowed e = (e ≤ length counts) × (length costs ≡ changes) × (length allowed ≡ changes) × ((y : ℕ) → y < e → Entries counts (by-ranges least most) costs allowed y)
 
 abbrev μ-loop : tie.MeasureT-loop
 μ-loop counts least most costs₀ allowed₀ e₀ costs allowed e = length counts - e

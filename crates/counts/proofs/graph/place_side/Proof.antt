@@ -7,6 +7,7 @@ use borrow.Author.Needs.{needs}
 use lib.ListN.{getD, take}
 use Rattle.counts.specs.inner.Tables.{edges-of}
 use Rattle.counts.specs.inner.Graph.{Placed}
+use Rattle.counts.specs.Region.{places, side-size}
 use Rattle.counts.proofs.graph.Placing.{placed-none, not-counted}
 use Rattle.counts.proofs.region.Laws.{next-edge, side-more, side-done}
 use Rattle.counts.proofs.graph.place_side.Statement.{statement}
@@ -47,11 +48,11 @@ shared-slice-read-e : tie.Need-shared-slice-read-e Inv-loop μ-loop
 shared-slice-read-e c = search needs
 
 cast-e : tie.Need-cast-e Inv-loop μ-loop
-cast-e c = omega (arith, c .shared-slice-known3 .given (c .before .before .before .before .before .args .s * 17 + 1 + c .before .before .loop .j))
+cast-e c = omega (arith, c .shared-slice-known3 .given (c .before .before .before .before .before .args .s * side-size places + 1 + c .before .before .loop .j))
 
 place-edge-requires : tie.Need-place-edge-requires Inv-loop μ-loop
 place-edge-requires c κs =
-    let e = getD (c .before .before .before .before .before .before .before .before .args .regions .now) (c .before .before .before .before .before .before .before .before .args .s * 17 + 1 + c .before .before .before .before .before .loop .j) 0 in
+    let e = getD (c .before .before .before .before .before .before .before .before .args .regions .now) (c .before .before .before .before .before .before .before .before .args .s * side-size places + 1 + c .before .before .before .before .before .loop .j) 0 in
     let x = next-edge _ _ (c .before .before .before .before .before .before .before .before .pre .0 .0) (c .before .before .before .before .before .loop .j) e (c .before .before .before .before .loop-test .taken) refl in
     let u = not-counted (c .before .before .before .before .before .loop .inv .1) (x .inside) (x .fresh) in
     let v = c .before .before .before .before .before .before .before .before .pre .1 .1 e (x .inside) in
@@ -65,7 +66,7 @@ loop-less c = search needs
 
 loop-again : tie.Need-loop-again Inv-loop μ-loop
 loop-again c =
-    let e = getD (c .before .before .before .before .before .before .before .before .before .args .regions .now) (c .before .before .before .before .before .before .before .before .before .args .s * 17 + 1 + c .before .before .before .before .before .before .loop .j) 0 in
+    let e = getD (c .before .before .before .before .before .before .before .before .before .args .regions .now) (c .before .before .before .before .before .before .before .before .before .args .s * side-size places + 1 + c .before .before .before .before .before .before .loop .j) 0 in
     let x = next-edge _ _ (c .before .before .before .before .before .before .before .before .before .pre .0 .0) (c .before .before .before .before .before .before .loop .j) e (c .before .before .before .before .before .loop-test .taken) refl in
     (omega (arith, c .before .before .before .before .before .loop-test .taken), side-more x (c .before .before .before .before .before .before .loop .inv .1) (c .place-edge .ensures))
 

@@ -9,26 +9,26 @@ use denote.Ref.{now}
 use lib.ListN.{length, getD, take, drop, length-drop, List·getD-eq-default}
 use lib.Seq.{take-all}
 use borrow.Author.Needs.{needs}
-use Rattle.counts.specs.Region.{places, side}
+use Rattle.counts.specs.Region.{places, side, side-size}
 use Rattle.counts.proofs.check.Laws.{rest}
 use Rattle.counts.proofs.region.side.Statement.{statement}
 use Rattle.counts.proofs.region.side.Tie as tie
 
 -- the list ends before the number of edges
-no-side : (l : List ℕ) (k : ℕ) → length l ≤ k * 17 → [] ≡ side places l k
-no-side l k h = sym (ap (λ (n : ℕ). take n (drop (suc (k * 17)) l)) (List·getD-eq-default l 0 h))
+no-side : (l : List ℕ) (k : ℕ) → length l ≤ k * side-size places → [] ≡ side places l k
+no-side l k h = sym (ap (λ (n : ℕ). take n (drop (suc (k * side-size places)) l)) (List·getD-eq-default l 0 h))
 
 -- it ends before the last edge
-cut-side : (l : List ℕ) (k : ℕ) → length l < k * 17 + 1 + getD l (k * 17) 0 → take (length l - (k * 17 + 1)) (drop (k * 17 + 1) l) ≡ side places l k
+cut-side : (l : List ℕ) (k : ℕ) → length l < k * side-size places + 1 + getD l (k * side-size places) 0 → take (length l - (k * side-size places + 1)) (drop (k * side-size places + 1) l) ≡ side places l k
 cut-side l k h =
-    let r : List ℕ = drop (k * 17 + 1) l in
-    let e : length r ≡ length l - (k * 17 + 1) = length-drop (k * 17 + 1) l in
-    rest (k * 17 + 1) l ∙ sym (take-all (getD l (k * 17) 0) r (omega arith)) ∙ ap (λ (n : ℕ). take (getD l (k * 17) 0) (drop n l)) (add-one (k * 17))
+    let r : List ℕ = drop (k * side-size places + 1) l in
+    let e : length r ≡ length l - (k * side-size places + 1) = length-drop (k * side-size places + 1) l in
+    rest (k * side-size places + 1) l ∙ sym (take-all (getD l (k * side-size places) 0) r (omega arith)) ∙ ap (λ (n : ℕ). take (getD l (k * side-size places) 0) (drop n l)) (add-one (k * side-size places))
 
-whole-side : (l : List ℕ) (k : ℕ) → take (k * 17 + 1 + getD l (k * 17) 0 - (k * 17 + 1)) (drop (k * 17 + 1) l) ≡ side places l k
+whole-side : (l : List ℕ) (k : ℕ) → take (k * side-size places + 1 + getD l (k * side-size places) 0 - (k * side-size places + 1)) (drop (k * side-size places + 1) l) ≡ side places l k
 whole-side l k =
-    let e : k * 17 + 1 + getD l (k * 17) 0 - (k * 17 + 1) ≡ getD l (k * 17) 0 = omega arith in
-    ap (λ (n : ℕ). take n (drop (k * 17 + 1) l)) e ∙ ap (λ (n : ℕ). take (getD l (k * 17) 0) (drop n l)) (add-one (k * 17))
+    let e : k * side-size places + 1 + getD l (k * side-size places) 0 - (k * side-size places + 1) ≡ getD l (k * side-size places) 0 = omega arith in
+    ap (λ (n : ℕ). take n (drop (k * side-size places + 1) l)) e ∙ ap (λ (n : ℕ). take (getD l (k * side-size places) 0) (drop n l)) (add-one (k * side-size places))
 
 mul-at : tie.Need-mul-at
 mul-at c = search needs
@@ -46,13 +46,13 @@ shared-slice-read-n : tie.Need-shared-slice-read-n
 shared-slice-read-n c = search needs
 
 cast-n : tie.Need-cast-n
-cast-n c = omega (arith, c .shared-slice-known .given (c .before .before .args .k * 17))
+cast-n c = omega (arith, c .shared-slice-known .given (c .before .before .args .k * side-size places))
 
 add-start : tie.Need-add-start
 add-start c = search needs
 
 add-end : tie.Need-add-end
-add-end c = omega (arith, c .shared-slice-known .given (c .before .before .args .k * 17))
+add-end c = omega (arith, c .shared-slice-known .given (c .before .before .args .k * side-size places))
 
 mul-result : tie.Need-mul-result
 mul-result c = search needs

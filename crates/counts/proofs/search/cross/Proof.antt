@@ -41,6 +41,7 @@ use denote.Triple.Walked.{says, Stays, stay-ref, stay-dropped, gave-ref, walkOf,
 use denote.Exit.{yes}
 use Rattle.counts.specs.declared.search.SearchState.{SearchState}
 use Rattle.counts.specs.inner.SearchContract.{CrossedAll}
+use Rattle.counts.specs.inner.Tables.{marks-size, path-size}
 use Rattle.counts.proofs.search.SearchState as T
 use Rattle.counts.proofs.search.SearchState.Laws as T′
 use Rattle.counts.proofs.search.cross_start as cross-start
@@ -54,10 +55,10 @@ use Rattle.counts.proofs.search.cross.Code as code
 
 -- the lent buffers
 abbrev Marks : Slot 9
-Marks = ArrayOf (plain (λ _. bool)) (λ _. tt) 257
+Marks = ArrayOf (plain (λ _. bool)) (λ _. tt) marks-size
 
 abbrev Changes : Slot 9
-Changes = ArrayOf (plain (λ _. u16)) (λ _. tt) 257
+Changes = ArrayOf (plain (λ _. u16)) (λ _. tt) path-size
 
 -- what is had at exit: of the state its borrow, of the lent buffers what says their last values, of the rest nothing
 abbrev stayed : Stays (cross.ended .signature .params) (cross.ended .kept)

@@ -42,6 +42,7 @@ use denote.Triple.Walked.{says, Stays, stay-ref, stay-dropped, gave-ref, walkOf,
 use denote.Exit.{yes}
 use Rattle.counts.specs.declared.search.SearchState.{SearchState}
 use Rattle.counts.specs.inner.SearchContract.{Entered}
+use Rattle.counts.specs.inner.Tables.{path-size}
 use Rattle.counts.proofs.search.SearchState as T
 use Rattle.counts.proofs.search.SearchState.Laws as T′
 use Rattle.counts.proofs.search.enter_start as enter-start
@@ -55,7 +56,7 @@ use Rattle.counts.proofs.search.enter.Code as code
 
 -- the lent buffers
 abbrev Changes : Slot 7
-Changes = ArrayOf (plain (λ _. u16)) (λ _. tt) 257
+Changes = ArrayOf (plain (λ _. u16)) (λ _. tt) path-size
 
 -- what is had at exit: of the state its borrow, of the lent buffers what says their last values, of the rest nothing
 abbrev stayed : Stays (enter.ended .signature .params) (enter.ended .kept)

@@ -52,7 +52,7 @@ use denote.Triple.Clauses.{Lasts, ensured, lasts}
 use denote.Triple.Table.{entered, cited}
 use denote.Triple.Walked.{says, Stays, stay-dropped, gave-ref, walkOf, AllGo, Walks, ends-at, walked, walk-meets}
 use denote.Exit.{yes}
-use Rattle.counts.specs.inner.Tables.{Tables}
+use Rattle.counts.specs.inner.Tables.{Tables, edge-places, changes, marks-size, path-size}
 use Rattle.counts.specs.inner.SearchContract.{CrossedAll, Entered, fresh-state, no-marks}
 use Rattle.counts.specs.declared.search.SearchState.{SearchState}
 use Rattle.counts.proofs.search.Start.{searched}
@@ -79,23 +79,23 @@ abbrev R : RattleType
 R = T.the-row
 
 abbrev Places : RattleType
-Places = Array u16 512
+Places = Array u16 edge-places
 
 abbrev Costs : RattleType
-Costs = Array f64 512
+Costs = Array f64 changes
 
 abbrev Allowed : RattleType
-Allowed = Array bool 512
+Allowed = Array bool changes
 
 abbrev Marks : RattleType
-Marks = Array bool 257
+Marks = Array bool marks-size
 
 abbrev Changes : RattleType
-Changes = Array u16 257
+Changes = Array u16 path-size
 
 -- what is had at exit: of the lent buffers what says their last values, of the rest nothing
 abbrev stayed : Stays (run.ended .signature .params) (run.ended .kept)
-stayed = (stay-dropped _ yes, (stay-dropped _ yes, (stay-dropped _ yes, (stay-dropped _ yes, (stay-dropped _ yes, (stay-dropped _ yes, (gave-ref (5 ∷ []) tt (ArrayOf (plain (λ _. bool)) (λ _. tt) 257), (gave-ref (6 ∷ []) tt (ArrayOf (plain (λ _. u16)) (λ _. tt) 257), (gave-ref (7 ∷ []) tt (ArrayOf (plain (λ _. u16)) (λ _. tt) 257), (stay-dropped _ yes, tt))))))))))
+stayed = (stay-dropped _ yes, (stay-dropped _ yes, (stay-dropped _ yes, (stay-dropped _ yes, (stay-dropped _ yes, (stay-dropped _ yes, (gave-ref (5 ∷ []) tt (ArrayOf (plain (λ _. bool)) (λ _. tt) path-size), (gave-ref (6 ∷ []) tt (ArrayOf (plain (λ _. u16)) (λ _. tt) path-size), (gave-ref (7 ∷ []) tt (ArrayOf (plain (λ _. u16)) (λ _. tt) path-size), (stay-dropped _ yes, tt))))))))))
 
 abbrev spells : (κs : Lfts 8) → Spells (typesAt (run.signature .params) κs)
 spells κs = (slice-vals, (ptr-vals, (ptr-vals, (ptr-vals, (ptr-vals, (uint-vals w32, (ptr-vals, (ptr-vals, (ptr-vals, (uint-vals w64, tt))))))))))
@@ -227,13 +227,13 @@ module _ {M : Type 1} (𝓤 : URA M) (H : Heap 𝓤) (A : Atoms 𝓤) (W : Given
   Asked₁ = Tables (regions-ref .now) (incident-ref .now) (own-ref .now)
 
   abbrev Asked₀ : Type 0
-  Asked₀ = (start < 512) × (used-ref .now ≡ no-marks) × (length (path-ref .now) ≡ 257) × (length (best-ref .now) ≡ 257)
+  Asked₀ = (start < changes) × (used-ref .now ≡ no-marks) × (length (path-ref .now) ≡ path-size) × (length (best-ref .now) ≡ path-size)
 
   abbrev Asked₂ : Type 0
-  Asked₂ = (start < 512) × (length (path-ref .now) ≡ 257) × (length (best-ref .now) ≡ 257)
+  Asked₂ = (start < changes) × (length (path-ref .now) ≡ path-size) × (length (best-ref .now) ≡ path-size)
 
   abbrev Asked₃ : List ℕ → List ℕ → Type 0
-  Asked₃ p b = (start < 512) × (used-ref .now ≡ no-marks) × (length p ≡ 257) × (getD p 0 0 ≡ start) × (length b ≡ 257)
+  Asked₃ p b = (start < changes) × (used-ref .now ≡ no-marks) × (length p ≡ path-size) × (getD p 0 0 ≡ start) × (length b ≡ path-size)
 
   -- and what the two ensure
   abbrev HasEntered : SearchState → SearchState → List ℕ → List ℕ → Type 0

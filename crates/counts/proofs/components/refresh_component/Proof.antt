@@ -1,4 +1,4 @@
--- `parts::refresh_part` meets its contract. Invariant: the edges below e are refreshed. Measure: the edges that are left. Assumes nothing.
+-- `components::refresh_component` meets its contract. Invariant: the edges below e are refreshed. Measure: the edges that are left. Assumes nothing.
 use Prim.Native.Nat.{_-_, _≤_}
 use native.Mathlib.Omega.{arith}
 use borrow.Author.Needs.{needs}
@@ -8,15 +8,15 @@ use Rattle.counts.specs.Cost.{by-ranges}
 use Rattle.counts.specs.inner.Components.{Refreshed}
 use Rattle.counts.proofs.cost.Laws.{range-price}
 use Rattle.counts.proofs.components.Laws.{refresh-none, refresh-more, refresh-done}
-use Rattle.counts.proofs.components.refresh_part.Statement.{statement}
-use Rattle.counts.proofs.components.refresh_part.Tie as tie
+use Rattle.counts.proofs.components.refresh_component.Statement.{statement}
+use Rattle.counts.proofs.components.refresh_component.Tie as tie
 
 abbrev Inv-loop : tie.InvT-loop
-Inv-loop labels part counts least most costs₀ allowed₀ known₀ e₀ costs allowed known e =
-    Refreshed e labels part counts (by-ranges least most) costs₀ allowed₀ known₀ costs allowed known × (e ≤ length counts)
+Inv-loop labels component counts least most costs₀ allowed₀ known₀ e₀ costs allowed known e =
+    Refreshed e labels component counts (by-ranges least most) costs₀ allowed₀ known₀ costs allowed known × (e ≤ length counts)
 
 abbrev μ-loop : tie.MeasureT-loop
-μ-loop labels part counts least most costs₀ allowed₀ known₀ e₀ costs allowed known e = length counts - e
+μ-loop labels component counts least most costs₀ allowed₀ known₀ e₀ costs allowed known e = length counts - e
 
 loop-holds : tie.Need-loop-holds Inv-loop μ-loop
 loop-holds c = (refresh-none _ _ _ _ _ _ _ (c .before .before .before .pre .1 .0) (c .before .before .before .pre .1 .1) (c .before .before .before .pre .1 .2), omega arith)
@@ -60,8 +60,8 @@ loop-again c = (refresh-more _ _ _ _ _ _ _ (c .before .before .before .before .b
 returns : tie.Need-returns Inv-loop μ-loop
 returns c = refresh-done _ _ _ _ _ _ _ _ _ (omega arith) _ _ _ (c .before .loop .inv .0)
 
-pub refresh-part-spec : {M : Type 1} → statement M
-refresh-part-spec =
+pub refresh-component-spec : {M : Type 1} → statement M
+refresh-component-spec =
     tie.close
     (tie.spec
     Inv-loop

@@ -1,0 +1,28 @@
+// 01's limits, and the sizes of the solver's tables, which follow from them. specs/Accept.antt and specs/inner/Tables.antt have the same.
+pub(crate) const MAX_REGIONS: usize = 128;
+
+pub(crate) const MAX_EDGES: usize = 256;
+
+pub(crate) const MAX_COUNT: u32 = 1_000_000;
+
+pub(crate) const MAX_LIMIT: u32 = 100_000;
+
+// Each region gives two constraints.
+pub(crate) const MAX_CONSTRAINTS: usize = 2 * MAX_REGIONS;
+
+// Stands in a table where there is no constraint: a number that none has.
+pub(crate) const NO_CONSTRAINT: usize = MAX_CONSTRAINTS;
+
+pub(crate) const NO_ENTRY: u16 = NO_CONSTRAINT as u16;
+
+// An edge is in two constraints at most, so it has two places.
+pub(crate) const EDGE_PLACES: usize = 2 * MAX_EDGES;
+
+// An edge has two changes, +1 and -1.
+pub(crate) const CHANGES: usize = 2 * MAX_EDGES;
+
+// A mark for each constraint, and one for none.
+pub(crate) const MARKS: usize = MAX_CONSTRAINTS + 1;
+
+// A path crosses each constraint at most once, so it has at most one edge more.
+pub(crate) const PATH_SIZE: usize = MAX_CONSTRAINTS + 1;
