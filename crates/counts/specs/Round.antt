@@ -36,11 +36,11 @@ abbrev pub starts : ℕ → ℕ → List Change
 starts i zero = []
 starts i (suc n) = (i, true) ∷ (i, false) ∷ starts (suc i) n
 
-module _ (g : List Constraint) (edge-cost : EdgeCost) (is-allowed : ℕ → Bool → Bool) (limit : ℕ) where
+module _ (g : List Constraint) (edge-cost : EdgeCost) (allowed : ℕ → Bool → Bool) (limit : ℕ) where
   -- "(no -1 at count 0), each start with a fresh limit"
   unfoldable pub try-start : Change → Found → Found
   unfolding run lt sub neg
-  try-start z = cond (is-allowed (z .0) (z .1)) (weigh (run g edge-cost is-allowed limit (z .0) (z .1))) (λ b. b)
+  try-start z = cond (allowed (z .0) (z .1)) (weigh (run g edge-cost allowed limit (z .0) (z .1))) (λ b. b)
 
   -- n edges
   unfoldable pub find-augmentation : ℕ → Found

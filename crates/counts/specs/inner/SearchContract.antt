@@ -11,7 +11,7 @@ use lib.ListN.{length, getD, take, drop, set, replicate}
 use lib.Dec.{eqb, leb, T}
 use lib.Ieee.{Float, inf}
 use Rattle.base.specs.Lists.{any, each, differs}
-use Rattle.counts.specs.Region.{Constraint, constraint, holds, own-side, opposite-side, incidence}
+use Rattle.counts.specs.Region.{places, Constraint, constraint, holds, own-side, opposite-side, incidence}
 use Rattle.counts.specs.Move.{Change, select}
 use Rattle.counts.specs.Search.{Go, Act, State, skip, turned-back, entered, record-path, signed, others-changed, is-used, free, try-step, visit, dfs, run}
 use Rattle.counts.specs.inner.Tables.{decoded, path-of, state-of, the-graph, cost-in, allowed-in, no-constraint, Other, Tables, edge-places, changes, marks-size, path-size}
@@ -36,7 +36,7 @@ pub record SidesAt (regions : List ℕ) (i x opposite-at split own-at total : �
   pub opposite-fits : opposite-at + split ≤ length regions
   pub own-fits : own-at + (total - split) ≤ length regions
   pub in-order : split ≤ total
-  pub few : total ≤ 32
+  pub few : total ≤ 2 * places
   pub count : total ≡ length (opposite-side (constraint (the-graph regions) i) x) + length (own-side (constraint (the-graph regions) i) x)
 
 -- what a scan tells of the changed edges in a constraint

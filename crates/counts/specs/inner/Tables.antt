@@ -47,7 +47,7 @@ abbrev pub cost-in : List Float → EdgeCost
 cost-in costs x s = getD costs (encoded x s) nan
 
 abbrev pub allowed-in : List Bool → ℕ → Bool → Bool
-allowed-in is-allowed x s = getD is-allowed (encoded x s) false
+allowed-in allowed x s = getD allowed (encoded x s) false
 
 -- the two entries of edge e, for +1 and for -1, at 2 * e + 1 and at 2 * e
 abbrev pub set-both : {A : Type 0} → List A → ℕ → A → A → List A
