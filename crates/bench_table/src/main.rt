@@ -1,17 +1,19 @@
 // Prints the bench table of the paper, cases A to G: case, refusal number (0 if none), counts in edge order (- if there are none).
 use counts::answer::SolveAnswer;
+use counts::region::RECORD_SIZE;
+use counts::region::SIDE_SIZE;
 use libc::STDOUT_FILENO;
 
-// A record starts with its bottom side; the others follow, 17 numbers each, and the next record after 68.
+// A record starts with its bottom side; the others follow, then the next record.
 const BOTTOM: usize = 0;
 
-const RIGHT: usize = 17;
+const RIGHT: usize = SIDE_SIZE;
 
-const TOP: usize = 34;
+const TOP: usize = 2 * SIDE_SIZE;
 
-const LEFT: usize = 51;
+const LEFT: usize = 3 * SIDE_SIZE;
 
-const NEXT: usize = 68;
+const NEXT: usize = RECORD_SIZE;
 
 fn put(regions: &mut [u16], at: usize, value: u16) {
     if at < regions.len() {
@@ -86,7 +88,7 @@ fn print_case(name: &[u8], regions: &[u16], ideals: &[f64], counts: &mut [u32]) 
 
 // Two regions that share edge 1.
 fn case_a() {
-    let mut regions = [0u16; 136];
+    let mut regions = [0u16; 2 * RECORD_SIZE];
     one_edge(&mut regions, BOTTOM, 0);
     one_edge(&mut regions, RIGHT, 1);
     one_edge(&mut regions, TOP, 2);
@@ -105,7 +107,7 @@ fn case_a() {
 
 // Opposite ideals that differ.
 fn case_b() {
-    let mut regions = [0u16; 68];
+    let mut regions = [0u16; RECORD_SIZE];
     one_edge(&mut regions, BOTTOM, 0);
     one_edge(&mut regions, RIGHT, 1);
     one_edge(&mut regions, TOP, 2);
@@ -115,7 +117,7 @@ fn case_b() {
 
 // A side of two edges.
 fn case_c() {
-    let mut regions = [0u16; 68];
+    let mut regions = [0u16; RECORD_SIZE];
     one_edge(&mut regions, BOTTOM, 0);
     one_edge(&mut regions, RIGHT, 1);
     two_edges(&mut regions, TOP, 2, 3);
@@ -130,14 +132,14 @@ fn case_d() {
 
 // A side that no other balances.
 fn case_e() {
-    let mut regions = [0u16; 68];
+    let mut regions = [0u16; RECORD_SIZE];
     one_edge(&mut regions, BOTTOM, 0);
     print_case(b"E", &regions, &[3.0], &mut [0; 1]);
 }
 
 // A loop of two regions.
 fn case_f() {
-    let mut regions = [0u16; 136];
+    let mut regions = [0u16; 2 * RECORD_SIZE];
     one_edge(&mut regions, BOTTOM, 0);
     one_edge(&mut regions, TOP, 1);
     one_edge(&mut regions, NEXT + BOTTOM, 0);
@@ -147,7 +149,7 @@ fn case_f() {
 
 // An edge on both sides of a constraint.
 fn case_g() {
-    let mut regions = [0u16; 68];
+    let mut regions = [0u16; RECORD_SIZE];
     one_edge(&mut regions, BOTTOM, 0);
     one_edge(&mut regions, RIGHT, 1);
     one_edge(&mut regions, TOP, 0);

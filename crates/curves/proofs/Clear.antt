@@ -27,8 +27,9 @@ use Rattle.curves.specs.Coons.{Outcome, unless, filled, grid-stage, patc
 use Rattle.curves.specs.Lay.{TileInput, record-test, edges-test, breaks-test, sides-test, seams-of, lay}
 use Rattle.curves.specs.declared.point.Point.{Point}
 use Rattle.curves.specs.declared.boundary.BoundaryEnds.{BoundaryEnds}
-use Rattle.curves.specs.declared.grid.Layout.{Layout}
-use Rattle.curves.specs.declared.grid.Layout.the-variants.{Quads}
+use Rattle.curves.specs.declared.rows.Layout.{Layout}
+use Rattle.curves.specs.declared.rows.Layout.the-variants.{Quads}
+use Rattle.curves.specs.Limits.{max-curve, max-seam}
 
 -- ---- verdicts that are not 22, and how tests are put together
 
@@ -210,7 +211,7 @@ patch-clear layout bottom right top left s out e =
 
 curve-limit-clear : (points : List Float) → Clear (curve-limit points)
 unfolding curve-limit
-curve-limit-clear points = if-clear (ltb 2048 (length points) || not (eqb (length points % 2) 0)) 1 0 0 tt
+curve-limit-clear points = if-clear (ltb max-curve (length points) || not (eqb (length points % 2) 0)) 1 0 0 tt
 
 curves-limit-clear : (bottom right top left : List Float) → Clear (curves-limit bottom right top left)
 unfolding curves-limit
@@ -219,7 +220,7 @@ curves-limit-clear bottom right top left =
 
 seam-limit-clear : (values : List Float) → Clear (seam-limit values)
 unfolding seam-limit
-seam-limit-clear values = if-clear (ltb 1025 (length values)) 1 0 0 tt
+seam-limit-clear values = if-clear (ltb max-seam (length values)) 1 0 0 tt
 
 seams-limit-clear : (s : Seams) → Clear (seams-limit s)
 unfolding seams-limit

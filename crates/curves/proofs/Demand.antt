@@ -12,7 +12,7 @@ use lib.Dec.{T, eqb, lt→ltb, ltb→lt}
 use lib.Ieee.{Float}
 use Rattle.base.specs.Refusal.{is-passed}
 use Rattle.base.specs.Lists.{In, member}
-use Rattle.counts.specs.Region.{Constraint, constraint, places, region-count, from-region, graph, side, side-sum}
+use Rattle.counts.specs.Region.{Constraint, constraint, places, region-count, from-region, graph, side, side-sum, side-size, record-size}
 use Rattle.counts.specs.Round.{solve-zeros}
 use Rattle.counts.specs.Cost.{Spacing, costs-of, edges-of}
 use Rattle.counts.specs.Accept.{accepted, sides-fit, limits-test, regions-test}
@@ -132,18 +132,18 @@ part-of-front (suc i) m zero l h = absurd (omega arith)
 part-of-front (suc i) m (suc n) [] h = refl
 part-of-front (suc i) m (suc n) (x ∷ l) h = part-of-front i m n l (omega arith)
 
-side-of-record : (l : List ℕ) (k : ℕ) → k < 4 → getD l (k * 17) 0 ≤ 16 → side places (take 68 l) k ≡ side places l k
+side-of-record : (l : List ℕ) (k : ℕ) → k < 4 → getD l (k * side-size places) 0 ≤ places → side places (take (record-size places) l) k ≡ side places l k
 side-of-record l k h f =
-    ap (λ (m : ℕ). take m (drop (suc (k * 17)) (take 68 l))) (getD-take 68 l (k * 17) 0 (omega arith))
-    ∙ part-of-front (suc (k * 17)) (getD l (k * 17) 0) 68 l (omega arith)
+    ap (λ (m : ℕ). take m (drop (suc (k * side-size places)) (take (record-size places) l))) (getD-take (record-size places) l (k * side-size places) 0 (omega arith))
+    ∙ part-of-front (suc (k * side-size places)) (getD l (k * side-size places) 0) (record-size places) l (omega arith)
 
-sides-at : (m r : ℕ) (l : List ℕ) → r < m → T (sides-fit places m l) → T (sides-fit places 1 (drop (r * 68) l))
+sides-at : (m r : ℕ) (l : List ℕ) → r < m → T (sides-fit places m l) → T (sides-fit places 1 (drop (r * record-size places) l))
 sides-at zero r l h t = absurd (omega arith)
 sides-at (suc m) zero l h t = sides-first m l t
 sides-at (suc m) (suc r) l h t =
-    let e : 68 + r * 68 ≡ suc r * 68 = omega arith in
-    subst (λ (x : List ℕ). T (sides-fit places 1 x)) (drop-drop (r * 68) 68 l ∙ ap (λ (i : ℕ). drop i l) e)
-    (sides-at m r (drop 68 l) (omega arith) (sides-rest m l t))
+    let e : (record-size places) + r * record-size places ≡ suc r * record-size places = omega arith in
+    subst (λ (x : List ℕ). T (sides-fit places 1 x)) (drop-drop (r * record-size places) (record-size places) l ∙ ap (λ (i : ℕ). drop i l) e)
+    (sides-at m r (drop (record-size places) l) (omega arith) (sides-rest m l t))
 
 same-sides : (n : ℕ) (regions : List ℕ) → T (accepted places n regions) → (r : ℕ) → r < region-count places regions
     → (k : ℕ) → k < 4 → side places (record-of regions r) k ≡ side places (from-region places regions r) k
@@ -151,16 +151,16 @@ unfolding accepted
 same-sides n regions t r h k b =
     side-of-record (from-region places regions r) k b (few k b)
   where
-    fit : T (sides-fit places 1 (drop (r * 68) regions))
+    fit : T (sides-fit places 1 (drop (r * record-size places) regions))
     fit =
         let l = limits-passed n regions (T-true _ (then-left (limits-test places n regions) (regions-test places n regions) t)) in
-        sides-at (length regions / 68) r regions h (whole-sides regions (l .1))
+        sides-at (length regions / record-size places) r regions h (whole-sides regions (l .1))
 
-    few : (k : ℕ) → k < 4 → getD (drop (r * 68) regions) (k * 17) 0 ≤ 16
-    few zero b = side-few (drop (r * 68) regions) fit .0
-    few (suc zero) b = side-few (drop (r * 68) regions) fit .1
-    few (suc (suc zero)) b = side-few (drop (r * 68) regions) fit .2
-    few (suc (suc (suc zero))) b = side-few (drop (r * 68) regions) fit .3
+    few : (k : ℕ) → k < 4 → getD (drop (r * record-size places) regions) (k * side-size places) 0 ≤ places
+    few zero b = side-few (drop (r * record-size places) regions) fit .0
+    few (suc zero) b = side-few (drop (r * record-size places) regions) fit .1
+    few (suc (suc zero)) b = side-few (drop (r * record-size places) regions) fit .2
+    few (suc (suc (suc zero))) b = side-few (drop (r * record-size places) regions) fit .3
     few (suc (suc (suc (suc k)))) b = absurd (omega arith)
 
 -- ---- the two ways to hand on what an accepted solve wrote, each with any list of rounds: the whole lent buffer, or the part that was written

@@ -13,10 +13,11 @@ use Rattle.curves.specs.Boundary.{BoundaryCurves, boundary-of, checked-c
 use Rattle.curves.specs.Seam.{uniform-parameters, seams-test}
 use Rattle.curves.specs.Quad.{zeros}
 use Rattle.curves.specs.Grid.{Seams, seams, n-u, n-v, Grid, grid-of, grid-test, grid-values, needed}
-use Rattle.curves.specs.declared.grid.Layout.{Layout}
-use Rattle.curves.specs.declared.grid.Layout.the-variants.{Quads, Nodes}
+use Rattle.curves.specs.declared.rows.Layout.{Layout}
+use Rattle.curves.specs.declared.rows.Layout.the-variants.{Quads, Nodes}
 use Rattle.curves.specs.declared.coons.GridAnswer.{GridAnswer}
 use Rattle.curves.specs.declared.coons.GridAnswer.the-variants.{Made, Refused}
+use Rattle.curves.specs.Limits.{max-curve, max-seam, max-cells}
 
 -- "a grid, a lay and a mesh answer the number of quads", or the refusal; and the output that they leave
 pub record Outcome : Type 0 where
@@ -65,7 +66,7 @@ patch layout bottom right top left s out =
 
 -- "at most 1,024 points, lent as x, y in turn; an odd number of values is broken"
 unfoldable pub curve-limit : List Float → Verdict
-curve-limit points = refuse-if (ltb 2048 (length points) || not (eqb (length points % 2) 0)) (refused 1 0 0)
+curve-limit points = refuse-if (ltb max-curve (length points) || not (eqb (length points % 2) 0)) (refused 1 0 0)
 
 unfoldable pub curves-limit : List Float → List Float → List Float → List Float → Verdict
 unfolding curve-limit
@@ -74,7 +75,7 @@ curves-limit bottom right top left =
 
 -- "Seams hold at most 1,025 values"
 unfoldable pub seam-limit : List Float → Verdict
-seam-limit values = refuse-if (ltb 1025 (length values)) (refused 1 0 0)
+seam-limit values = refuse-if (ltb max-seam (length values)) (refused 1 0 0)
 
 unfoldable pub seams-limit : Seams → Verdict
 unfolding seam-limit
@@ -95,7 +96,7 @@ coons-seamed = coons-from-parameters Quads
 -- "n_u and n_v at most 1,024": 1; "n_u or n_v zero": 26
 unfoldable pub cells-limit : ℕ → ℕ → Verdict
 cells-limit n m =
-    then-test (refuse-if (ltb 1024 n || ltb 1024 m) (refused 1 0 0)) (refuse-if (eqb n 0 || eqb m 0) (refused 26 0 0))
+    then-test (refuse-if (ltb max-cells n || ltb max-cells m) (refused 1 0 0)) (refuse-if (eqb n 0 || eqb m 0) (refused 26 0 0))
 
 -- 000's `coons_curves`: `coons_from_parameters` on even seams
 unfoldable pub coons-curves : Layout → List Float → List Float → List Float → List Float → ℕ → ℕ → List Float → Outcome

@@ -58,14 +58,6 @@ cumulative-of points = tabulate (length-to points) 0 (point-count points)
 abbrev pub arc-curve : List Float → ArcCurve
 arc-curve points = curve points (cumulative-of points)
 
--- no length is above the next
-abbrev pub Rising : List Float → Type 0
-Rising c = (i : ℕ) → i + 1 < length c → le (getD c i nan) (getD c (i + 1) nan) ≡ true
-
--- a table of lengths for at least two points, and as many points: of such a curve every value that is asked for is there, and no length is above the next
-abbrev pub Sampled : List Float → List Float → Type 0
-Sampled points cumulative = (2 ≤ length cumulative) × (2 * length cumulative ≤ length points) × Rising cumulative
-
 -- ---- a segment, and the blend of its two ends
 
 abbrev pub knot : ArcCurve → ℕ → Knot
@@ -108,10 +100,6 @@ halve lengths target (suc k) true lo hi =
 unfoldable pub segment-at : List Float → Float → ℕ
 unfolding halve
 segment-at lengths target = let last = length lengths - 1 in halve lengths target (last - 0) (ltb 1 (last - 0)) 0 last
-
--- the target lies in the segment k: no other one is found by halving, where the lengths rise
-abbrev pub InSegment : List Float → ℕ → Float → Type 0
-InSegment c k target = (k + 1 < length c) × (le (getD c k nan) target ≡ true) × (lt target (getD c (k + 1) nan) ≡ true)
 
 -- where the clamped parameter t lies on the curve
 unfoldable pub along : ArcCurve → Float → Point

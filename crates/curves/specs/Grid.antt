@@ -16,8 +16,8 @@ use Rattle.curves.specs.Boundary.{BoundaryCurves}
 use Rattle.curves.specs.Patch.{coons-point}
 use Rattle.curves.specs.Quad.{quad-test}
 use Rattle.curves.specs.declared.point.Point.{Point}
-use Rattle.curves.specs.declared.grid.Layout.{Layout}
-use Rattle.curves.specs.declared.grid.Layout.the-variants.{Quads, Nodes}
+use Rattle.curves.specs.declared.rows.Layout.{Layout}
+use Rattle.curves.specs.declared.rows.Layout.the-variants.{Quads, Nodes}
 
 pub record Seams : Type 0 where
   pub bottom : List Float

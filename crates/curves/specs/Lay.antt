@@ -13,7 +13,7 @@ use Rattle.counts.specs.Accept.{limits-test}
 use Rattle.curves.specs.Seam.{side-seam}
 use Rattle.curves.specs.Grid.{Seams, seams}
 use Rattle.curves.specs.Coons.{Outcome, unless, curves-limit, coons-from-parameters}
-use Rattle.curves.specs.declared.grid.Layout.the-variants.{Quads}
+use Rattle.curves.specs.declared.rows.Layout.the-variants.{Quads}
 
 -- what lay is lent beside the record and the counts: the breaks of sides 0 to 3, and their curves
 pub record TileInput : Type 0 where

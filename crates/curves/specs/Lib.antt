@@ -1,4 +1,5 @@
 -- The definitions of the crate: what a reader holds against 01. Those below `inner` only the code needs. Assumes nothing.
+pub mod Limits
 pub mod Point
 pub mod Curve
 pub mod Boundary

@@ -2,12 +2,9 @@
 use lib.Ieee.{Float, binary64, add, sub, mul}
 use Rattle.floats.specs.Scalar.{one}
 use Rattle.curves.specs.Point.{point}
-use Rattle.curves.specs.Curve.{ArcCurve, curve-at}
+use Rattle.curves.specs.Curve.{curve-at}
 use Rattle.curves.specs.Boundary.{BoundaryCurves, curve-ends}
 use Rattle.curves.specs.declared.point.Point.{Point}
-use Rattle.curves.specs.declared.boundary.Ends.{Ends}
-use Rattle.curves.specs.declared.patch.Column.{Column}
-use Rattle.curves.specs.declared.patch.Row.{Row}
 
 abbrev pub lerp : Float → Float → Float → Float
 lerp t a b = add binary64 (mul binary64 (sub binary64 one t) a) (mul binary64 t b)
@@ -30,25 +27,3 @@ coons-point c u v =
     let ruled-u = lerp2 u (curve-at (c .left) (sub binary64 one v)) (curve-at (c .right) v) in
     let bilinear = lerp2 v (lerp2 u (bottom .start) (bottom .end)) (lerp2 u (top .end) (top .start)) in
     combined ruled-v ruled-u bilinear
-
--- ---- the same in two steps, so that what u or v alone decides can be worked out once for many points
-
--- what u decides: the points of bottom and top, and of the straight lines between their ends
-unfoldable pub column-at : ArcCurve → ArcCurve → Ends → Ends → Float → Column
-unfolding sub curve-at lerp2
-column-at bottom top b t u = record {
-  bottom = curve-at bottom u;
-  top = curve-at top (sub binary64 one u);
-  low = lerp2 u (b .start) (b .end);
-  high = lerp2 u (t .end) (t .start);
-}
-
--- what v decides: the points of right and left
-unfoldable pub row-at : ArcCurve → ArcCurve → Float → Row
-unfolding sub curve-at
-row-at right left v = record { right = curve-at right v; left = curve-at left (sub binary64 one v) }
-
-unfoldable pub patch-point : Column → Row → Float → Float → Point
-unfolding lerp2 combined
-patch-point column row u v =
-    combined (lerp2 v (column .bottom) (column .top)) (lerp2 u (row .left) (row .right)) (lerp2 v (column .low) (column .high))

@@ -2,3 +2,5 @@
 pub mod Columns
 pub mod Level
 pub mod Rows
+pub mod Segments
+pub mod Small

@@ -3,8 +3,10 @@ ghost use mathlib.Core.Path.{_≡_};
 ghost use Prim.Native.Nat.{_+_, _*_, _≤_};
 ghost use lib.ListN.{length};
 ghost use Rattle.base.specs.Buffers.{splice};
-ghost use Rattle.curves.specs.Curve.{curve, Sampled};
+ghost use Rattle.curves.specs.Curve.{curve};
+ghost use Rattle.curves.specs.inner.Segments.{Sampled};
 ghost use Rattle.curves.specs.inner.Columns.{column-values, stored-column, Table, level-points};
+ghost use Rattle.curves.specs.Limits.{max-seam, max-cells};
 use crate::boundary::Ends;
 use crate::patch::Column;
 use crate::patch::Row;
@@ -70,7 +72,7 @@ pub(crate) fn fill_columns(
     table: &mut [f64],
 )
     requires { ⌜ Sampled (now bottom) (now lengths0) × Sampled (now top) (now lengths2) ⌝ }
-    requires { ⌜ (length (now seam) ≤ 1025) × (9 * length (now seam) ≤ length (now table)) ⌝ }
+    requires { ⌜ (length (now seam) ≤ max-seam) × (9 * length (now seam) ≤ length (now table)) ⌝ }
     ensures { λ _. ⌜ Table (curve (now (bottom .entry)) (now (lengths0 .entry))) (curve (now (top .entry)) (now (lengths2 .entry))) b t (now (seam .entry)) (length (now (seam .entry))) (now (table .exit)) ⌝ }
 {
     let mut i = 0usize;
@@ -87,7 +89,7 @@ pub(crate) fn fill_columns(
 
 // The n + 1 points of a level line: those of the table's columns on the row of the patch at v.
 pub(crate) fn level_points(table: &[f64], row: Row, v: f64, n: usize, points: &mut [f64])
-    requires { ⌜ (n ≤ 1024) × (9 * (n + 1) ≤ length (now table)) × (2 * (n + 1) ≤ length (now points)) ⌝ }
+    requires { ⌜ (n ≤ max-cells) × (9 * (n + 1) ≤ length (now table)) × (2 * (n + 1) ≤ length (now points)) ⌝ }
     ensures { λ _. ⌜ now (points .exit) ≡ splice (now (points .entry)) 0 (level-points (now (table .entry)) row v n) ⌝ }
 {
     let mut i = 0usize;

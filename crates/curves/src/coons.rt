@@ -4,32 +4,34 @@ ghost use mathlib.Core.Bool.{true};
 ghost use Prim.Native.Nat.{_*_, _≤_, _<_};
 ghost use lib.ListN.{length};
 ghost use Rattle.base.specs.Refusal.{outcome};
-ghost use Rattle.curves.specs.Curve.{curve, Sampled};
+ghost use Rattle.curves.specs.Curve.{curve};
+ghost use Rattle.curves.specs.inner.Segments.{Sampled};
 ghost use Rattle.curves.specs.Boundary.{boundary, curve-ends};
 ghost use Rattle.curves.specs.Grid.{seams};
 ghost use Rattle.curves.specs.Coons.{outcome-of, grid-stage, patch, seam-limit, seams-limit, curve-limit, curves-limit, cells-limit, coons-from-parameters, coons-seamed, coons-curves, coons-quads, coons-nodes};
+ghost use Rattle.curves.specs.Limits.{max-curve, max-seam};
+ghost use Rattle.curves.specs.inner.Small.{small-curve, small-seam};
 use crate::boundary::BoundaryAnswer;
 use crate::boundary::Ends;
 use crate::boundary::checked_curves;
-use crate::grid::Layout;
 use crate::grid::coons_grid;
+use crate::limits::MAX_CELLS;
+use crate::limits::MAX_CURVE;
+use crate::limits::MAX_POINTS;
+use crate::limits::MAX_ROW;
+use crate::limits::MAX_SEAM;
+use crate::limits::MAX_TABLE;
+use crate::limits::SMALL_CURVE;
+use crate::limits::SMALL_POINTS;
+use crate::limits::SMALL_ROW;
+use crate::limits::SMALL_SEAM;
+use crate::limits::SMALL_TABLE;
+use crate::rows::Layout;
 use crate::rows::needed;
 use crate::seam::check_seams;
 use crate::seam::uniform_parameters;
 use base::refusal::Check;
 use base::refusal::Refusal;
-
-// 1,024 points.
-const MAX_CURVE: usize = 2048;
-
-pub(crate) const MAX_SEAM: usize = 1025;
-
-const MAX_CELLS: u32 = 1024;
-
-// A small tile has curves of at most 64 points, and at most 63 cells along its bottom.
-const SMALL_CURVE: usize = 128;
-
-const SMALL_SEAM: usize = 64;
 
 // How many quads the grid has, or why there is none.
 pub enum GridAnswer {
@@ -129,7 +131,7 @@ fn grid_stage(
     requires { ⌜ Sampled (now bottom) (now lengths0) × Sampled (now top) (now lengths2) ⌝ }
     requires { ⌜ Sampled (now right) (now lengths1) × Sampled (now left) (now lengths3) ⌝ }
     requires { ⌜ (b ≡ curve-ends (curve (now bottom) (now lengths0))) × (t ≡ curve-ends (curve (now top) (now lengths2))) ⌝ }
-    requires { ⌜ (length (now «bottom_u») ≤ 1025) × (length (now «top_u») ≤ 1025) × (length (now «left_v») ≤ 1025) × (length (now «right_v») ≤ 1025) ⌝ }
+    requires { ⌜ (length (now «bottom_u») ≤ max-seam) × (length (now «top_u») ≤ max-seam) × (length (now «left_v») ≤ max-seam) × (length (now «right_v») ≤ max-seam) ⌝ }
     requires { ⌜ (9 * length (now «bottom_u») ≤ length (now table)) × (2 * length (now «bottom_u») ≤ length (now low)) × (2 * length (now «bottom_u») ≤ length (now high)) ⌝ }
     ensures { λ r. ⌜ outcome-of r (now (out .exit)) ≡ grid-stage layout (boundary (curve (now (bottom .entry)) (now (lengths0 .entry))) (curve (now (right .entry)) (now (lengths1 .entry))) (curve (now (top .entry)) (now (lengths2 .entry))) (curve (now (left .entry)) (now (lengths3 .entry)))) (seams (now («bottom_u» .entry)) (now («top_u» .entry)) (now («left_v» .entry)) (now («right_v» .entry))) (now (out .entry)) ⌝ }
 {
@@ -190,7 +192,7 @@ fn patch_in(
     out: &mut [f64],
 ) -> GridAnswer
     requires { ⌜ (length (now bottom) ≤ 2 * length (now lengths0)) × (length (now right) ≤ 2 * length (now lengths1)) × (length (now top) ≤ 2 * length (now lengths2)) × (length (now left) ≤ 2 * length (now lengths3)) ⌝ }
-    requires { ⌜ (length (now «bottom_u») ≤ 1025) × (length (now «top_u») ≤ 1025) × (length (now «left_v») ≤ 1025) × (length (now «right_v») ≤ 1025) ⌝ }
+    requires { ⌜ (length (now «bottom_u») ≤ max-seam) × (length (now «top_u») ≤ max-seam) × (length (now «left_v») ≤ max-seam) × (length (now «right_v») ≤ max-seam) ⌝ }
     requires { ⌜ (9 * length (now «bottom_u») ≤ length (now table)) × (2 * length (now «bottom_u») ≤ length (now low)) × (2 * length (now «bottom_u») ≤ length (now high)) ⌝ }
     ensures { λ r. ⌜ outcome-of r (now (out .exit)) ≡ patch layout (now (bottom .entry)) (now (right .entry)) (now (top .entry)) (now (left .entry)) (seams (now («bottom_u» .entry)) (now («top_u» .entry)) (now («left_v» .entry)) (now («right_v» .entry))) (now (out .entry)) ⌝ }
 {
@@ -249,17 +251,17 @@ fn small_patch(
     layout: Layout,
     out: &mut [f64],
 ) -> GridAnswer
-    requires { ⌜ (length (now bottom) ≤ 128) × (length (now right) ≤ 128) × (length (now top) ≤ 128) × (length (now left) ≤ 128) ⌝ }
-    requires { ⌜ (length (now «bottom_u») ≤ 64) × (length (now «top_u») ≤ 1025) × (length (now «left_v») ≤ 1025) × (length (now «right_v») ≤ 1025) ⌝ }
+    requires { ⌜ (length (now bottom) ≤ small-curve) × (length (now right) ≤ small-curve) × (length (now top) ≤ small-curve) × (length (now left) ≤ small-curve) ⌝ }
+    requires { ⌜ (length (now «bottom_u») ≤ small-seam) × (length (now «top_u») ≤ max-seam) × (length (now «left_v») ≤ max-seam) × (length (now «right_v») ≤ max-seam) ⌝ }
     ensures { λ r. ⌜ outcome-of r (now (out .exit)) ≡ patch layout (now (bottom .entry)) (now (right .entry)) (now (top .entry)) (now (left .entry)) (seams (now («bottom_u» .entry)) (now («top_u» .entry)) (now («left_v» .entry)) (now («right_v» .entry))) (now (out .entry)) ⌝ }
 {
-    let mut lengths0 = [0.0; 64];
-    let mut lengths1 = [0.0; 64];
-    let mut lengths2 = [0.0; 64];
-    let mut lengths3 = [0.0; 64];
-    let mut table = [0.0; 576];
-    let mut low = [0.0; 128];
-    let mut high = [0.0; 128];
+    let mut lengths0 = [0.0; SMALL_POINTS];
+    let mut lengths1 = [0.0; SMALL_POINTS];
+    let mut lengths2 = [0.0; SMALL_POINTS];
+    let mut lengths3 = [0.0; SMALL_POINTS];
+    let mut table = [0.0; SMALL_TABLE];
+    let mut low = [0.0; SMALL_ROW];
+    let mut high = [0.0; SMALL_ROW];
     patch_in(
         bottom,
         &mut lengths0,
@@ -294,17 +296,17 @@ fn large_patch(
     layout: Layout,
     out: &mut [f64],
 ) -> GridAnswer
-    requires { ⌜ (length (now bottom) ≤ 2048) × (length (now right) ≤ 2048) × (length (now top) ≤ 2048) × (length (now left) ≤ 2048) ⌝ }
-    requires { ⌜ (length (now «bottom_u») ≤ 1025) × (length (now «top_u») ≤ 1025) × (length (now «left_v») ≤ 1025) × (length (now «right_v») ≤ 1025) ⌝ }
+    requires { ⌜ (length (now bottom) ≤ max-curve) × (length (now right) ≤ max-curve) × (length (now top) ≤ max-curve) × (length (now left) ≤ max-curve) ⌝ }
+    requires { ⌜ (length (now «bottom_u») ≤ max-seam) × (length (now «top_u») ≤ max-seam) × (length (now «left_v») ≤ max-seam) × (length (now «right_v») ≤ max-seam) ⌝ }
     ensures { λ r. ⌜ outcome-of r (now (out .exit)) ≡ patch layout (now (bottom .entry)) (now (right .entry)) (now (top .entry)) (now (left .entry)) (seams (now («bottom_u» .entry)) (now («top_u» .entry)) (now («left_v» .entry)) (now («right_v» .entry))) (now (out .entry)) ⌝ }
 {
-    let mut lengths0 = [0.0; 1024];
-    let mut lengths1 = [0.0; 1024];
-    let mut lengths2 = [0.0; 1024];
-    let mut lengths3 = [0.0; 1024];
-    let mut table = [0.0; 9225];
-    let mut low = [0.0; 2050];
-    let mut high = [0.0; 2050];
+    let mut lengths0 = [0.0; MAX_POINTS];
+    let mut lengths1 = [0.0; MAX_POINTS];
+    let mut lengths2 = [0.0; MAX_POINTS];
+    let mut lengths3 = [0.0; MAX_POINTS];
+    let mut table = [0.0; MAX_TABLE];
+    let mut low = [0.0; MAX_ROW];
+    let mut high = [0.0; MAX_ROW];
     patch_in(
         bottom,
         &mut lengths0,
@@ -327,7 +329,7 @@ fn large_patch(
 }
 
 fn is_small(bottom: &[f64], right: &[f64], top: &[f64], left: &[f64], bottom_u: &[f64]) -> bool
-    ensures { λ r. ⌜ (r ≡ true → (length (now (bottom .entry)) ≤ 128) × (length (now (right .entry)) ≤ 128) × (length (now (top .entry)) ≤ 128) × (length (now (left .entry)) ≤ 128) × (length (now («bottom_u» .entry)) ≤ 64)) ⌝ }
+    ensures { λ r. ⌜ (r ≡ true → (length (now (bottom .entry)) ≤ small-curve) × (length (now (right .entry)) ≤ small-curve) × (length (now (top .entry)) ≤ small-curve) × (length (now (left .entry)) ≤ small-curve) × (length (now («bottom_u» .entry)) ≤ small-seam)) ⌝ }
 {
     if bottom.len() > SMALL_CURVE {
         return false;
@@ -356,8 +358,8 @@ fn make_patch(
     layout: Layout,
     out: &mut [f64],
 ) -> GridAnswer
-    requires { ⌜ (length (now bottom) ≤ 2048) × (length (now right) ≤ 2048) × (length (now top) ≤ 2048) × (length (now left) ≤ 2048) ⌝ }
-    requires { ⌜ (length (now «bottom_u») ≤ 1025) × (length (now «top_u») ≤ 1025) × (length (now «left_v») ≤ 1025) × (length (now «right_v») ≤ 1025) ⌝ }
+    requires { ⌜ (length (now bottom) ≤ max-curve) × (length (now right) ≤ max-curve) × (length (now top) ≤ max-curve) × (length (now left) ≤ max-curve) ⌝ }
+    requires { ⌜ (length (now «bottom_u») ≤ max-seam) × (length (now «top_u») ≤ max-seam) × (length (now «left_v») ≤ max-seam) × (length (now «right_v») ≤ max-seam) ⌝ }
     ensures { λ r. ⌜ outcome-of r (now (out .exit)) ≡ patch layout (now (bottom .entry)) (now (right .entry)) (now (top .entry)) (now (left .entry)) (seams (now («bottom_u» .entry)) (now («top_u» .entry)) (now («left_v» .entry)) (now («right_v» .entry))) (now (out .entry)) ⌝ }
 {
     let small = is_small(bottom, right, top, left, bottom_u);
@@ -457,8 +459,8 @@ fn from_cells(
     if let Check::Refused(cause) = of_curves.and(of_cells) {
         return GridAnswer::Refused(cause);
     }
-    let mut us = [0.0; 1025];
-    let mut vs = [0.0; 1025];
+    let mut us = [0.0; MAX_SEAM];
+    let mut vs = [0.0; MAX_SEAM];
     uniform_parameters(n_u, &mut us);
     uniform_parameters(n_v, &mut vs);
     let along_u = n_u as usize + 1;

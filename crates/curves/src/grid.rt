@@ -6,7 +6,8 @@ ghost use lib.Dec.{T};
 ghost use lib.ListN.{length};
 ghost use Rattle.base.specs.Refusal.{outcome, is-passed};
 ghost use Rattle.base.specs.Buffers.{splice};
-ghost use Rattle.curves.specs.Curve.{curve, Sampled};
+ghost use Rattle.curves.specs.Curve.{curve};
+ghost use Rattle.curves.specs.inner.Segments.{Sampled};
 ghost use Rattle.curves.specs.Boundary.{boundary, curve-ends};
 ghost use Rattle.curves.specs.inner.Columns.{Table};
 ghost use Rattle.curves.specs.inner.Level.{Upright};
@@ -14,6 +15,7 @@ ghost use Rattle.curves.specs.Grid.{crossings, row-of, row-points, row-t
 ghost use Rattle.curves.specs.Quad.{zeros};
 ghost use Rattle.curves.specs.inner.Rows.{mapped-points, Laid};
 ghost use Rattle.curves.specs.Coons.{filled};
+ghost use Rattle.curves.specs.Limits.{max-seam, max-cells};
 use crate::boundary::Ends;
 use crate::columns::fill_columns;
 use crate::columns::level_points;
@@ -25,17 +27,12 @@ use crate::patch::patch_point;
 use crate::patch::row_at;
 use crate::point::PointAnswer;
 use crate::quad::clear;
+use crate::rows::Layout;
 use crate::rows::copy_row;
 use crate::rows::needed;
 use crate::rows::row_size;
 use crate::rows::write_row;
 use base::refusal::Check;
-
-// What an output holds of a grid: its quads, or its points for a mesh.
-pub(crate) enum Layout {
-    Quads,
-    Nodes,
-}
 
 // The n + 1 crossings of row j of the logical grid, which lie on the line from (0, v0) to (1, v1) (23, 24).
 fn fill_crossings(
@@ -47,7 +44,7 @@ fn fill_crossings(
     j: u32,
     row: &mut [f64],
 ) -> Check
-    requires { ⌜ (n ≤ 1024) × (n + 1 ≤ length (now seam0)) × (n + 1 ≤ length (now seam2)) × (2 * (n + 1) ≤ length (now row)) ⌝ }
+    requires { ⌜ (n ≤ max-cells) × (n + 1 ≤ length (now seam0)) × (n + 1 ≤ length (now seam2)) × (2 * (n + 1) ≤ length (now row)) ⌝ }
     ensures { λ r. ⌜ outcome r ≡ row-test (crossings (now (seam0 .entry)) (now (seam2 .entry)) v0 v1 j) n ⌝ }
     ensures { λ r. ⌜ (T (is-passed (outcome r)) → now (row .exit) ≡ splice (now (row .entry)) 0 (row-points (crossings (now (seam0 .entry)) (now (seam2 .entry)) v0 v1 j) n)) ⌝ }
 {
@@ -92,7 +89,7 @@ fn map_points(
     requires { ⌜ Sampled (now bottom) (now lengths0) × Sampled (now top) (now lengths2) ⌝ }
     requires { ⌜ Sampled (now right) (now lengths1) × Sampled (now left) (now lengths3) ⌝ }
     requires { ⌜ (b ≡ curve-ends (curve (now bottom) (now lengths0))) × (t ≡ curve-ends (curve (now top) (now lengths2))) ⌝ }
-    requires { ⌜ (n ≤ 1024) × (2 * (n + 1) ≤ length (now row)) ⌝ }
+    requires { ⌜ (n ≤ max-cells) × (2 * (n + 1) ≤ length (now row)) ⌝ }
     ensures { λ _. ⌜ now (row .exit) ≡ splice (now (row .entry)) 0 (mapped-points (boundary (curve (now (bottom .entry)) (now (lengths0 .entry))) (curve (now (right .entry)) (now (lengths1 .entry))) (curve (now (top .entry)) (now (lengths2 .entry))) (curve (now (left .entry)) (now (lengths3 .entry)))) (now (row .entry)) n) ⌝ }
 {
     let mut i = 0usize;
@@ -139,7 +136,7 @@ fn fill_row(
     requires { ⌜ (b ≡ curve-ends (curve (now bottom) (now lengths0))) × (t ≡ curve-ends (curve (now top) (now lengths2))) ⌝ }
     requires { ⌜ Table (curve (now bottom) (now lengths0)) (curve (now top) (now lengths2)) b t (now seam0) (n + 1) (now table) ⌝ }
     requires { ⌜ (upright ≡ true → Upright (now seam0) (now seam2)) ⌝ }
-    requires { ⌜ (n ≤ 1024) × (j ≤ 1024) × (n + 1 ≤ length (now seam0)) × (n + 1 ≤ length (now seam2)) × (2 * (n + 1) ≤ length (now row)) ⌝ }
+    requires { ⌜ (n ≤ max-cells) × (j ≤ max-cells) × (n + 1 ≤ length (now seam0)) × (n + 1 ≤ length (now seam2)) × (2 * (n + 1) ≤ length (now row)) ⌝ }
     ensures { λ r. ⌜ outcome r ≡ row-test (row-of (boundary (curve (now (bottom .entry)) (now (lengths0 .entry))) (curve (now (right .entry)) (now (lengths1 .entry))) (curve (now (top .entry)) (now (lengths2 .entry))) (curve (now (left .entry)) (now (lengths3 .entry)))) (now (seam0 .entry)) (now (seam2 .entry)) v0 v1 j) n ⌝ }
     ensures { λ r. ⌜ (T (is-passed (outcome r)) → now (row .exit) ≡ splice (now (row .entry)) 0 (row-points (row-of (boundary (curve (now (bottom .entry)) (now (lengths0 .entry))) (curve (now (right .entry)) (now (lengths1 .entry))) (curve (now (top .entry)) (now (lengths2 .entry))) (curve (now (left .entry)) (now (lengths3 .entry)))) (now (seam0 .entry)) (now (seam2 .entry)) v0 v1 j) n)) ⌝ }
 {
@@ -203,7 +200,7 @@ fn grid_rows(
     requires { ⌜ Table (curve (now bottom) (now lengths0)) (curve (now top) (now lengths2)) b t (now «bottom_u») (length (now «bottom_u»)) (now table) ⌝ }
     requires { ⌜ (upright ≡ true → Upright (now «bottom_u») (now «top_u»)) ⌝ }
     requires { ⌜ (b ≡ curve-ends (curve (now bottom) (now lengths0))) × (t ≡ curve-ends (curve (now top) (now lengths2))) ⌝ }
-    requires { ⌜ (2 ≤ length (now «bottom_u»)) × (length (now «bottom_u») ≤ 1025) × (length (now «bottom_u») ≡ length (now «top_u»)) × (2 ≤ length (now «left_v»)) × (length (now «left_v») ≤ 1025) × (length (now «left_v») ≡ length (now «right_v»)) ⌝ }
+    requires { ⌜ (2 ≤ length (now «bottom_u»)) × (length (now «bottom_u») ≤ max-seam) × (length (now «bottom_u») ≡ length (now «top_u»)) × (2 ≤ length (now «left_v»)) × (length (now «left_v») ≤ max-seam) × (length (now «left_v») ≡ length (now «right_v»)) ⌝ }
     requires { ⌜ (2 * length (now «bottom_u») ≤ length (now low)) × (2 * length (now «bottom_u») ≤ length (now high)) ⌝ }
     requires { ⌜ needed layout (n-u (seams (now «bottom_u») (now «top_u») (now «left_v») (now «right_v»))) (n-v (seams (now «bottom_u») (now «top_u») (now «left_v») (now «right_v»))) ≤ length (now out) ⌝ }
     ensures { λ r. ⌜ outcome r ≡ grid-test (grid-of (boundary (curve (now (bottom .entry)) (now (lengths0 .entry))) (curve (now (right .entry)) (now (lengths1 .entry))) (curve (now (top .entry)) (now (lengths2 .entry))) (curve (now (left .entry)) (now (lengths3 .entry)))) (seams (now («bottom_u» .entry)) (now («top_u» .entry)) (now («left_v» .entry)) (now («right_v» .entry)))) (n-u (seams (now («bottom_u» .entry)) (now («top_u» .entry)) (now («left_v» .entry)) (now («right_v» .entry)))) (n-v (seams (now («bottom_u» .entry)) (now («top_u» .entry)) (now («left_v» .entry)) (now («right_v» .entry)))) ⌝ }
@@ -256,7 +253,7 @@ fn grid_rows(
 
 // Where the grid of n by m cells is refused, the needed output is cleared.
 fn clear_refused(answer: Check, layout: Layout, n: usize, m: usize, out: &mut [f64])
-    requires { ⌜ (n ≤ 1024) × (m ≤ 1024) × (needed layout n m ≤ length (now out)) ⌝ }
+    requires { ⌜ (n ≤ max-cells) × (m ≤ max-cells) × (needed layout n m ≤ length (now out)) ⌝ }
     ensures { λ _. ⌜ now (out .exit) ≡ cond (is-passed (outcome answer)) (now (out .entry)) (splice (now (out .entry)) 0 (zeros (needed layout n m))) ⌝ }
 {
     if let Check::Passed = answer {
@@ -292,7 +289,7 @@ pub(crate) fn coons_grid(
     requires { ⌜ Sampled (now bottom) (now lengths0) × Sampled (now top) (now lengths2) ⌝ }
     requires { ⌜ Sampled (now right) (now lengths1) × Sampled (now left) (now lengths3) ⌝ }
     requires { ⌜ (b ≡ curve-ends (curve (now bottom) (now lengths0))) × (t ≡ curve-ends (curve (now top) (now lengths2))) ⌝ }
-    requires { ⌜ (2 ≤ length (now «bottom_u»)) × (length (now «bottom_u») ≤ 1025) × (length (now «bottom_u») ≡ length (now «top_u»)) × (2 ≤ length (now «left_v»)) × (length (now «left_v») ≤ 1025) × (length (now «left_v») ≡ length (now «right_v»)) ⌝ }
+    requires { ⌜ (2 ≤ length (now «bottom_u»)) × (length (now «bottom_u») ≤ max-seam) × (length (now «bottom_u») ≡ length (now «top_u»)) × (2 ≤ length (now «left_v»)) × (length (now «left_v») ≤ max-seam) × (length (now «left_v») ≡ length (now «right_v»)) ⌝ }
     requires { ⌜ (9 * length (now «bottom_u») ≤ length (now table)) × (2 * length (now «bottom_u») ≤ length (now low)) × (2 * length (now «bottom_u») ≤ length (now high)) ⌝ }
     requires { ⌜ needed layout (n-u (seams (now «bottom_u») (now «top_u») (now «left_v») (now «right_v»))) (n-v (seams (now «bottom_u») (now «top_u») (now «left_v») (now «right_v»))) ≤ length (now out) ⌝ }
     ensures { λ r. ⌜ outcome r ≡ grid-test (grid-of (boundary (curve (now (bottom .entry)) (now (lengths0 .entry))) (curve (now (right .entry)) (now (lengths1 .entry))) (curve (now (top .entry)) (now (lengths2 .entry))) (curve (now (left .entry)) (now (lengths3 .entry)))) (seams (now («bottom_u» .entry)) (now («top_u» .entry)) (now («left_v» .entry)) (now («right_v» .entry)))) (n-u (seams (now («bottom_u» .entry)) (now («top_u» .entry)) (now («left_v» .entry)) (now («right_v» .entry)))) (n-v (seams (now («bottom_u» .entry)) (now («top_u» .entry)) (now («left_v» .entry)) (now («right_v» .entry)))) ⌝ }

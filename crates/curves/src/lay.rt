@@ -10,16 +10,21 @@ ghost use Rattle.counts.specs.Region.{places, side, side-sum};
 ghost use Rattle.base.specs.Buffers.{splice};
 ghost use Rattle.curves.specs.Coons.{outcome-of};
 ghost use Rattle.curves.specs.Lay.{tile-input, counts-along, seam-of, record-test, edges-test, breaks-test, lay-test, lay};
+ghost use Rattle.curves.specs.Limits.{max-seam};
 use crate::coons::GridAnswer;
-use crate::coons::MAX_SEAM;
 use crate::coons::check_curve_limits;
 use crate::coons::coons_from_parameters;
+use crate::limits::MAX_SEAM;
 use crate::seam::side_seam;
 use base::refusal::Check;
 use base::refusal::Refusal;
 use counts::check::check_limits;
+use counts::region::PLACES;
 use counts::region::RECORD_SIZE;
 use counts::region::side;
+
+// The edges of a side.
+const MAX_ALONG: usize = PLACES as usize;
 
 // 1: not just one record, or a limit exceeded; n is the number of counts.
 fn check_record(region: &[u16], n: usize) -> Check
@@ -112,13 +117,13 @@ fn check_lay(
     of_record.and(from_curves)
 }
 
-// Writes the counts of a side's edges, and returns what they add up to. 64 bits hold it: a side has at most 16 edges.
+// Writes the counts of a side's edges, and returns what they add up to. 64 bits hold it: a side has few edges.
 fn counts_along(edges: &[u16], counts: &[u32], out: &mut [u32]) -> usize
-    requires { ⌜ length (now edges) ≤ 16 ⌝ }
+    requires { ⌜ length (now edges) ≤ places ⌝ }
     requires { ⌜ length (now edges) ≤ length (now out) ⌝ }
     requires { ⌜ T (all (λ (e : ℕ). ltb e (length (now counts))) (now edges)) ⌝ }
     ensures { λ r. ⌜ r ≡ side-sum (now (counts .entry)) (now (edges .entry)) ⌝ }
-    ensures { λ r. ⌜ r ≤ 16 * 4294967295 ⌝ }
+    ensures { λ r. ⌜ r ≤ places * 4294967295 ⌝ }
     ensures { λ r. ⌜ now (out .exit) ≡ splice (now (out .entry)) 0 (counts-along (now (counts .entry)) (now (edges .entry))) ⌝ }
 {
     let mut total = 0usize;
@@ -135,15 +140,15 @@ fn counts_along(edges: &[u16], counts: &[u32], out: &mut [u32]) -> usize
 
 // Writes the seam of side k, unless it is too long, and returns how many values it has.
 fn lay_side(region: &[u16], counts: &[u32], k: u32, breaks: &[f64], out: &mut [f64]) -> usize
-    requires { ⌜ length (side places (now region) k) ≤ 16 ⌝ }
+    requires { ⌜ length (side places (now region) k) ≤ places ⌝ }
     requires { ⌜ T (is-passed (edges-test (now region) (length (now counts)) k)) ⌝ }
     requires { ⌜ T (is-passed (breaks-test (now region) (now breaks) k)) ⌝ }
-    requires { ⌜ 1025 ≤ length (now out) ⌝ }
+    requires { ⌜ max-seam ≤ length (now out) ⌝ }
     ensures { λ r. ⌜ r ≡ length (seam-of (now (region .entry)) (now (counts .entry)) k (now (breaks .entry))) ⌝ }
-    ensures { λ r. ⌜ (r ≤ 1025 → take r (now (out .exit)) ≡ seam-of (now (region .entry)) (now (counts .entry)) k (now (breaks .entry))) ⌝ }
+    ensures { λ r. ⌜ (r ≤ max-seam → take r (now (out .exit)) ≡ seam-of (now (region .entry)) (now (counts .entry)) k (now (breaks .entry))) ⌝ }
 {
     let edges = side(region, k);
-    let mut along = [0u32; 16];
+    let mut along = [0u32; MAX_ALONG];
     let total = counts_along(edges, counts, &mut along);
     if total >= MAX_SEAM {
         return total + 1;
@@ -154,8 +159,8 @@ fn lay_side(region: &[u16], counts: &[u32], k: u32, breaks: &[f64], out: &mut [f
 
 // Whether a seam has too many values, of the four numbers of them.
 fn any_too_long(bottom: usize, top: usize, left: usize, right: usize) -> bool
-    ensures { λ r. ⌜ r ≡ (ltb 1025 bottom || (ltb 1025 top || (ltb 1025 left || ltb 1025 right))) ⌝ }
-    ensures { λ r. ⌜ (r ≡ false → (bottom ≤ 1025) × (top ≤ 1025) × (left ≤ 1025) × (right ≤ 1025)) ⌝ }
+    ensures { λ r. ⌜ r ≡ (ltb max-seam bottom || (ltb max-seam top || (ltb max-seam left || ltb max-seam right))) ⌝ }
+    ensures { λ r. ⌜ (r ≡ false → (bottom ≤ max-seam) × (top ≤ max-seam) × (left ≤ max-seam) × (right ≤ max-seam)) ⌝ }
 {
     if bottom > MAX_SEAM {
         return true;
@@ -202,10 +207,10 @@ pub fn lay_region(
     ) {
         return GridAnswer::Refused(cause);
     }
-    let mut bottom_u = [0.0f64; 1025];
-    let mut right_v = [0.0f64; 1025];
-    let mut top_u = [0.0f64; 1025];
-    let mut left_v = [0.0f64; 1025];
+    let mut bottom_u = [0.0f64; MAX_SEAM];
+    let mut right_v = [0.0f64; MAX_SEAM];
+    let mut top_u = [0.0f64; MAX_SEAM];
+    let mut left_v = [0.0f64; MAX_SEAM];
     let n0 = lay_side(region, counts, 0, breaks0, &mut bottom_u);
     let n1 = lay_side(region, counts, 1, breaks1, &mut right_v);
     let n2 = lay_side(region, counts, 2, breaks2, &mut top_u);

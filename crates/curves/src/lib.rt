@@ -1,5 +1,5 @@
-// The geometry above the counts: the square root, the scalars and points that the curves go by, the curves, their seams, the patch between
-// them, its grid of points and quads, and lay, which grids a region by its counts. Public are `coons`, `lay` and `root`.
+// The geometry above the counts: points, curves, their seams, the patch between them, its grid of points and quads, and lay, which grids a
+// region by its counts. Public are `coons` and `lay`.
 mod boundary;
 mod columns;
 pub mod coons;
@@ -8,6 +8,7 @@ mod curve;
 mod grid;
 pub mod lay;
 mod level;
+pub mod limits;
 mod patch;
 mod point;
 mod quad;

@@ -1,8 +1,10 @@
 // One point of the Coons patch, split into what u decides (a column), what v decides (a row), and the rest, since the points of a grid
 // share columns and rows.
 ghost use mathlib.Core.Path.{_≡_};
-ghost use Rattle.curves.specs.Curve.{curve, Sampled};
-ghost use Rattle.curves.specs.Patch.{lerp2, combined, column-at, row-at, patch-point};
+ghost use Rattle.curves.specs.Curve.{curve};
+ghost use Rattle.curves.specs.inner.Segments.{Sampled};
+ghost use Rattle.curves.specs.Patch.{lerp2, combined};
+ghost use Rattle.curves.specs.inner.Columns.{column-at, row-at, patch-point};
 use crate::boundary::Ends;
 use crate::curve::curve_near;
 use crate::point::Point;

@@ -7,18 +7,24 @@ ghost use Rattle.base.specs.Refusal.{outcome};
 ghost use Rattle.base.specs.Buffers.{splice};
 ghost use mathlib.Core.Bool.{true};
 ghost use Rattle.curves.specs.inner.Rows.{row-size, AllSound};
-ghost use Rattle.curves.specs.declared.grid.Layout.the-variants.{Quads};
+ghost use Rattle.curves.specs.declared.rows.Layout.the-variants.{Quads};
 ghost use Rattle.curves.specs.Grid.{cell-test, cells-test, below-test, quad-values, quads-between, node-values, nodes-of, row-part, needed};
+ghost use Rattle.curves.specs.Limits.{max-cells};
 use crate::curve::point_at;
-use crate::grid::Layout;
 use crate::point::Point;
 use crate::quad::check_quad;
 use crate::quad::has_area;
 use base::refusal::Check;
 
+// What an output holds of a grid: its quads, or its points for a mesh.
+pub(crate) enum Layout {
+    Quads,
+    Nodes,
+}
+
 // 25 at the cell i of row j.
 fn check_cell(low: &[f64], high: &[f64], i: usize, j: u32) -> Check
-    requires { ⌜ (i ≤ 1024) × (2 * i + 3 < length (now low)) × (2 * i + 3 < length (now high)) ⌝ }
+    requires { ⌜ (i ≤ max-cells) × (2 * i + 3 < length (now low)) × (2 * i + 3 < length (now high)) ⌝ }
     ensures { λ r. ⌜ outcome r ≡ cell-test (now (low .entry)) (now (high .entry)) j i ⌝ }
 {
     let index = i as u32;
@@ -31,7 +37,7 @@ fn check_cell(low: &[f64], high: &[f64], i: usize, j: u32) -> Check
 
 // 25 along row j of the cells.
 fn check_cells(low: &[f64], high: &[f64], n: usize, j: usize) -> Check
-    requires { ⌜ (n ≤ 1024) × (j ≤ 1024) × (2 * (n + 1) ≤ length (now low)) × (2 * (n + 1) ≤ length (now high)) ⌝ }
+    requires { ⌜ (n ≤ max-cells) × (j ≤ max-cells) × (2 * (n + 1) ≤ length (now low)) × (2 * (n + 1) ≤ length (now high)) ⌝ }
     ensures { λ r. ⌜ outcome r ≡ cells-test (now (low .entry)) (now (high .entry)) n j ⌝ }
 {
     let row = j as u32;
@@ -47,7 +53,7 @@ fn check_cells(low: &[f64], high: &[f64], n: usize, j: usize) -> Check
 
 // 25 of the cells below row j of the points: the lowest row has none, and `low` is not read there.
 fn check_row(low: &[f64], high: &[f64], n: usize, j: usize) -> Check
-    requires { ⌜ (n ≤ 1024) × (j ≤ 1024) × (2 * (n + 1) ≤ length (now low)) × (2 * (n + 1) ≤ length (now high)) ⌝ }
+    requires { ⌜ (n ≤ max-cells) × (j ≤ max-cells) × (2 * (n + 1) ≤ length (now low)) × (2 * (n + 1) ≤ length (now high)) ⌝ }
     ensures { λ r. ⌜ outcome r ≡ below-test (now (low .entry)) (now (high .entry)) n j ⌝ }
 {
     if j == 0 {
@@ -121,7 +127,7 @@ fn write_nodes(row: &[f64], n: usize, from: usize, out: &mut [f64])
 
 // Writes the quads below row j of the points, and tests them (25). The lowest row has none.
 fn lay_quads(low: &[f64], high: &[f64], n: usize, j: usize, from: usize, out: &mut [f64]) -> Check
-    requires { ⌜ (n ≤ 1024) × (j ≤ 1024) × (2 * (n + 1) ≤ length (now low)) × (2 * (n + 1) ≤ length (now high)) × (from + length (row-part Quads (now low) (now high) n j) ≤ length (now out)) ⌝ }
+    requires { ⌜ (n ≤ max-cells) × (j ≤ max-cells) × (2 * (n + 1) ≤ length (now low)) × (2 * (n + 1) ≤ length (now high)) × (from + length (row-part Quads (now low) (now high) n j) ≤ length (now out)) ⌝ }
     ensures { λ r. ⌜ outcome r ≡ below-test (now (low .entry)) (now (high .entry)) n j ⌝ }
     ensures { λ _. ⌜ now (out .exit) ≡ splice (now (out .entry)) from (row-part Quads (now (low .entry)) (now (high .entry)) n j) ⌝ }
 {
@@ -146,7 +152,7 @@ pub(crate) fn write_row(
     from: usize,
     out: &mut [f64],
 ) -> Check
-    requires { ⌜ (n ≤ 1024) × (j ≤ 1024) × (2 * (n + 1) ≤ length (now low)) × (2 * (n + 1) ≤ length (now high)) × (from + length (row-part layout (now low) (now high) n j) ≤ length (now out)) ⌝ }
+    requires { ⌜ (n ≤ max-cells) × (j ≤ max-cells) × (2 * (n + 1) ≤ length (now low)) × (2 * (n + 1) ≤ length (now high)) × (from + length (row-part layout (now low) (now high) n j) ≤ length (now out)) ⌝ }
     ensures { λ r. ⌜ outcome r ≡ below-test (now (low .entry)) (now (high .entry)) n j ⌝ }
     ensures { λ _. ⌜ now (out .exit) ≡ splice (now (out .entry)) from (row-part layout (now (low .entry)) (now (high .entry)) n j) ⌝ }
 {
@@ -161,7 +167,7 @@ pub(crate) fn write_row(
 
 // How many values row j of the points adds.
 pub(crate) fn row_size(layout: Layout, n: usize, j: usize) -> usize
-    requires { ⌜ n ≤ 1024 ⌝ }
+    requires { ⌜ n ≤ max-cells ⌝ }
     ensures { λ r. ⌜ r ≡ row-size layout n j ⌝ }
 {
     match layout {
@@ -189,7 +195,7 @@ pub(crate) fn copy_row(row: &[f64], low: &mut [f64])
 
 // How many values a grid of n by m cells writes.
 pub(crate) fn needed(layout: Layout, n: usize, m: usize) -> usize
-    requires { ⌜ (n ≤ 1024) × (m ≤ 1024) ⌝ }
+    requires { ⌜ (n ≤ max-cells) × (m ≤ max-cells) ⌝ }
     ensures { λ r. ⌜ r ≡ needed layout n m ⌝ }
 {
     match layout {

@@ -7,6 +7,7 @@ ghost use Rattle.base.specs.Refusal.{outcome};
 ghost use Rattle.base.specs.Buffers.{splice};
 ghost use Rattle.base.specs.Tests.{first-of};
 ghost use Rattle.curves.specs.Seam.{uniform-parameters, edge-values, side-seam, value-test, seam-ends-test, seam-test, pair-test, seams-test};
+ghost use Rattle.curves.specs.Limits.{max-seam, max-cells};
 use base::refusal::Check;
 use base::refusal::Refusal;
 use floats::scalar::abs;
@@ -14,7 +15,7 @@ use floats::scalar::in_unit;
 
 // The n + 1 values 0, 1/n, .., 1.
 pub(crate) fn uniform_parameters(n: u32, out: &mut [f64])
-    requires { ⌜ (n ≤ 1024) × (n < length (now out)) ⌝ }
+    requires { ⌜ (n ≤ max-cells) × (n < length (now out)) ⌝ }
     ensures { λ _. ⌜ now (out .exit) ≡ splice (now (out .entry)) 0 (uniform-parameters n) ⌝ }
 {
     let mut i = 0u32;
@@ -61,7 +62,7 @@ pub(crate) fn side_seam(breaks: &[f64], counts: &[u32], out: &mut [f64]) -> usiz
 
 // 19 and 20 at one index: out of range, or below the value before it.
 fn check_value(values: &[f64], seam: u32, i: usize) -> Check
-    requires { ⌜ (i < length (now values)) × (length (now values) ≤ 1025) ⌝ }
+    requires { ⌜ (i < length (now values)) × (length (now values) ≤ max-seam) ⌝ }
     ensures { λ r. ⌜ outcome r ≡ value-test (now (values .entry)) seam i ⌝ }
 {
     let index = i as u32;
@@ -81,7 +82,7 @@ fn check_value(values: &[f64], seam: u32, i: usize) -> Check
 }
 
 fn check_values(values: &[f64], seam: u32) -> Check
-    requires { ⌜ length (now values) ≤ 1025 ⌝ }
+    requires { ⌜ length (now values) ≤ max-seam ⌝ }
     ensures { λ r. ⌜ outcome r ≡ first-of (value-test (now (values .entry)) seam) 0 (length (now (values .entry))) ⌝ }
 {
     let mut i = 0usize;
@@ -110,7 +111,7 @@ fn check_seam_ends(first: f64, last: f64, seam: u32) -> Check
 
 // 18 to 21, of the seam with this number.
 fn validate_parameters(values: &[f64], seam: u32) -> Check
-    requires { ⌜ length (now values) ≤ 1025 ⌝ }
+    requires { ⌜ length (now values) ≤ max-seam ⌝ }
     ensures { λ r. ⌜ outcome r ≡ seam-test (now (values .entry)) seam ⌝ }
 {
     if values.len() < 2 {
@@ -135,7 +136,7 @@ fn check_pair(a: &[f64], b: &[f64], pair: u32) -> Check
 
 // 18 to 22.
 pub(crate) fn check_seams(bottom: &[f64], top: &[f64], left: &[f64], right: &[f64]) -> Check
-    requires { ⌜ (length (now bottom) ≤ 1025) × (length (now top) ≤ 1025) × (length (now left) ≤ 1025) × (length (now right) ≤ 1025) ⌝ }
+    requires { ⌜ (length (now bottom) ≤ max-seam) × (length (now top) ≤ max-seam) × (length (now left) ≤ max-seam) × (length (now right) ≤ max-seam) ⌝ }
     ensures { λ r. ⌜ outcome r ≡ seams-test (now (bottom .entry)) (now (top .entry)) (now (left .entry)) (now (right .entry)) ⌝ }
 {
     let of_bottom = validate_parameters(bottom, 0);

@@ -27,9 +27,13 @@ points-used points = cond (closes points) (point-count points - 1) (point-count 
 
 -- ---- what is refused: "1, 12"
 
+-- "at most 4,096 points"
+abbrev pub max-loop : ℕ
+max-loop = 4096
+
 -- "a limit above exceeded, or a broken record or list": "at most 4,096 points", and "an odd number of values is broken"
 unfoldable pub size-test : List Float → Verdict
-size-test points = refuse-if (ltb 4096 (point-count points) || not (eqb (length points % 2) 0)) (refused 1 0 0)
+size-test points = refuse-if (ltb max-loop (point-count points) || not (eqb (length points % 2) 0)) (refused 1 0 0)
 
 -- "loop not 4 points, nor 8 or more in fours"
 unfoldable pub fours-test : ℕ → Verdict

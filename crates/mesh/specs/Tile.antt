@@ -10,10 +10,11 @@ use Rattle.base.specs.Tests.{if-passed}
 use Rattle.curves.specs.Coons.{Outcome, refusal, unless, coons-quads}
 use Rattle.mesh.specs.Loop.{loop-test, piece}
 use Rattle.mesh.specs.Mesh.{Mesh, mesh-tile-curves}
+use Rattle.curves.specs.Limits.{max-cells}
 
 -- "n_u and n_v at most 1,024": 1, which comes before 12
 unfoldable pub cell-limits-test : ℕ → ℕ → Verdict
-cell-limits-test n m = refuse-if (ltb 1024 n || ltb 1024 m) (refused 1 0 0)
+cell-limits-test n m = refuse-if (ltb max-cells n || ltb max-cells m) (refused 1 0 0)
 
 -- "1, 12"; the tests from 26 on are those of the four curves
 unfoldable pub tile-test : List Float → ℕ → ℕ → Verdict

@@ -5,11 +5,12 @@ ghost use lib.ListN.{length};
 ghost use Rattle.base.specs.Refusal.{verdict-of};
 ghost use Rattle.base.specs.Buffers.{splice};
 ghost use Rattle.mesh.specs.Mesh.{row-cells, mesh-cells, no-cells, zeroes};
+ghost use Rattle.curves.specs.Limits.{max-cells};
 use base::refusal::Refusal;
 
 // Writes the n cells of row j, from an index on.
 fn write_row(n: u32, j: u32, from: usize, cells: &mut [u32])
-    requires { ⌜ (n ≤ 1024) × (j < 1024) × (from + 4 * n ≤ length (now cells)) ⌝ }
+    requires { ⌜ (n ≤ max-cells) × (j < max-cells) × (from + 4 * n ≤ length (now cells)) ⌝ }
     ensures { λ _. ⌜ now (cells .exit) ≡ splice (now (cells .entry)) from (row-cells n j) ⌝ }
 {
     let across = n + 1;
@@ -29,7 +30,7 @@ fn write_row(n: u32, j: u32, from: usize, cells: &mut [u32])
 }
 
 pub(crate) fn write_cells(n: u32, m: u32, cells: &mut [u32])
-    requires { ⌜ (n ≤ 1024) × (m ≤ 1024) × (4 * (m * n) ≤ length (now cells)) ⌝ }
+    requires { ⌜ (n ≤ max-cells) × (m ≤ max-cells) × (4 * (m * n) ≤ length (now cells)) ⌝ }
     ensures { λ _. ⌜ now (cells .exit) ≡ splice (now (cells .entry)) 0 (mesh-cells n m) ⌝ }
 {
     let width = 4 * (n as usize);

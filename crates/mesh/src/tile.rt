@@ -21,8 +21,7 @@ use base::refusal::Refusal;
 use curves::coons::GridAnswer;
 use curves::coons::coons_curves;
 use curves::coons::coons_nodes;
-
-const MAX_CELLS: u32 = 1024;
+use curves::limits::MAX_CELLS;
 
 // Whether the indices of n_u by n_v quads fit. The numbers may be anything here, so that a product with 4 could overflow.
 fn fits(n_u: u32, n_v: u32, cells: &[u32]) -> bool

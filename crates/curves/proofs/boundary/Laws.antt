@@ -10,7 +10,8 @@ use Rattle.base.specs.Refusal.{verdict-of, outcome, is-passed, then-test}
 use Rattle.base.specs.declared.refusal.Check.{Check}
 use Rattle.base.specs.declared.refusal.Check.the-variants.{Passed, Refused}
 use Rattle.base.specs.declared.refusal.Refusal.{Refusal}
-use Rattle.curves.specs.Curve.{curve, cumulative-of, Sampled, curve-test}
+use Rattle.curves.specs.Curve.{curve, cumulative-of, curve-test}
+use Rattle.curves.specs.inner.Segments.{Sampled}
 use Rattle.curves.specs.Boundary.{boundary, boundary-of, boundary-ends, ends-test, curves-test, checked-curves, joined-of, joined-curves}
 use Rattle.base.specs.Answers.{Answer, good, turned-away, verdict}
 use Rattle.curves.specs.declared.boundary.BoundaryEnds.{BoundaryEnds}

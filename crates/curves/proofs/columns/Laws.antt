@@ -10,7 +10,7 @@ use Rattle.base.specs.Buffers.{concat-tabulate, splice}
 use Rattle.floats.specs.Scalar.{clamp-unit}
 use Rattle.curves.specs.Curve.{ArcCurve}
 use Rattle.curves.specs.Point.{values}
-use Rattle.curves.specs.Patch.{column-at, patch-point}
+use Rattle.curves.specs.inner.Columns.{column-at, patch-point}
 use Rattle.curves.specs.inner.Columns.{column-values, stored-column, seam-column, Table}
 use Rattle.curves.specs.declared.boundary.Ends.{Ends}
 use Rattle.curves.specs.declared.patch.Column.{Column}

@@ -22,10 +22,11 @@ use Rattle.curves.specs.Boundary.{BoundaryCurves}
 use Rattle.curves.specs.Seam.{uniform-parameters, seam-test, pair-test, seams-test}
 use Rattle.curves.specs.Grid.{Seams, seams, n-u, n-v, Grid, grid-of, grid-test, needed}
 use Rattle.curves.specs.Coons.{Outcome, outcome-of, refusal, unless, filled, seams-and-room-test, grid-stage, curve-limit, curves-limit, seam-limit, seams-limit, cells-limit, coons-from-parameters}
-use Rattle.curves.specs.declared.grid.Layout.{Layout}
+use Rattle.curves.specs.declared.rows.Layout.{Layout}
 use Rattle.curves.specs.declared.coons.GridAnswer.the-variants as grid-answer
 use Rattle.base.proofs.BufferLaws.{length-tabulate, take-splice}
 use Rattle.curves.proofs.grid.Filled.{good-grid, no-grid}
+use Rattle.curves.specs.Limits.{max-curve, max-seam, max-cells}
 
 -- ---- an answer, by the tests before it
 
@@ -83,8 +84,8 @@ seams-passed b t l r p =
 pub seams-fine : (b t l r : List Float) (k : Check) → k ≡ Passed → outcome k ≡ seams-test b t l r → (2 ≤ length b) × (length b ≡ length t) × (2 ≤ length l) × (length l ≡ length r)
 seams-fine b t l r k e o = seams-passed b t l r (subst (λ (v : Verdict). T (is-passed v)) o (told-passed k e))
 
-pub cells-fit : (n m : ℕ) → n ≤ 1024 → m ≤ 1024 → m * n ≤ 1048576
-cells-fit n m h k = let e : m * n ≤ 1024 * n = mul-le-mul-right n k in omega arith
+pub cells-fit : (n m : ℕ) → n ≤ max-cells → m ≤ max-cells → m * n ≤ 1048576
+cells-fit n m h k = let e : m * n ≤ max-cells * n = mul-le-mul-right n k in omega arith
 
 module _ (layout : Layout) (c : BoundaryCurves) (s : Seams) (out : List Float) where
   abbrev rest : Outcome
@@ -112,25 +113,25 @@ module _ (layout : Layout) (c : BoundaryCurves) (s : Seams) (out : List Float) w
 
 -- ---- limits
 
-pub curve-let-by : (points : List Float) → T (is-passed (curve-limit points)) → length points ≤ 2048
+pub curve-let-by : (points : List Float) → T (is-passed (curve-limit points)) → length points ≤ max-curve
 unfolding curve-limit
-curve-let-by points p = go (ltb 2048 (length points)) refl p
+curve-let-by points p = go (ltb max-curve (length points)) refl p
   where
-    go : (d : Bool) → ltb 2048 (length points) ≡ d → T (is-passed (refuse-if (d || not (eqb (length points % 2) 0)) (refused 1 0 0))) → length points ≤ 2048
+    go : (d : Bool) → ltb max-curve (length points) ≡ d → T (is-passed (refuse-if (d || not (eqb (length points % 2) 0)) (refused 1 0 0))) → length points ≤ max-curve
     go true e q = absurd q
-    go false e q = ltb-false 2048 (length points) e
+    go false e q = ltb-false max-curve (length points) e
 
-pub curves-let-by : (b r t l : List Float) → T (is-passed (curves-limit b r t l)) → (length b ≤ 2048) × (length r ≤ 2048) × (length t ≤ 2048) × (length l ≤ 2048)
+pub curves-let-by : (b r t l : List Float) → T (is-passed (curves-limit b r t l)) → (length b ≤ max-curve) × (length r ≤ max-curve) × (length t ≤ max-curve) × (length l ≤ max-curve)
 unfolding curves-limit
 curves-let-by b r t l p =
     let q = four-passed (curve-limit b) (curve-limit r) (curve-limit t) (curve-limit l) p in
     (curve-let-by b (q .0), curve-let-by r (q .1), curve-let-by t (q .2), curve-let-by l (q .3))
 
-pub seam-let-by : (values : List Float) → T (is-passed (seam-limit values)) → length values ≤ 1025
+pub seam-let-by : (values : List Float) → T (is-passed (seam-limit values)) → length values ≤ max-seam
 unfolding seam-limit
-seam-let-by values p = let long = ltb 1025 (length values) in ltb-false 1025 (length values) (not-T-false long (T-not long (not-refused long 0 0 0 p)))
+seam-let-by values p = let long = ltb max-seam (length values) in ltb-false max-seam (length values) (not-T-false long (T-not long (not-refused long 0 0 0 p)))
 
-pub seams-let-by : (b t l r : List Float) → T (is-passed (seams-limit (seams b t l r))) → (length b ≤ 1025) × (length t ≤ 1025) × (length l ≤ 1025) × (length r ≤ 1025)
+pub seams-let-by : (b t l r : List Float) → T (is-passed (seams-limit (seams b t l r))) → (length b ≤ max-seam) × (length t ≤ max-seam) × (length l ≤ max-seam) × (length r ≤ max-seam)
 unfolding seams-limit
 seams-let-by b t l r p =
     let q = four-passed (seam-limit b) (seam-limit t) (seam-limit l) (seam-limit r) p in
@@ -159,16 +160,16 @@ pub at-limits : (out : List Float) (rest : Outcome) (c c0 c1 : Check) (cause : R
 at-limits out rest c c0 c1 cause u v e o p q = turned-away out rest c cause (then-test u v) e (in-turn _ _ _ u v o p q)
 
 -- what numbers of cells that are let by are like
-pub cells-let-by : (n m : ℕ) → T (is-passed (cells-limit n m)) → (n ≤ 1024) × (m ≤ 1024)
+pub cells-let-by : (n m : ℕ) → T (is-passed (cells-limit n m)) → (n ≤ max-cells) × (m ≤ max-cells)
 unfolding cells-limit
 cells-let-by n m p =
-    let few = refuse-if (ltb 1024 n || ltb 1024 m) (refused 1 0 0) in
-    go (ltb 1024 n) (ltb 1024 m) refl refl (then-left few (refuse-if (eqb n 0 || eqb m 0) (refused 26 0 0)) p)
+    let few = refuse-if (ltb max-cells n || ltb max-cells m) (refused 1 0 0) in
+    go (ltb max-cells n) (ltb max-cells m) refl refl (then-left few (refuse-if (eqb n 0 || eqb m 0) (refused 26 0 0)) p)
   where
-    go : (d e : Bool) → ltb 1024 n ≡ d → ltb 1024 m ≡ e → T (is-passed (refuse-if (d || e) (refused 1 0 0))) → (n ≤ 1024) × (m ≤ 1024)
+    go : (d e : Bool) → ltb max-cells n ≡ d → ltb max-cells m ≡ e → T (is-passed (refuse-if (d || e) (refused 1 0 0))) → (n ≤ max-cells) × (m ≤ max-cells)
     go true e f g q = absurd q
     go false true f g q = absurd q
-    go false false f g q = (ltb-false 1024 n f, ltb-false 1024 m g)
+    go false false f g q = (ltb-false max-cells n f, ltb-false max-cells m g)
 
 -- even seams as the code holds them
 pub same-seams : (layout : Layout) (b r t l : List Float) (n m : ℕ) (us vs out : List Float) → us ≡ uniform-parameters n → vs ≡ uniform-parameters m

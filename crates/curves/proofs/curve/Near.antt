@@ -8,7 +8,8 @@ use borrow.Author.Tests.{ltb-true, ltb-false}
 use lib.Dec.{ltb}
 use lib.ListN.{length, getD}
 use lib.Ieee.{Float, nan, lt, le}
-use Rattle.curves.specs.Curve.{segment-at, Rising, InSegment}
+use Rattle.curves.specs.Curve.{segment-at}
+use Rattle.curves.specs.inner.Segments.{Rising, InSegment}
 use Rattle.floats.proofs.scalar.Order.{le-le, lt-le, lt-not-le}
 use Rattle.curves.proofs.curve.Halving.{halved, step-right, step-left, stop}
 

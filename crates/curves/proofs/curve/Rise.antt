@@ -20,7 +20,8 @@ use Rattle.base.proofs.TestLaws.{then-left, then-right, not-refused}
 use Rattle.floats.specs.Scalar.{nought, is-finite, is-positive}
 use Rattle.base.specs.Buffers.{tabulate}
 use Rattle.floats.specs.Root.{among, rounded, root}
-use Rattle.curves.specs.Curve.{point-count, point-at, distance, length-to, total-length, cumulative-of, Rising, Sampled, all-finite, total-test, curve-test}
+use Rattle.curves.specs.Curve.{point-count, point-at, distance, length-to, total-length, cumulative-of, all-finite, total-test, curve-test}
+use Rattle.curves.specs.inner.Segments.{Rising, Sampled}
 use Rattle.curves.specs.declared.point.Point.{Point}
 use Rattle.floats.proofs.root.Amounts.{among-of}
 use Rattle.floats.proofs.scalar.Exact.{round-own}

@@ -19,7 +19,7 @@ use Rattle.curves.specs.Quad.{zeros}
 use Rattle.curves.specs.Grid.{Row, Grid, row-points, row-test, points-test, quads-test, grid-test, grid-part, grid-values, needed}
 use Rattle.curves.specs.inner.Rows.{Laid}
 use Rattle.curves.specs.Coons.{Outcome, refusal, filled}
-use Rattle.curves.specs.declared.grid.Layout.{Layout}
+use Rattle.curves.specs.declared.rows.Layout.{Layout}
 use Rattle.base.proofs.BufferLaws.{take-splice}
 use Rattle.curves.proofs.rows.Laws.{length-row-points, rows-written, rows-cleared}
 

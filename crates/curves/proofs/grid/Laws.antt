@@ -18,7 +18,8 @@ use Rattle.floats.specs.Scalar.{clamp-unit}
 use Rattle.curves.specs.Point.{point, values, point-of}
 use Rattle.curves.specs.Curve.{point-at}
 use Rattle.curves.specs.Boundary.{BoundaryCurves, curve-ends}
-use Rattle.curves.specs.Patch.{coons-point, column-at, row-at, patch-point}
+use Rattle.curves.specs.Patch.{coons-point}
+use Rattle.curves.specs.inner.Columns.{column-at, row-at, patch-point}
 use Rattle.curves.specs.inner.Columns.{stored-column, Table, level-points}
 use Rattle.curves.specs.Grid.{mapped, Row, crossings, row-of, coordinates, row-points, row-test}
 use Rattle.curves.specs.inner.Rows.{mapped-points}

@@ -17,7 +17,7 @@ use Rattle.floats.specs.Scalar.{clamp-unit}
 use Rattle.curves.specs.Point.{point}
 use Rattle.curves.specs.Crossing.{logical-intersection}
 use Rattle.curves.specs.Boundary.{BoundaryCurves, curve-ends}
-use Rattle.curves.specs.Patch.{row-at}
+use Rattle.curves.specs.inner.Columns.{row-at}
 use Rattle.curves.specs.inner.Columns.{Table, level-points}
 use Rattle.curves.specs.inner.Level.{Plain, Straight, Upright}
 use Rattle.curves.specs.Grid.{crossings, row-of, row-points, row-test}

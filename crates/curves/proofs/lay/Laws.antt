@@ -13,7 +13,7 @@ use lib.Seq.{take-all, take-at}
 use Rattle.base.specs.Lists.{all}
 use Rattle.base.specs.declared.verdict.Verdict.{Verdict}
 use Rattle.base.specs.Refusal.{refused, verdict-of, outcome, is-passed, then-test, refuse-if}
-use Rattle.counts.specs.Region.{places, side, side-sum}
+use Rattle.counts.specs.Region.{places, side, side-sum, record-size}
 use Rattle.counts.specs.Accept.{sides-fit, limits-test}
 use Rattle.base.specs.declared.refusal.Check.{Check}
 use Rattle.base.specs.declared.refusal.Check.the-variants.{Passed, Refused}
@@ -29,11 +29,12 @@ use Rattle.curves.specs.Seam.{edge-values, seam-from, side-seam}
 use Rattle.curves.specs.Grid.{Seams, seams}
 use Rattle.curves.specs.Coons.{Outcome, outcome-of, curves-limit, seam-limit, seams-limit, coons-from-parameters}
 use Rattle.curves.specs.Lay.{TileInput, counts-along, seam-of, seams-of, record-test, edges-test, breaks-test, sides-test, lay-test, lay}
-use Rattle.curves.specs.declared.grid.Layout.the-variants.{Quads}
+use Rattle.curves.specs.declared.rows.Layout.the-variants.{Quads}
 use Rattle.curves.specs.declared.coons.GridAnswer.the-variants as grid-answer
 use Rattle.base.proofs.BufferLaws.{part-written, set-splice}
 use Rattle.curves.proofs.coons.Laws.{turned-away, goes-on}
 use Rattle.curves.proofs.seam.Laws.{length-edge}
+use Rattle.curves.specs.Limits.{max-seam}
 
 -- ---- how long a seam is: one more than its side adds up to
 
@@ -92,7 +93,7 @@ edge-below n (e ∷ edges) (suc i) t h = edge-below n edges i (and-r (ltb e n) (
 -- ---- the tests, by what the code finds
 
 module _ (region : List ℕ) (n : ℕ) where
-  pub record-by : (b : Bool) → eqb (length region) 68 ≡ b → then-test (refuse-if (not b) (refused 1 0 0)) (limits-test places n region) ≡ record-test region n
+  pub record-by : (b : Bool) → eqb (length region) (record-size places) ≡ b → then-test (refuse-if (not b) (refused 1 0 0)) (limits-test places n region) ≡ record-test region n
   unfolding record-test
   record-by b e = ap (λ (x : Bool). then-test (refuse-if (not x) (refused 1 0 0)) (limits-test places n region)) (sym e)
 
@@ -123,18 +124,18 @@ breaks-known region breaks k t =
 
 -- a record that is let by has no more than 16 edges on a side
 pub sides-short : (region : List ℕ) (n : ℕ) → T (is-passed (record-test region n))
-    → (length (side places region 0) ≤ 16) × (length (side places region 1) ≤ 16) × (length (side places region 2) ≤ 16) × (length (side places region 3) ≤ 16)
+    → (length (side places region 0) ≤ places) × (length (side places region 1) ≤ places) × (length (side places region 2) ≤ places) × (length (side places region 3) ≤ places)
 unfolding record-test
 sides-short region n t =
-    let v : Verdict = refuse-if (not (eqb (length region) 68)) (refused 1 0 0) in
-    let e : length region ≡ 68 = eqb→eq (length region) 68 (not-not (eqb (length region) 68) (not-refused (not (eqb (length region) 68)) 0 0 0 (then-left v (limits-test places n region) t))) in
+    let v : Verdict = refuse-if (not (eqb (length region) (record-size places))) (refused 1 0 0) in
+    let e : length region ≡ record-size places = eqb→eq (length region) (record-size places) (not-not (eqb (length region) (record-size places)) (not-refused (not (eqb (length region) (record-size places))) 0 0 0 (then-left v (limits-test places n region) t))) in
     let w = limits-passed n region (T-true (is-passed (limits-test places n region)) (then-right v (limits-test places n region) t)) .1 in
-    let f = side-few region (subst (λ (m : ℕ). T (sides-fit places (m / 68) region)) e (whole-sides region w)) in
+    let f = side-few region (subst (λ (m : ℕ). T (sides-fit places (m / record-size places) region)) e (whole-sides region w)) in
     (side-short region 0 (f .0), side-short region 1 (f .1), side-short region 2 (f .2), side-short region 3 (f .3))
 
 -- what the tests let by of one side
 pub record SideKnown (region : List ℕ) (n k : ℕ) (breaks : List Float) : Type 0 where
-  pub short : length (side places region k) ≤ 16
+  pub short : length (side places region k) ≤ places
   pub edges : T (is-passed (edges-test region n k))
   pub fit : T (is-passed (breaks-test region breaks k))
 
@@ -172,13 +173,13 @@ module _ (s : Seams) where
       then-test (refuse-if b (refused 1 0 0)) (then-test (refuse-if t (refused 1 0 0)) (then-test (refuse-if l (refused 1 0 0)) (refuse-if r (refused 1 0 0))))
 
   limits-by : (n0 n2 n3 n1 : ℕ) → n0 ≡ length (s .bottom) → n2 ≡ length (s .top) → n3 ≡ length (s .left) → n1 ≡ length (s .right)
-      → limits (ltb 1025 n0) (ltb 1025 n2) (ltb 1025 n3) (ltb 1025 n1) ≡ seams-limit s
+      → limits (ltb max-seam n0) (ltb max-seam n2) (ltb max-seam n3) (ltb max-seam n1) ≡ seams-limit s
   unfolding seams-limit seam-limit
   limits-by n0 n2 n3 n1 e0 e2 e3 e1 =
-      ap (λ (x : ℕ). limits (ltb 1025 x) (ltb 1025 n2) (ltb 1025 n3) (ltb 1025 n1)) e0
-      ∙ ap (λ (x : ℕ). limits (ltb 1025 (length (s .bottom))) (ltb 1025 x) (ltb 1025 n3) (ltb 1025 n1)) e2
-      ∙ ap (λ (x : ℕ). limits (ltb 1025 (length (s .bottom))) (ltb 1025 (length (s .top))) (ltb 1025 x) (ltb 1025 n1)) e3
-      ∙ ap (λ (x : ℕ). limits (ltb 1025 (length (s .bottom))) (ltb 1025 (length (s .top))) (ltb 1025 (length (s .left))) (ltb 1025 x)) e1
+      ap (λ (x : ℕ). limits (ltb max-seam x) (ltb max-seam n2) (ltb max-seam n3) (ltb max-seam n1)) e0
+      ∙ ap (λ (x : ℕ). limits (ltb max-seam (length (s .bottom))) (ltb max-seam x) (ltb max-seam n3) (ltb max-seam n1)) e2
+      ∙ ap (λ (x : ℕ). limits (ltb max-seam (length (s .bottom))) (ltb max-seam (length (s .top))) (ltb max-seam x) (ltb max-seam n1)) e3
+      ∙ ap (λ (x : ℕ). limits (ltb max-seam (length (s .bottom))) (ltb max-seam (length (s .top))) (ltb max-seam (length (s .left))) (ltb max-seam x)) e1
 
   some-limit : (b t l r : Bool) → (b || (t || (l || r))) ≡ true → refused 1 0 0 ≡ limits b t l r
   some-limit true t l r h = refl
@@ -189,8 +190,8 @@ module _ (s : Seams) where
 
   -- one of the seams is too long
   pub limit-passed : (n0 n2 n3 n1 : ℕ) → n0 ≡ length (s .bottom) → n2 ≡ length (s .top) → n3 ≡ length (s .left) → n1 ≡ length (s .right)
-      → (ltb 1025 n0 || (ltb 1025 n2 || (ltb 1025 n3 || ltb 1025 n1))) ≡ true → refused 1 0 0 ≡ seams-limit s
-  limit-passed n0 n2 n3 n1 e0 e2 e3 e1 h = some-limit (ltb 1025 n0) (ltb 1025 n2) (ltb 1025 n3) (ltb 1025 n1) h ∙ limits-by n0 n2 n3 n1 e0 e2 e3 e1
+      → (ltb max-seam n0 || (ltb max-seam n2 || (ltb max-seam n3 || ltb max-seam n1))) ≡ true → refused 1 0 0 ≡ seams-limit s
+  limit-passed n0 n2 n3 n1 e0 e2 e3 e1 h = some-limit (ltb max-seam n0) (ltb max-seam n2) (ltb max-seam n3) (ltb max-seam n1) h ∙ limits-by n0 n2 n3 n1 e0 e2 e3 e1
 
 -- ---- lay's answer, by its tests
 

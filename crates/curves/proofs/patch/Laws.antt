@@ -2,7 +2,8 @@
 use mathlib.Core.Path.{_≡_, refl}
 use lib.Ieee.{Float}
 use Rattle.curves.specs.Boundary.{BoundaryCurves, curve-ends}
-use Rattle.curves.specs.Patch.{coons-point, column-at, row-at, patch-point}
+use Rattle.curves.specs.Patch.{coons-point}
+use Rattle.curves.specs.inner.Columns.{column-at, row-at, patch-point}
 
 pub split-patch : (c : BoundaryCurves) (u v : Float)
     → patch-point (column-at (c .bottom) (c .top) (curve-ends (c .bottom)) (curve-ends (c .top)) u) (row-at (c .right) (c .left) v) u v ≡ coons-point c u v

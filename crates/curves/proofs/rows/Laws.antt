@@ -22,11 +22,12 @@ use Rattle.curves.specs.Quad.{quad-test, zeros}
 use Rattle.curves.specs.Grid.{Row, Grid, coordinates, row-points, cell-test, cells-test, below-test, quads-test, quad-values, quads-between, node-values, nodes-of, row-part, grid-part, grid-values, needed}
 use Rattle.curves.specs.inner.Rows.{row-size}
 use Rattle.curves.specs.declared.point.Point.{Point}
-use Rattle.curves.specs.declared.grid.Layout.{Layout}
-use Rattle.curves.specs.declared.grid.Layout.the-variants.{Quads, Nodes}
+use Rattle.curves.specs.declared.rows.Layout.{Layout}
+use Rattle.curves.specs.declared.rows.Layout.the-variants.{Quads, Nodes}
 use Rattle.base.proofs.BufferLaws.{length-tabulate, length-concat, length-concat-more, concat-grows, splice-none, store-next, concat-step, splice-over, take-splice}
 use Rattle.base.proofs.TestLaws.{first-more, first-shifted}
 use Rattle.curves.proofs.grid.Laws.{length-coordinates}
+use Rattle.curves.specs.Limits.{max-cells}
 
 -- ---- stores in a row
 
@@ -168,13 +169,13 @@ length-grid Quads f n m =
     ∙ length-concat (grid-part Quads f n) (8 * n) 1 m (λ j h. ap length (later-quads (row-points (f (j - 1)) n) (row-points (f j) n) n j h) ∙ length-quads (row-points (f (j - 1)) n) (row-points (f j) n) n)
 length-grid Nodes f n m = length-concat (grid-part Nodes f n) (3 * (n + 1)) 0 (m + 1) (λ j h. ap length (nodes-row Nodes (row-points (f (j - 1)) n) (row-points (f j) n) n j refl) ∙ length-nodes (row-points (f j) n) n)
 
-pub quads-fit : (n m : ℕ) → n ≤ 1024 → m ≤ 1024 → m * (8 * n) ≤ 8388608
-quads-fit n m h k = let e : m * (8 * n) ≤ 1024 * (8 * n) = mul-le-mul-right (8 * n) k in omega arith
+pub quads-fit : (n m : ℕ) → n ≤ max-cells → m ≤ max-cells → m * (8 * n) ≤ 8388608
+quads-fit n m h k = let e : m * (8 * n) ≤ max-cells * (8 * n) = mul-le-mul-right (8 * n) k in omega arith
 
-pub nodes-fit : (n m : ℕ) → n ≤ 1024 → m ≤ 1024 → (m + 1) * (3 * (n + 1)) ≤ 3151875
+pub nodes-fit : (n m : ℕ) → n ≤ max-cells → m ≤ max-cells → (m + 1) * (3 * (n + 1)) ≤ 3151875
 nodes-fit n m h k =
-    let l : m + 1 ≤ 1025 = omega arith in
-    let e : (m + 1) * (3 * (n + 1)) ≤ 1025 * (3 * (n + 1)) = mul-le-mul-right (3 * (n + 1)) l in
+    let l : m + 1 ≤ max-cells + 1 = omega arith in
+    let e : (m + 1) * (3 * (n + 1)) ≤ (max-cells + 1) * (3 * (n + 1)) = mul-le-mul-right (3 * (n + 1)) l in
     omega arith
 
 -- ---- rows 0 to m of the points, one after the other: `low` is the row before, if there is one, and `high` is row j

@@ -1,17 +1,42 @@
--- A table of columns of the patch, which the rows of a grid share. How the code goes fast, and no more: no public promise cites these. Assumes nothing.
+-- The patch by columns and rows, and a table of columns, which the rows of a grid share. How the code goes fast, and no more. Assumes nothing.
 use mathlib.Core.Path.{_≡_}
 use mathlib.Core.List.{List, [], _∷_}
 use Prim.Native.Nat.{ℕ, _+_, _*_, _<_, _≤_}
 use lib.ListN.{length, getD}
-use lib.Ieee.{Float, nan}
-use Rattle.floats.specs.Scalar.{clamp-unit}
+use lib.Ieee.{Float, nan, sub, binary64}
+use Rattle.floats.specs.Scalar.{one, clamp-unit}
 use Rattle.curves.specs.Point.{point, values}
-use Rattle.curves.specs.Curve.{ArcCurve}
+use Rattle.curves.specs.Curve.{ArcCurve, curve-at}
 use Rattle.base.specs.Buffers.{concat-tabulate}
-use Rattle.curves.specs.Patch.{column-at, patch-point}
+use Rattle.curves.specs.Patch.{lerp2, combined}
+use Rattle.curves.specs.declared.point.Point.{Point}
 use Rattle.curves.specs.declared.boundary.Ends.{Ends}
 use Rattle.curves.specs.declared.patch.Column.{Column}
 use Rattle.curves.specs.declared.patch.Row.{Row}
+
+-- ---- the patch's point in two steps, so that what u or v alone decides can be worked out once for many points
+
+-- what u decides: the points of bottom and top, and of the straight lines between their ends
+unfoldable pub column-at : ArcCurve → ArcCurve → Ends → Ends → Float → Column
+unfolding sub curve-at lerp2
+column-at bottom top b t u = record {
+  bottom = curve-at bottom u;
+  top = curve-at top (sub binary64 one u);
+  low = lerp2 u (b .start) (b .end);
+  high = lerp2 u (t .end) (t .start);
+}
+
+-- what v decides: the points of right and left
+unfoldable pub row-at : ArcCurve → ArcCurve → Float → Row
+unfolding sub curve-at
+row-at right left v = record { right = curve-at right v; left = curve-at left (sub binary64 one v) }
+
+unfoldable pub patch-point : Column → Row → Float → Float → Point
+unfolding lerp2 combined
+patch-point column row u v =
+    combined (lerp2 v (column .bottom) (column .top)) (lerp2 u (row .left) (row .right)) (lerp2 v (column .low) (column .high))
+
+-- ---- the table
 
 -- a column takes nine values: its parameter u, and then its four points
 abbrev pub column-values : Float → Column → List Float

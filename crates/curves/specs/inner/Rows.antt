@@ -12,8 +12,8 @@ use Rattle.curves.specs.Curve.{point-at}
 use Rattle.curves.specs.Boundary.{BoundaryCurves}
 use Rattle.curves.specs.Patch.{coons-point}
 use Rattle.curves.specs.Grid.{Grid, cells-test, grid-part}
-use Rattle.curves.specs.declared.grid.Layout.{Layout}
-use Rattle.curves.specs.declared.grid.Layout.the-variants.{Quads, Nodes}
+use Rattle.curves.specs.declared.rows.Layout.{Layout}
+use Rattle.curves.specs.declared.rows.Layout.the-variants.{Quads, Nodes}
 
 -- the points of a patch at the n + 1 pairs u, v that stand in a row
 unfoldable pub mapped-points : BoundaryCurves → List Float → ℕ → List Float

@@ -11,7 +11,7 @@ use lib.Ieee.{Float, nan, eq}
 use borrow.Author.Tests.{leb-true, lt-ltb, le-ltb, le-leb, lt-leb, eq-eqb, ne-eqb}
 use Rattle.base.specs.Refusal.{passed, refused, then-test, refuse-if}
 use Rattle.curves.specs.Curve.{point-count}
-use Rattle.mesh.specs.Loop.{same-point, closes, points-used, size-test, fours-test, loop-test, corner-pair, quarter, piece}
+use Rattle.mesh.specs.Loop.{same-point, closes, points-used, size-test, fours-test, loop-test, corner-pair, quarter, piece, max-loop}
 
 -- ---- 12
 
@@ -67,19 +67,19 @@ module _ (points : List Float) where
 
   -- ---- 1, then 12
 
-  size-by : (a b : Bool) → ltb 4096 (point-count points) ≡ a → eqb (length points % 2) 0 ≡ b
+  size-by : (a b : Bool) → ltb max-loop (point-count points) ≡ a → eqb (length points % 2) 0 ≡ b
       → then-test (refuse-if (a || not b) (refused 1 0 0)) (fours-test (points-used points)) ≡ loop-test points
   unfolding size-test loop-test
   size-by a b e f = simp (e, f)
 
-  pub too-many : 4096 < point-count points → refused 1 0 0 ≡ loop-test points
-  too-many h = size-by true _ (lt-ltb 4096 (point-count points) h) refl
+  pub too-many : max-loop < point-count points → refused 1 0 0 ≡ loop-test points
+  too-many h = size-by true _ (lt-ltb max-loop (point-count points) h) refl
 
-  pub odd-values : point-count points ≤ 4096 → (length points % 2 ≡ 0 → ⊥) → refused 1 0 0 ≡ loop-test points
-  odd-values h n = size-by false false (le-ltb 4096 (point-count points) h) (ne-eqb (length points % 2) 0 n)
+  pub odd-values : point-count points ≤ max-loop → (length points % 2 ≡ 0 → ⊥) → refused 1 0 0 ≡ loop-test points
+  odd-values h n = size-by false false (le-ltb max-loop (point-count points) h) (ne-eqb (length points % 2) 0 n)
 
-  pub whole-points : point-count points ≤ 4096 → length points % 2 ≡ 0 → fours-test (points-used points) ≡ loop-test points
-  whole-points h e = size-by false true (le-ltb 4096 (point-count points) h) (eq-eqb (length points % 2) 0 e)
+  pub whole-points : point-count points ≤ max-loop → length points % 2 ≡ 0 → fours-test (points-used points) ≡ loop-test points
+  whole-points h e = size-by false true (le-ltb max-loop (point-count points) h) (eq-eqb (length points % 2) 0 e)
 
 -- ---- the pieces
 

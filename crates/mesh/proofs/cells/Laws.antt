@@ -18,6 +18,7 @@ use Rattle.base.proofs.refusal.Refusal.{the-type}
 use Rattle.base.specs.Buffers.{concat-tabulate, splice}
 use Rattle.base.proofs.BufferLaws.{length-concat, splice-none, store-next, concat-step}
 use Rattle.mesh.specs.Mesh.{grid-index, cell, row-cells, mesh-cells, zeroes}
+use Rattle.curves.specs.Limits.{max-cells}
 
 -- ---- one cell
 
@@ -57,7 +58,7 @@ cell-turn n j d from out i at o e l h =
     ∙ ap (λ (x : ℕ). splice out at (low ∷ grid-index n (i + 1) j ∷ grid-index n (i + 1) (j + 1) ∷ x ∷ [])) v)
 
 -- the indices stay far below 2^32
-pub first-small : (n j : ℕ) → n ≤ 1024 → j < 1024 → j * (n + 1) ≤ 1048575
+pub first-small : (n j : ℕ) → n ≤ max-cells → j < max-cells → j * (n + 1) ≤ 1048575
 first-small n j h g =
     let a : j * (n + 1) ≤ 1023 * (n + 1) = mul-le-mul-right (n + 1) (omega (arith, g)) in
     omega (arith, a, h)

@@ -23,6 +23,7 @@ use Rattle.curves.proofs.coons.Laws.{cells-let-by}
 use Rattle.mesh.specs.Loop.{loop-test, piece}
 use Rattle.mesh.specs.Mesh.{Mesh, mesh-of, needed-cells, mesh-cells, no-cells, zeroes, cells-left, with-cells, without-cells, mesh-tile-curves}
 use Rattle.mesh.specs.Tile.{cell-limits-test, tile-test, coons-checked, mesh-tile}
+use Rattle.curves.specs.Limits.{max-cells}
 
 -- ---- the room for the indices
 
@@ -90,7 +91,7 @@ module _ (bottom right top left : List Float) (n m : ℕ) (points : List Float) 
       same-cells h = answered (grid-answer.Refused cause) cells q (left-by (verdict-of cause) false false (refusal-number cause) (sym d ∙ h))
 
     -- a grid that was made has numbers of cells that are let by
-    pub few-cells : (quads : ℕ) → made ≡ grid-answer.Made quads → (n ≤ 1024) × (m ≤ 1024)
+    pub few-cells : (quads : ℕ) → made ≡ grid-answer.Made quads → (n ≤ max-cells) × (m ≤ max-cells)
     unfolding outcome-of coons-curves
     few-cells quads q =
         let limits : Verdict = then-test (curves-limit bottom right top left) (cells-limit n m) in
@@ -113,18 +114,18 @@ module _ (bottom right top left : List Float) (n m : ℕ) (points : List Float) 
 -- ---- the tests of a loop
 
 module _ (boundary : List Float) (n m : ℕ) where
-  tile-test-by : (a b : Bool) → ltb 1024 n ≡ a → ltb 1024 m ≡ b → then-test (refuse-if (a || b) (refused 1 0 0)) (loop-test boundary) ≡ tile-test boundary n m
+  tile-test-by : (a b : Bool) → ltb max-cells n ≡ a → ltb max-cells m ≡ b → then-test (refuse-if (a || b) (refused 1 0 0)) (loop-test boundary) ≡ tile-test boundary n m
   unfolding cell-limits-test tile-test
   tile-test-by a b e f = simp (e, f)
 
-  pub too-wide : 1024 < n → refused 1 0 0 ≡ tile-test boundary n m
-  too-wide h = tile-test-by true (ltb 1024 m) (lt-ltb 1024 n h) refl
+  pub too-wide : max-cells < n → refused 1 0 0 ≡ tile-test boundary n m
+  too-wide h = tile-test-by true (ltb max-cells m) (lt-ltb max-cells n h) refl
 
-  pub too-high : n ≤ 1024 → 1024 < m → refused 1 0 0 ≡ tile-test boundary n m
-  too-high h g = tile-test-by false true (le-ltb 1024 n h) (lt-ltb 1024 m g)
+  pub too-high : n ≤ max-cells → max-cells < m → refused 1 0 0 ≡ tile-test boundary n m
+  too-high h g = tile-test-by false true (le-ltb max-cells n h) (lt-ltb max-cells m g)
 
-  pub in-size : n ≤ 1024 → m ≤ 1024 → loop-test boundary ≡ tile-test boundary n m
-  in-size h g = tile-test-by false false (le-ltb 1024 n h) (le-ltb 1024 m g)
+  pub in-size : n ≤ max-cells → m ≤ max-cells → loop-test boundary ≡ tile-test boundary n m
+  in-size h g = tile-test-by false false (le-ltb max-cells n h) (le-ltb max-cells m g)
 
   pub mesh-refused : (points : List Float) (cells : List ℕ) (c : Check) (cause : Refusal) → c ≡ Refused cause → outcome c ≡ tile-test boundary n m → mesh-of (grid-answer.Refused cause) points cells ≡ mesh-tile boundary n m points cells
   unfolding outcome-of mesh-of mesh-tile

@@ -9,12 +9,13 @@ use Rattle.base.specs.Refusal.{outcome, verdict-of}
 use Rattle.curves.proofs.lay.Laws.{record-by}
 use Rattle.curves.proofs.lay.check_record.Statement.{statement}
 use Rattle.curves.proofs.lay.check_record.Tie as tie
+use Rattle.counts.specs.Region.{places, record-size}
 
 returns : tie.Need-returns
 unfolding outcome verdict-of
 returns c =
     let l = now (c .before .before .args .region) in
-    record-by l (c .before .before .args .n) false (ne-eqb (length l) 68 (c .if1 .taken))
+    record-by l (c .before .before .args .n) false (ne-eqb (length l) (record-size places) (c .if1 .taken))
 
 check-limits-requires : tie.Need-check-limits-requires
 check-limits-requires c κs = search needs
@@ -22,7 +23,7 @@ check-limits-requires c κs = search needs
 returns-2 : tie.Need-returns-2
 returns-2 c =
     let l = now (c .before .before .before .args .region) in
-    c .check-limits .ensures ∙ record-by l (c .before .before .before .args .n) true (eq-eqb (length l) 68 (c .before .if1 .left))
+    c .check-limits .ensures ∙ record-by l (c .before .before .before .args .n) true (eq-eqb (length l) (record-size places) (c .before .if1 .left))
 
 pub check-record-spec : {M : Type 1} → statement M
 check-record-spec =

@@ -28,7 +28,7 @@ counts-along-requires : tie.Need-counts-along-requires
 counts-along-requires c κs =
     let s = (c .before .before .before .before .before .before) in
     let e = sym (c .before .side .ensures) in
-    let short = subst (λ (l : List ℕ). length l ≤ 16) e (s .pre .0) in
+    let short = subst (λ (l : List ℕ). length l ≤ places) e (s .pre .0) in
     (short, (short, subst (λ (l : List ℕ). T (all (λ (x : ℕ). ltb x (length (now (s .args .counts)))) l)) e (edges-known (now (s .args .region)) (length (now (s .args .counts))) (s .args .k) (s .pre .1 .0))))
 
 add-result : tie.Need-add-result
@@ -44,13 +44,13 @@ returns c =
 array-share-prefix-along : tie.Need-array-share-prefix-along
 array-share-prefix-along c =
     let s = (c .before .before .before .before .before .before .before .before .before) in
-    let short = subst (λ (l : List ℕ). length l ≤ 16) (sym (c .before .before .before .before .side .ensures)) (s .pre .0) in
+    let short = subst (λ (l : List ℕ). length l ≤ places) (sym (c .before .before .before .before .side .ensures)) (s .pre .0) in
     omega (arith, c .before .before .counts-along .kept .1 .1 .0, short)
 
 slice-aggregate-side-seam : tie.Need-slice-aggregate-side-seam
 slice-aggregate-side-seam c =
     let s = (c .before .before .before .before .before .before .before .before .before .before) in
-    let short = subst (λ (l : List ℕ). length l ≤ 16) (sym (c .before .before .before .before .before .side .ensures)) (s .pre .0) in
+    let short = subst (λ (l : List ℕ). length l ≤ places) (sym (c .before .before .before .before .before .side .ensures)) (s .pre .0) in
     sym (length-take-le (length (now (c .before .before .before .before .before .side .result))) (c .before .before .before .counts-along .last .1 .1 .0) (omega (arith, c .before .before .before .counts-along .kept .1 .1 .0, short)))
 
 side-seam-requires : tie.Need-side-seam-requires

@@ -1,5 +1,5 @@
 -- `patch::column_at` meets its contract. Assumes nothing.
-use Rattle.curves.specs.Patch.{column-at}
+use Rattle.curves.specs.inner.Columns.{column-at}
 use borrow.Author.Needs.{needs}
 use Rattle.curves.proofs.patch.column_at.Statement.{statement}
 use Rattle.curves.proofs.patch.column_at.Tie as tie

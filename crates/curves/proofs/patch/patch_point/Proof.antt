@@ -1,5 +1,5 @@
 -- `patch::patch_point` meets its contract. Assumes nothing.
-use Rattle.curves.specs.Patch.{patch-point}
+use Rattle.curves.specs.inner.Columns.{patch-point}
 use borrow.Author.Needs.{needs}
 use Rattle.curves.proofs.patch.patch_point.Statement.{statement}
 use Rattle.curves.proofs.patch.patch_point.Tie as tie

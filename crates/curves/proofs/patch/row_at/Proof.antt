@@ -1,5 +1,5 @@
 -- `patch::row_at` meets its contract. Assumes nothing.
-use Rattle.curves.specs.Patch.{row-at}
+use Rattle.curves.specs.inner.Columns.{row-at}
 use borrow.Author.Needs.{needs}
 use Rattle.curves.proofs.patch.row_at.Statement.{statement}
 use Rattle.curves.proofs.patch.row_at.Tie as tie

@@ -5,7 +5,7 @@ use lib.ListN.{length}
 use denote.Ref.{now}
 use Rattle.base.specs.Buffers.{splice}
 use Rattle.curves.specs.Grid.{row-part}
-use Rattle.curves.specs.declared.grid.Layout.{Layout}
+use Rattle.curves.specs.declared.rows.Layout.{Layout}
 use Rattle.curves.proofs.rows.Laws.{nodes-row, length-nodes}
 use borrow.Author.Needs.{needs}
 use Rattle.curves.proofs.rows.write_row.Statement.{statement}

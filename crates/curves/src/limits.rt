@@ -1,0 +1,31 @@
+// 01's limits of the geometry, and the sizes of the tables, which follow from them. specs/Limits.antt has the same.
+
+// Points of a curve.
+pub(crate) const MAX_POINTS: usize = 1024;
+
+// They are lent as x, y in turn.
+pub(crate) const MAX_CURVE: usize = 2 * MAX_POINTS;
+
+// Values of a seam.
+pub(crate) const MAX_SEAM: usize = 1025;
+
+// n_u and n_v.
+pub const MAX_CELLS: u32 = 1024;
+
+// A column of the patch takes nine values, a point two.
+pub(crate) const COLUMN_SIZE: usize = 9;
+
+pub(crate) const MAX_TABLE: usize = COLUMN_SIZE * MAX_SEAM;
+
+pub(crate) const MAX_ROW: usize = 2 * MAX_SEAM;
+
+// A small tile has curves of at most 64 points, and at most 63 cells along its bottom.
+pub(crate) const SMALL_POINTS: usize = 64;
+
+pub(crate) const SMALL_CURVE: usize = 2 * SMALL_POINTS;
+
+pub(crate) const SMALL_SEAM: usize = 64;
+
+pub(crate) const SMALL_TABLE: usize = COLUMN_SIZE * SMALL_SEAM;
+
+pub(crate) const SMALL_ROW: usize = 2 * SMALL_SEAM;
