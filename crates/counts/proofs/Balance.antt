@@ -31,26 +31,26 @@ abbrev pub downs : List ℕ → Change → Bool
 downs l z = member (z .0) l && not (z .1)
 
 -- ---- a count is set
-total-set-out : (counts : List ℕ) (e v : ℕ) (l : List ℕ) → T (not (member e l)) → side-sum (set counts e v) l ≡ side-sum counts l
-total-set-out counts e v [] t = refl
-total-set-out counts e v (x ∷ l) t =
-    go (eqb e x) (member e l) t (eq→eqb e x) (total-set-out counts e v l)
+side-sum-set-out : (counts : List ℕ) (e v : ℕ) (l : List ℕ) → T (not (member e l)) → side-sum (set counts e v) l ≡ side-sum counts l
+side-sum-set-out counts e v [] t = refl
+side-sum-set-out counts e v (x ∷ l) t =
+    go (eqb e x) (member e l) t (eq→eqb e x) (side-sum-set-out counts e v l)
   where
     go : (b c : Bool) → T (not (b || c)) → (e ≡ x → T b) → (T (not c) → side-sum (set counts e v) l ≡ side-sum counts l) → getD (set counts e v) x 0 + side-sum (set counts e v) l ≡ getD counts x 0 + side-sum counts l
     go true c t f h = absurd t
     go false c t f h = let p = getD-set-other counts e x v 0 (λ q. f (sym q)) in let q = h t in omega arith
 
-total-set-in : (counts : List ℕ) (e v : ℕ) (l : List ℕ) → e < length counts → T (member e l) → Distinct l → side-sum (set counts e v) l + getD counts e 0 ≡ side-sum counts l + v
-total-set-in counts e v [] b t d = absurd t
-total-set-in counts e v (x ∷ l) b t d = elim (T-or-not (eqb e x)) [
+side-sum-set-in : (counts : List ℕ) (e v : ℕ) (l : List ℕ) → e < length counts → T (member e l) → Distinct l → side-sum (set counts e v) l + getD counts e 0 ≡ side-sum counts l + v
+side-sum-set-in counts e v [] b t d = absurd t
+side-sum-set-in counts e v (x ∷ l) b t d = elim (T-or-not (eqb e x)) [
   | inl q ↦ (
       let p : getD (set counts e v) x 0 ≡ v = subst (λ (n : ℕ). getD (set counts e v) n 0 ≡ v) (eqb→eq e x q) (getD-set-same counts e v 0 b) in
       let p' : getD counts e 0 ≡ getD counts x 0 = ap (λ (n : ℕ). getD counts n 0) (eqb→eq e x q) in
-      let o = total-set-out counts e v l (subst (λ (n : ℕ). T (not (member n l))) (sym (eqb→eq e x q)) (d .0)) in
+      let o = side-sum-set-out counts e v l (subst (λ (n : ℕ). T (not (member n l))) (sym (eqb→eq e x q)) (d .0)) in
       omega arith)
   | inr q ↦ (
       let p = getD-set-other counts e x v 0 (λ r. clash (eqb e x) (eq→eqb e x (sym r)) q) in
-      let h = total-set-in counts e v l b (rest (eqb e x) (member e l) q t) (d .1) in
+      let h = side-sum-set-in counts e v l b (rest (eqb e x) (member e l) q t) (d .1) in
       omega arith)
 ]
   where
@@ -61,7 +61,7 @@ total-set-in counts e v (x ∷ l) b t d = elim (T-or-not (eqb e x)) [
 -- ---- the changes one after the other
 one-try-step : (counts : List ℕ) (z : Change) (l : List ℕ) → z .0 < length counts → T (is-allowed counts (z .0) (z .1)) → Distinct l
     → side-sum (set counts (z .0) (changed (z .1) (getD counts (z .0) 0))) l + one-if (downs l z) ≡ side-sum counts l + one-if (ups l z)
-one-try-step counts z l b c d = go (member (z .0) l) (z .1) (λ t v. total-set-in counts (z .0) v l b t d) (λ t v. total-set-out counts (z .0) v l t) c
+one-try-step counts z l b c d = go (member (z .0) l) (z .1) (λ t v. side-sum-set-in counts (z .0) v l b t d) (λ t v. side-sum-set-out counts (z .0) v l t) c
   where
     go : (m s : Bool) → (T m → (v : ℕ) → side-sum (set counts (z .0) v) l + getD counts (z .0) 0 ≡ side-sum counts l + v) → (T (not m) → (v : ℕ) → side-sum (set counts (z .0) v) l ≡ side-sum counts l)
         → T (s || ltb 0 (getD counts (z .0) 0)) → side-sum (set counts (z .0) (changed s (getD counts (z .0) 0))) l + one-if (m && not s) ≡ side-sum counts l + one-if (m && s)

@@ -69,7 +69,7 @@ module _ (g : List Constraint) (edge-cost : ℕ → Bool → Float) (counts : Li
         there = λ w i. elim i [ inl q ↦ subst (λ (k : Change). T (ltb (k .0) (length counts))) (sym q) b | inr q ↦ absurd q ];
         cans = λ w i. elim i [ inl q ↦ subst (λ (k : Change). T (is-allowed counts (k .0) (k .1))) (sym q) c | inr q ↦ absurd q ];
         linked = tt;
-        fair = λ i u. subst (λ (l : List Change). Settled (constraint g i) l) (sym (select-none (holds (constraint g i)) ((x0, s0) ∷ []) (λ w m h. fresh-used g i (w .0) u h))) tt;
+        settled = λ i u. subst (λ (l : List Change). Settled (constraint g i) l) (sym (select-none (holds (constraint g i)) ((x0, s0) ∷ []) (λ w m h. fresh-used g i (w .0) u h))) tt;
         priced = refl;
       })
       (fresh g edge-cost (is-allowed counts) limit x0 s0) (empty refl refl)

@@ -210,7 +210,7 @@ module _ (g : List Constraint) (edge-cost : ℕ → Bool → Float) (counts : Li
     pub there : (w : Change) → In w (pre ++ x ∷ []) → T (ltb (w .0) (length counts))
     pub cans : (w : Change) → In w (pre ++ x ∷ []) → T (is-allowed counts (w .0) (w .1))
     pub linked : Linked g (pre ++ x ∷ [])
-    pub fair : (i : ℕ) → T (is-used used i) → Settled (constraint g i) (select (holds (constraint g i)) (pre ++ x ∷ []))
+    pub settled : (i : ℕ) → T (is-used used i) → Settled (constraint g i) (select (holds (constraint g i)) (pre ++ x ∷ []))
     pub priced : cost edge-cost (pre ++ x ∷ []) ≡ t
 
   pos-snoc : (pre : List Change) (x : Change) → 0 < length (pre ++ x ∷ [])
@@ -228,7 +228,7 @@ module _ (g : List Constraint) (edge-cost : ℕ → Bool → Float) (counts : Li
               there = every (λ (z : Change). ltb (z .0) (length counts)) (pre ++ x ∷ []) (w .there);
               down = every (λ (z : Change). is-allowed counts (z .0) (z .1)) (pre ++ x ∷ []) (w .cans);
               two = λ i. elim (T-or-not (is-used used i)) [
-                | inl u ↦ w .fair i u
+                | inl u ↦ w .settled i u
                 | inr n ↦ subst (λ (l : List Change). Settled (constraint g i) l) (sym (select-none (holds (constraint g i)) (pre ++ x ∷ []) (λ z m h.
                     clash (is-used used i) (every-in (is-used used) (incidence g (z .0)) (every-in (λ (z : Change). all (is-used used) (incidence g (z .0))) (pre ++ x ∷ []) c z m) i (holds→incidence g i (z .0) h)) n))) tt
               ];
@@ -272,10 +272,10 @@ module _ (g : List Constraint) (edge-cost : ℕ → Bool → Float) (counts : Li
           | inr b ↦ elim b [ inl q ↦ subst (λ (k : Change). T (is-allowed counts (k .0) (k .1))) (sym q) (and-r (not (any (λ (j : ℕ). differs i j && is-used (set used i true) j) (incidence g (z .0)))) (is-allowed counts (z .0) (z .1)) m2) | inr q ↦ absurd q ]
         ];
         linked = linked-snoc g pre x z (w .linked) (unlink g i (x .0) (z .0) hx (po .0));
-        fair = λ j u. elim (T-or-not (eqb j i)) [
+        settled = λ j u. elim (T-or-not (eqb j i)) [
           | inl q ↦ subst (λ (n : ℕ). Settled (constraint g n) (select (holds (constraint g n)) ((pre ++ x ∷ []) ++ z ∷ []))) (sym (eqb→eq j i q))
               (subst (λ (l : List Change). Settled (constraint g i) l) (sym (both i)) (po .1))
-          | inr q ↦ subst (λ (l : List Change). Settled (constraint g j) l) (sym (as-before j (differs→ne i j q) u)) (w .fair j (used-before used i j (differs→ne i j q) u))
+          | inr q ↦ subst (λ (l : List Change). Settled (constraint g j) l) (sym (as-before j (differs→ne i j q) u)) (w .settled j (used-before used i j (differs→ne i j q) u))
         ];
         priced = cost-snoc edge-cost pre x z ∙ ap (λ (c : Float). add binary64 c (edge-cost (z .0) (z .1))) (w .priced);
       }
@@ -325,10 +325,10 @@ module _ (g : List Constraint) (edge-cost : ℕ → Bool → Float) (counts : Li
         there = w .there;
         cans = w .cans;
         linked = w .linked;
-        fair = λ j u. elim (T-or-not (eqb j i)) [
+        settled = λ j u. elim (T-or-not (eqb j i)) [
           | inl q ↦ subst (λ (n : ℕ). Settled (constraint g n) (select (holds (constraint g n)) (pre ++ x ∷ []))) (sym (eqb→eq j i q))
               (subst (λ (l : List Change). Settled (constraint g i) l) (sym (others-are (constraint g i) pre x (earlier-differs pre x [] (w .distinct)) hx ∙ ap (λ (l : List Change). l ++ x ∷ []) (o ∙ ap {B = List Change} (λ k. k ∷ []) is-first))) b)
-          | inr q ↦ w .fair j (used-before used i j (differs→ne i j q) u)
+          | inr q ↦ w .settled j (used-before used i j (differs→ne i j q) u)
         ];
         priced = w .priced;
       }

@@ -18,7 +18,7 @@ use Rattle.floats.specs.Scalar.{nought, one, e-9, e-12, float-abs, in-unit, cla
 use Rattle.base.specs.Buffers.{splice}
 use Rattle.curves.specs.Point.{point, signed-area}
 use Rattle.curves.specs.Curve.{point-count, point-at, all-finite, total-length, curve-test}
-use Rattle.curves.specs.Boundary.{BoundaryCurves, boundary-of, boundary-ends, tolerance, apart, corner-test, winding-test, ends-test, checked-curves}
+use Rattle.curves.specs.Boundary.{BoundaryCurves, boundary-of, boundary-ends, tolerance, points-apart, corner-test, winding-test, ends-test, checked-curves}
 use Rattle.curves.specs.Seam.{falls, value-test, seam-ends-test, seam-test, pair-test, seams-test}
 use Rattle.curves.specs.Crossing.{denominator, crossing-u, crossing-v, logical-intersection}
 use Rattle.curves.specs.Quad.{zeros}
@@ -75,7 +75,7 @@ curve-clear points side =
 
 corner-clear : (allowed : Float) (got expected : Point) (corner : ℕ) → Clear (corner-test allowed got expected corner)
 unfolding corner-test
-corner-clear allowed got expected corner = if-clear (apart allowed got expected) 16 corner 0 tt
+corner-clear allowed got expected corner = if-clear (points-apart allowed got expected) 16 corner 0 tt
 
 winding-clear : (bl br tr tl : Point) → Clear (winding-test bl br tr tl)
 unfolding winding-test

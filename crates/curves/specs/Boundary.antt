@@ -61,14 +61,14 @@ tolerance bl br tr tl =
     mul binary64 e-9
     (float-max (float-max (width (bl .x) (br .x) (tr .x) (tl .x)) (width (bl .y) (br .y) (tr .y) (tl .y))) one)
 
-unfoldable pub apart : Float → Point → Point → Bool
+unfoldable pub points-apart : Float → Point → Point → Bool
 unfolding sub lt float-abs
-apart allowed got expected =
+points-apart allowed got expected =
     lt allowed (float-abs (sub binary64 (got .x) (expected .x))) || lt allowed (float-abs (sub binary64 (got .y) (expected .y)))
 
 unfoldable pub corner-test : Float → Point → Point → ℕ → Verdict
-unfolding apart
-corner-test allowed got expected corner = refuse-if (apart allowed got expected) (refused 16 corner 0)
+unfolding points-apart
+corner-test allowed got expected corner = refuse-if (points-apart allowed got expected) (refused 16 corner 0)
 
 -- ---- "corner area at or below 0": 17, which "lets by" a NaN
 

@@ -44,21 +44,21 @@ mapped c (good p) = good (coons-point c (p .x) (p .y))
 mapped c (turned-away v) = turned-away v
 
 -- a row of points by their columns
-abbrev pub Row : Type 0
-Row = ℕ → Answer Point
+abbrev pub PointRow : Type 0
+PointRow = ℕ → Answer Point
 
 -- row j of the logical grid: the line from a on the left to b on the right meets the lines from bottom to top
-abbrev pub crossings : List Float → List Float → Float → Float → ℕ → Row
+abbrev pub crossings : List Float → List Float → Float → Float → ℕ → PointRow
 crossings bottom top a b j i = logical-intersection a b (getD bottom i nan) (getD top i nan) i j
 
 -- row j of the points
-unfoldable pub row-of : BoundaryCurves → List Float → List Float → Float → Float → ℕ → Row
+unfoldable pub row-of : BoundaryCurves → List Float → List Float → Float → Float → ℕ → PointRow
 unfolding logical-intersection mapped
 row-of c bottom top a b j i = mapped c (crossings bottom top a b j i)
 
 -- its rows
 abbrev pub Grid : Type 0
-Grid = ℕ → Row
+Grid = ℕ → PointRow
 
 abbrev pub grid-of : BoundaryCurves → Seams → Grid
 grid-of c s j = row-of c (s .bottom) (s .top) (getD (s .left) j nan) (getD (s .right) j nan) j
@@ -69,13 +69,13 @@ coordinates (good p) = values p
 coordinates (turned-away v) = nan ∷ nan ∷ []
 
 -- the n + 1 points of a row, as x, y in turn
-unfoldable pub row-points : Row → ℕ → List Float
+unfoldable pub row-points : PointRow → ℕ → List Float
 row-points f n = concat-tabulate (λ (i : ℕ). coordinates (f i)) 0 (n + 1)
 
 -- ---- the tests
 
 -- "points 23 and 24 row by row"
-unfoldable pub row-test : Row → ℕ → Verdict
+unfoldable pub row-test : PointRow → ℕ → Verdict
 unfolding first-of
 row-test f n = first-of (λ (i : ℕ). verdict (f i)) 0 (n + 1)
 

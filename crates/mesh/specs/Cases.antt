@@ -143,11 +143,11 @@ abbrev pub case-H : Case
 case-H = gridded square 2 2 lent (record { verdict = passed; quads = 4; out = quarters ++ nan ∷ [] })
 
 -- 0.25
-abbrev pub quarter : Float
-quarter = ofBits binary64 0x3fd0_0000_0000_0000
+abbrev pub one-quarter : Float
+one-quarter = ofBits binary64 0x3fd0_0000_0000_0000
 
 abbrev pub areas-H : Case
-areas-H = measured quarters 4 (quarter ∷ quarter ∷ quarter ∷ quarter ∷ [])
+areas-H = measured quarters 4 (one-quarter ∷ one-quarter ∷ one-quarter ∷ one-quarter ∷ [])
 
 -- ---- I: "the square clockwise: 17"
 

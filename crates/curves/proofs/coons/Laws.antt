@@ -178,3 +178,25 @@ pub same-seams : (layout : Layout) (b r t l : List Float) (n m : ℕ) (us vs out
 same-seams layout b r t l n m us vs out e f =
     ap (λ (x : List Float). coons-from-parameters layout b r t l (seams x x vs vs) out) e
     ∙ ap (λ (x : List Float). coons-from-parameters layout b r t l (seams (uniform-parameters n) (uniform-parameters n) x x) out) f
+
+-- what follows tests is passed only where they are
+passed-before : (v : Verdict) (out : List Float) (rest : Outcome) → passed ≡ unless v out rest .verdict → T (is-passed v)
+passed-before v out rest h = go (is-passed v) refl h
+  where
+    by : Bool → Outcome
+    by p = elim p [
+      | true ↦ rest
+      | false ↦ refusal out v
+    ]
+
+    go : (p : Bool) → is-passed v ≡ p → passed ≡ by p .verdict → T (is-passed v)
+    go true e h = subst T (sym e) tt
+    go false e h = subst (λ (x : Verdict). T (is-passed x)) h tt
+
+-- a grid that is made has numbers of cells that are let by
+pub cells-of-made : (layout : Layout) (bottom right top left : List Float) (n m : ℕ) (out : List Float) → passed ≡ coons-curves layout bottom right top left n m out .verdict
+    → (n ≤ max-cells) × (m ≤ max-cells)
+unfolding coons-curves
+cells-of-made layout bottom right top left n m out h =
+    let limits : Verdict = then-test (curves-limit bottom right top left) (cells-limit n m) in
+    cells-let-by n m (then-right (curves-limit bottom right top left) (cells-limit n m) (passed-before limits out _ h))

@@ -16,7 +16,7 @@ use Rattle.base.proofs.TestLaws.{refusal-number, chain-stops, chain-goes-on, fi
 use Rattle.base.specs.Buffers.{concat-tabulate, splice}
 use Rattle.base.specs.Tests.{first-of}
 use Rattle.curves.specs.Quad.{zeros}
-use Rattle.curves.specs.Grid.{Row, Grid, row-points, row-test, points-test, quads-test, grid-test, grid-part, grid-values, needed}
+use Rattle.curves.specs.Grid.{PointRow, Grid, row-points, row-test, points-test, quads-test, grid-test, grid-part, grid-values, needed}
 use Rattle.curves.specs.inner.Rows.{Laid}
 use Rattle.curves.specs.Coons.{Outcome, refusal, filled}
 use Rattle.curves.specs.declared.rows.Layout.{Layout}
@@ -24,7 +24,7 @@ use Rattle.base.proofs.BufferLaws.{take-splice}
 use Rattle.curves.proofs.rows.Laws.{length-row-points, rows-written, rows-cleared}
 
 -- the front of the buffer that a row was written to
-pub row-part-read : (f : Row) (n : ℕ) (d xs : List Float) → xs ≡ splice d 0 (row-points f n) → take (2 * (n + 1)) xs ≡ row-points f n
+pub row-part-read : (f : PointRow) (n : ℕ) (d xs : List Float) → xs ≡ splice d 0 (row-points f n) → take (2 * (n + 1)) xs ≡ row-points f n
 row-part-read f n d xs e = ap (take (2 * (n + 1))) e ∙ take-splice d (row-points f n) (2 * (n + 1)) (length-row-points f n)
 
 module _ (f : Grid) (n m : ℕ) where

@@ -21,11 +21,11 @@ use Rattle.curves.specs.Boundary.{BoundaryCurves, curve-ends}
 use Rattle.curves.specs.Patch.{coons-point}
 use Rattle.curves.specs.inner.Columns.{column-at, row-at, patch-point}
 use Rattle.curves.specs.inner.Columns.{stored-column, Table, level-points}
-use Rattle.curves.specs.Grid.{mapped, Row, crossings, row-of, coordinates, row-points, row-test}
+use Rattle.curves.specs.Grid.{mapped, PointRow, crossings, row-of, coordinates, row-points, row-test}
 use Rattle.curves.specs.inner.Rows.{mapped-points}
 use Rattle.curves.specs.declared.boundary.Ends.{Ends}
 use Rattle.curves.specs.declared.patch.Column.{Column}
-use Rattle.curves.specs.declared.patch.Row.{Row as PatchRow}
+use Rattle.curves.specs.declared.patch.PointRow.{PointRow as PatchRow}
 use Rattle.curves.specs.declared.point.Point.{Point}
 use Rattle.curves.specs.declared.point.PointAnswer.{PointAnswer}
 use Rattle.curves.specs.declared.point.PointAnswer.the-variants.{At, Refused as NoPoint}
@@ -70,10 +70,10 @@ length-coordinates (good p) = refl
 length-coordinates (turned-away v) = refl
 
 -- the points before i are written and have passed
-abbrev pub Begun : Row → ℕ → List Float → ℕ → List Float → Type 0
+abbrev pub Begun : PointRow → ℕ → List Float → ℕ → List Float → Type 0
 Begun f n d i row = (row ≡ splice d 0 (concat-tabulate (λ (k : ℕ). coordinates (f k)) 0 i)) × (row-test f n ≡ first-of (λ (k : ℕ). verdict (f k)) i (n + 1 - i))
 
-module _ (f : Row) (n : ℕ) (d : List Float) where
+module _ (f : PointRow) (n : ℕ) (d : List Float) where
   pub row-begins : Begun f n d 0 d
   unfolding row-test
   row-begins = (splice-none d 0, first-start (λ (k : ℕ). verdict (f k)) (n + 1))

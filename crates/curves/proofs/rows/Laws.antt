@@ -19,7 +19,7 @@ use Rattle.floats.specs.Scalar.{nought, is-positive}
 use Rattle.curves.specs.Point.{signed-area}
 use Rattle.curves.specs.Curve.{point-at}
 use Rattle.curves.specs.Quad.{quad-test, zeros}
-use Rattle.curves.specs.Grid.{Row, Grid, coordinates, row-points, cell-test, cells-test, below-test, quads-test, quad-values, quads-between, node-values, nodes-of, row-part, grid-part, grid-values, needed}
+use Rattle.curves.specs.Grid.{PointRow, Grid, coordinates, row-points, cell-test, cells-test, below-test, quads-test, quad-values, quads-between, node-values, nodes-of, row-part, grid-part, grid-values, needed}
 use Rattle.curves.specs.inner.Rows.{row-size}
 use Rattle.curves.specs.declared.point.Point.{Point}
 use Rattle.curves.specs.declared.rows.Layout.{Layout}
@@ -158,7 +158,7 @@ below-later low high n (suc j) h = let e : j ≡ suc j - 1 = omega arith in ap (
 
 -- ---- the whole grid
 
-pub length-row-points : (f : Row) (n : ℕ) → length (row-points f n) ≡ 2 * (n + 1)
+pub length-row-points : (f : PointRow) (n : ℕ) → length (row-points f n) ≡ 2 * (n + 1)
 unfolding row-points
 length-row-points f n = length-concat (λ (i : ℕ). coordinates (f i)) 2 0 (n + 1) (λ i h. length-coordinates (f i)) ∙ mul-comm (n + 1) 2
 

@@ -19,7 +19,8 @@ use Rattle.base.specs.Buffers.{splice}
 use Rattle.curves.specs.Coons.{Outcome, outcome-of, refusal, unless, curves-limit, cells-limit, coons-curves, coons-quads, coons-nodes}
 use Rattle.curves.specs.declared.coons.GridAnswer.{GridAnswer}
 use Rattle.curves.specs.declared.coons.GridAnswer.the-variants as grid-answer
-use Rattle.curves.proofs.coons.Laws.{cells-let-by}
+use Rattle.curves.specs.declared.rows.Layout.the-variants.{Nodes}
+use Rattle.curves.proofs.coons.Laws.{cells-of-made}
 use Rattle.mesh.specs.Loop.{loop-test, piece}
 use Rattle.mesh.specs.Mesh.{Mesh, mesh-of, needed-cells, mesh-cells, no-cells, zeroes, cells-left, with-cells, without-cells, mesh-tile-curves}
 use Rattle.mesh.specs.Tile.{cell-limits-test, tile-test, coons-checked, mesh-tile}
@@ -92,24 +93,8 @@ module _ (bottom right top left : List Float) (n m : ℕ) (points : List Float) 
 
     -- a grid that was made has numbers of cells that are let by
     pub few-cells : (quads : ℕ) → made ≡ grid-answer.Made quads → (n ≤ max-cells) × (m ≤ max-cells)
-    unfolding outcome-of coons-curves
-    few-cells quads q =
-        let limits : Verdict = then-test (curves-limit bottom right top left) (cells-limit n m) in
-        cells-let-by n m (then-right (curves-limit bottom right top left) (cells-limit n m) (let-by limits _ (ap (λ (x : Outcome). x .verdict) (ap (λ (x : GridAnswer). outcome-of x after) (sym q) ∙ o))))
-      where
-        -- what follows tests is passed only where they are
-        let-by : (v : Verdict) (rest : Outcome) → passed ≡ unless v points rest .verdict → T (is-passed v)
-        let-by v rest h = go (is-passed v) refl h
-          where
-            by : Bool → Outcome
-            by p = elim p [
-              | true ↦ rest
-              | false ↦ refusal points v
-            ]
-
-            go : (p : Bool) → is-passed v ≡ p → passed ≡ by p .verdict → T (is-passed v)
-            go true e h = subst T (sym e) tt
-            go false e h = subst (λ (x : Verdict). T (is-passed x)) h tt
+    unfolding outcome-of
+    few-cells quads q = cells-of-made Nodes bottom right top left n m points (ap (λ (x : Outcome). x .verdict) (ap (λ (x : GridAnswer). outcome-of x after) (sym q) ∙ o))
 
 -- ---- the tests of a loop
 

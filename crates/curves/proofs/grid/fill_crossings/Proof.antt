@@ -6,7 +6,7 @@ use lib.ListN.{length, length-set}
 use denote.Ref.{now}
 use borrow.Author.Needs.{needs}
 use Rattle.base.specs.Refusal.{outcome}
-use Rattle.curves.specs.Grid.{Row, crossings}
+use Rattle.curves.specs.Grid.{PointRow, crossings}
 use Rattle.base.proofs.TestLaws.{refused-not-passed}
 use Rattle.curves.proofs.grid.Laws.{Begun, row-begins, row-goes-on, row-stops, row-ends}
 use Rattle.curves.proofs.grid.fill_crossings.Statement.{statement}
@@ -67,7 +67,7 @@ returns : tie.Need-returns Inv-loop μ-loop
 returns c =
     let a = c .before .before .before .before .before .before .before .before .before .before .before .args in
     let l = (c .before .before .before .before .before .before .before .loop) in
-    let f : Row = crossings (now (a .seam0)) (now (a .seam2)) (a .v0) (a .v1) (a .j) in
+    let f : PointRow = crossings (now (a .seam0)) (now (a .seam2)) (a .v0) (a .v1) (a .j) in
     let g = (c .before .before .before .logical-intersection) in
     (row-stops f (a .n) (now (a .row)) (l .i) (l .row) (g .result) _ (l .inv .3) (omega (arith, (c .before .before .before .before .before .before .loop-test))) (c .before .cause .given .1) (g .ensures), λ w. absurd (refused-not-passed _ w))
 
@@ -85,7 +85,7 @@ loop-again c =
     let s = (c .before .before .before .before .before .before .before .before .before .before .before) in
     let a = s .args in
     let l = (c .before .before .before .before .before .before .before .loop) in
-    let f : Row = crossings (now (a .seam0)) (now (a .seam2)) (a .v0) (a .v1) (a .j) in
+    let f : PointRow = crossings (now (a .seam0)) (now (a .seam2)) (a .v0) (a .v1) (a .j) in
     let g = (c .before .before .before .logical-intersection) in (
       omega (arith, (c .before .before .before .before .before .before .loop-test)),
       omega (arith, l .inv .1),
