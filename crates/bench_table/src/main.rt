@@ -1,8 +1,8 @@
 // Prints the bench table of the paper, cases A to G: case, refusal number (0 if none), counts in edge order (- if there are none).
 use counts::answer::SolveAnswer;
-use counts::region::RECORD_SIZE;
-use counts::region::SIDE_SIZE;
 use libc::STDOUT_FILENO;
+use regions::region::RECORD_SIZE;
+use regions::region::SIDE_SIZE;
 
 // A record starts with its bottom side; the others follow, then the next record.
 const BOTTOM: usize = 0;

@@ -11,7 +11,7 @@ use lib.Dec.{T, leb, ltb, eqb, eqb→eq, not-T, ltb→lt}
 use lib.Ieee.Fits.{and-i, and-l, and-r}
 use Rattle.base.specs.Lists.{member, Distinct, In}
 use Rattle.counts.specs.Move.{Change, select, edges, balances, Settled, is-allowed, changed, apply-changes, UnitMove}
-use Rattle.counts.specs.Region.{Constraint, constraint, holds, side-sum}
+use Rattle.regions.specs.Region.{Constraint, constraint, holds, side-sum}
 use Rattle.base.proofs.BoolLaws.{T-or-not, clash, eq→eqb, or-left, or-right}
 use Rattle.base.proofs.ListLaws.{in→member, every-in}
 use Rattle.counts.proofs.MoveLaws.{edges-in}

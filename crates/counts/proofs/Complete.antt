@@ -12,13 +12,14 @@ use lib.Ieee.{Float, inf, add, sub, lt, neg, binary64}
 use lib.Ieee.Fits.{and-i, and-l, and-r}
 use Rattle.base.specs.Lists.{any, all, Distinct, In, differs}
 use Rattle.counts.specs.Move.{Change, select, edges, balances, Settled, Linked, cost-from, cost}
-use Rattle.counts.specs.Region.{Constraint, constraint, holds, incidence}
+use Rattle.regions.specs.Region.{Constraint, constraint, holds, incidence}
 use Rattle.counts.specs.Search.{partners, others-changed, Act, skip, turned-back, entered, record-path, Go, try-step, visit-by, visit, enter-by, enter, unused, dfs, may-step, is-used, two-eps, free}
 use Rattle.counts.proofs.search.Acts.{by-test, Low, Hits, KeepsGo, hits-each, hits-record-path, keeps-try-step, keeps-visit, keeps-dfs}
 use Rattle.base.proofs.BoolLaws.{T-or-not, clash, eq→eqb, ne→differs, differs→ne}
 use Rattle.base.proofs.ListLaws.{in-right, in-split, in-filter, filter-in, not-any, every, nothing-in}
 use Rattle.counts.proofs.MoveLaws.{select-yes, select-no, select-append, select-in, select-none, settled-mid, earlier-differs, in-partners}
-use Rattle.counts.proofs.region.Constraints.{holds→incidence, incidence→holds, link}
+use Rattle.regions.proofs.region.Constraints.{holds→incidence, incidence→holds}
+use Rattle.counts.proofs.MoveLaws.{link}
 use Rattle.counts.proofs.search.Used.{set-used, still-used, used-before, free-set}
 
 -- no edge is in three constraints

@@ -10,10 +10,11 @@ use lib.Dec.{T, eqb, leb, leb→le}
 use lib.Ieee.{Float}
 use Rattle.base.specs.declared.verdict.Verdict.{Verdict}
 use Rattle.base.specs.Refusal.{passed, refused, is-passed, then-test, outcome, verdict-of}
-use Rattle.counts.specs.Region.{Constraint, places, region-count, graph}
+use Rattle.regions.specs.Region.{Constraint, places, region-count, graph}
 use Rattle.counts.specs.Cost.{CostModel, Spacing, within, costs-of, edges-of}
 use Rattle.counts.specs.Round.{find-move, Solved, solve-from, solve-zeros, max-moves}
-use Rattle.counts.specs.Accept.{limits-test, spacing-lengths, counts-test, count-ok, first-bad, pairs-test, overused-test, regions-test, max-edges}
+use Rattle.regions.specs.Accept.{limits-test, pairs-test, overused-test, regions-test, max-edges}
+use Rattle.counts.specs.Values.{spacing-lengths, counts-test, count-ok, first-bad}
 use Rattle.counts.specs.Solver.{Round, round-of, round-by, round-refused, round-with, round, round-test, Solve, solve-of, solve-part, with-rest, solve-refused, solve-with, solve, solve-test, max-limit}
 use Rattle.counts.specs.inner.Checks.{round-head, solve-head}
 use Rattle.counts.specs.inner.Tables.{Tables, the-graph}
@@ -31,7 +32,7 @@ use Rattle.counts.specs.declared.solve.MovesMade.{MovesMade}
 use Rattle.base.proofs.BoolLaws.{true-T}
 use Rattle.base.proofs.TestLaws.{then-both, was-refused, was-passed}
 use Rattle.counts.proofs.Solving.{getD-zeros}
-use Rattle.counts.proofs.check.Laws.{limits-passed}
+use Rattle.regions.proofs.accept.Laws.{limits-passed}
 use Rattle.counts.proofs.SolverLaws.{round-test-chain, solve-test-chain, same-lengths, RoundPassed, round-passed, SolvePassed, solve-passed}
 
 -- ---- a chain that ends with test 6

@@ -13,7 +13,7 @@ use lib.Ieee.{Float, nan, fin, inf, add, sub, lt, neg, ofBits, binary64}
 use lib.Ieee.Fits.{and-i, and-l, and-r}
 use Rattle.base.specs.Lists.{each, In}
 use Rattle.counts.specs.Move.{Change, Settled, is-allowed, cost, Reading}
-use Rattle.counts.specs.Region.{Constraint, constraint, holds}
+use Rattle.regions.specs.Region.{Constraint, constraint, holds}
 use Rattle.counts.specs.Round.{Found, weigh, starts, nothing-found, try-start, find-augmentation}
 use Rattle.counts.specs.Search.{eps, State, fresh, run, two-eps}
 use Rattle.counts.proofs.Complete.{Thin, hits-run, fresh-used}

@@ -9,7 +9,7 @@ use lib.ListN.{length, getD, set, length-set}
 use lib.Seq.{getD-set-same, getD-set-other}
 use lib.Dec.{T, ltb, eqb, not-T, ltb→lt}
 use Rattle.base.specs.Lists.{In, member, Distinct}
-use Rattle.counts.specs.Region.{Constraint}
+use Rattle.regions.specs.Region.{Constraint}
 use Rattle.counts.specs.Move.{Change, edges, is-allowed, changed, apply-changes, UnitMove, Makes}
 use Rattle.base.proofs.BoolLaws.{clash, or-left, or-right, eq→eqb}
 use Rattle.base.proofs.ListLaws.{in→member, every-in}

@@ -1,15 +1,16 @@
 -- Laws of specs/Move and of the partners of specs/Search: changes selected by their edge, settled constraints, distinct edges. Assumes nothing.
 use mathlib.Core.Logic.{_≢_, inl, inr}
 use mathlib.Core.Path.{_≡_, refl, sym, ap, subst, _∙_}
-use mathlib.Core.Bool.{Bool, true, false, not, _||_, cond, Bool·beq}
+use mathlib.Core.Bool.{Bool, true, false, not, _&&_, _||_, cond, Bool·beq}
 use mathlib.Core.List.{List, [], _∷_, _++_}
-use Prim.Native.Nat.{ℕ, _+_}
+use Prim.Native.Nat.{ℕ, zero, suc}
 use lib.Dec.{T}
+use lib.Ieee.Fits.{and-i, and-l, and-r}
 use Rattle.base.specs.Lists.{member, filter, Distinct, In, differs}
-use Rattle.counts.specs.Move.{Change, select, edges, balances, Settled}
-use Rattle.counts.specs.Region.{Constraint, constraint, holds}
+use Rattle.counts.specs.Move.{Change, select, edges, balances, Settled, share}
+use Rattle.regions.specs.Region.{Constraint, constraint, holds}
 use Rattle.counts.specs.Search.{signed, partners}
-use Rattle.base.proofs.BoolLaws.{clash, ne→differs}
+use Rattle.base.proofs.BoolLaws.{clash, ne→differs, or-split, or-left, or-right}
 use Rattle.base.proofs.ListLaws.{member→in, in→member, in-left, in-right, in-filter}
 
 -- ---- signed edges
@@ -107,3 +108,16 @@ in-partners c x z hz hx n t =
     go false false true false ha hb u = in-right (z .0, false) (signed true (c .a)) (signed false (filter (differs (x .0)) (c .b))) (in-at-sign false (z .0) (filter (differs (x .0)) (c .b)) (kp (c .b) (hb tt)))
     go false false false true ha hb u = in-right (z .0, true) (signed false (c .a)) (signed true (filter (differs (x .0)) (c .b))) (in-at-sign true (z .0) (filter (differs (x .0)) (c .b)) (kp (c .b) (hb tt)))
     go false false false false ha hb u = absurd u
+
+-- ---- edges that share a constraint
+pub link : (g : List Constraint) (x y : ℕ) → T (share g x y) → (i : ℕ) × T (holds (constraint g i) x) × T (holds (constraint g i) y)
+link [] x y t = absurd t
+link (c ∷ g) x y t = elim (or-split (holds c x && holds c y) (share g x y) t) [
+  | inl u ↦ (0, and-l (holds c x) (holds c y) u, and-r (holds c x) (holds c y) u)
+  | inr u ↦ (let r = link g x y u in (suc (r .0), r .1, r .2))
+]
+
+pub unlink : (g : List Constraint) (i x y : ℕ) → T (holds (constraint g i) x) → T (holds (constraint g i) y) → T (share g x y)
+unlink [] i x y t u = absurd t
+unlink (c ∷ g) zero x y t u = or-left (holds c x && holds c y) (share g x y) (and-i (holds c x) (holds c y) t u)
+unlink (c ∷ g) (suc i) x y t u = or-right (holds c x && holds c y) (share g x y) (unlink g i x y t u)

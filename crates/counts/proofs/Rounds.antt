@@ -14,12 +14,12 @@ use lib.Dec.{T}
 use lib.Ieee.{Float, lt, neg}
 use Rattle.base.specs.declared.verdict.Verdict.{Verdict}
 use Rattle.base.specs.Refusal.{is-passed}
-use Rattle.counts.specs.Region.{Constraint, constraint, constraints, places, graph, record-size, region-count, side, side-sum}
+use Rattle.regions.specs.Region.{Constraint, constraint, constraints, places, graph, record-size, region-count, side, side-sum}
 use Rattle.counts.specs.Move.{Change, apply-changes, cost, Reading, Makes}
 use Rattle.counts.specs.Cost.{CostModel}
 use Rattle.counts.specs.Search.{eps, two-eps}
 use Rattle.counts.specs.Round.{Found, find-move}
-use Rattle.counts.specs.Accept.{accepted}
+use Rattle.regions.specs.Accept.{accepted}
 use Rattle.counts.specs.Solver.{Round, round-made, round-by, round-refused, round-with, round, round-test}
 use Rattle.counts.specs.Demand.{left, left-by-all, RoundClaim, RoundClaims, Demand, Request, answer-to, request-costs, sum-of}
 use Rattle.counts.proofs.check.Accepted.{Accepted, accepted-ok}

@@ -9,11 +9,12 @@ use lib.ListN.{length, getD, drop, length-take}
 use lib.Dec.{T, ltb, eqb}
 use lib.Ieee.{Float, binary64, ofBits}
 use Rattle.base.specs.Lists.{all}
-use Rattle.counts.specs.Region.{Constraint, places, region-count, side, constraints, graph, side-sum, side-size, record-size}
+use Rattle.regions.specs.Region.{Constraint, places, region-count, side, constraints, graph, side-sum, side-size, record-size}
 use Rattle.base.specs.declared.verdict.Verdict.{Verdict}
 use Rattle.base.specs.Refusal.{passed, refused, outcome, is-passed, then-test, refuse-if}
 use Rattle.counts.specs.Cost.{Spacing, by, within, edges-of, energy-from}
-use Rattle.counts.specs.Accept.{limits-test, counts-test, spacing-limits, lengths-test, spacing-lengths, spacing-test, values-test, pairs-test, overused-test, regions-test}
+use Rattle.regions.specs.Accept.{limits-test, pairs-test, overused-test, regions-test}
+use Rattle.counts.specs.Values.{counts-test, spacing-limits, lengths-test, spacing-lengths, spacing-test, values-test}
 use Rattle.counts.specs.Solver.{max-limit, round-order, round-test, solve-order, solve-test, Energy, energy-of, energy-test, energy, Hold, hold-of, side-in-range, constraint-holds, constraints-hold}
 use Rattle.counts.specs.inner.Checks.{round-head, solve-head, sum-of-side}
 use Rattle.counts.specs.declared.answer.EnergyAnswer.the-variants as energy-answer
@@ -23,7 +24,7 @@ use Rattle.counts.specs.declared.constraint.SideSum.the-variants as side
 use Rattle.base.specs.declared.refusal.Check.{Check}
 use Rattle.base.specs.declared.refusal.Check.the-variants.{Passed, Refused}
 use Rattle.base.specs.declared.refusal.Refusal.{Refusal}
-use Rattle.counts.proofs.check.Laws.{limits-passed, count-down, next-record}
+use Rattle.regions.proofs.accept.Laws.{limits-passed, count-down, next-record}
 use Rattle.base.proofs.TestLaws.{was-refused, was-passed, then-passed, then-test-assoc}
 
 -- ---- round and solve: the code makes 6 on its tables, after the rest

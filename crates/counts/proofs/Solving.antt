@@ -12,11 +12,11 @@ use lib.Ieee.{Float}
 use Rattle.base.specs.Lists.{In, member}
 use Rattle.base.specs.declared.verdict.Verdict.{Verdict}
 use Rattle.base.specs.Refusal.{passed, is-passed, refused, refuse-if, then-test}
-use Rattle.counts.specs.Region.{Constraint, constraint, graph, holds, places, region-count, side, side-sum}
+use Rattle.regions.specs.Region.{Constraint, constraint, graph, holds, places, region-count, side, side-sum}
 use Rattle.counts.specs.Move.{Change, apply-changes}
 use Rattle.counts.specs.Cost.{CostModel, Spacing, costs-of, edges-of}
 use Rattle.counts.specs.Round.{find-move, Solved, solve-by, solve-from, solve-zeros, max-moves}
-use Rattle.counts.specs.Accept.{accepted, limits-test, regions-test}
+use Rattle.regions.specs.Accept.{accepted, limits-test, regions-test}
 use Rattle.counts.specs.Solver.{Solve, solve, solve-test, solve-with, solve-part, with-rest, solve-refused, max-limit}
 use Rattle.counts.specs.Demand.{Balanced, sum-of}
 use Rattle.counts.proofs.check.Accepted.{Accepted, accepted-ok}

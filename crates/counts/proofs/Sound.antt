@@ -12,13 +12,14 @@ use lib.Ieee.{Float, inf, add, sub, lt, neg, binary64}
 use lib.Ieee.Fits.{and-i, and-l, and-r}
 use Rattle.base.specs.Lists.{member, any, all, filter, each, Distinct, In, differs}
 use Rattle.counts.specs.Move.{Change, select, edges, balances, Settled, share, Linked, cost-from, cost, is-allowed, Joined, same, next, Reading}
-use Rattle.counts.specs.Region.{Constraint, constraint, holds, incidence}
+use Rattle.regions.specs.Region.{Constraint, constraint, holds, incidence}
 use Rattle.counts.specs.Search.{signed, partners, others-changed, eps, State, Act, skip, turned-back, entered, record-path, keep-reading, path-is-complete, Go, try-step, visit-by, visit, enter-by, enter, unused, dfs, may-step, is-used}
 use Rattle.counts.proofs.search.Acts.{by-test}
 use Rattle.base.proofs.BoolLaws.{T-or-not, clash, eq→eqb, ne→differs, differs→ne, or-split, or-left, or-right}
 use Rattle.base.proofs.ListLaws.{member→in, in→member, in-left, in-split, filter-in, every, every-in}
 use Rattle.counts.proofs.MoveLaws.{select-yes, select-no, select-append, select-none, edges-in, earlier-differs}
-use Rattle.counts.proofs.region.Constraints.{holds→incidence, incidence→holds, unlink}
+use Rattle.regions.proofs.region.Constraints.{holds→incidence, incidence→holds}
+use Rattle.counts.proofs.MoveLaws.{unlink}
 use Rattle.counts.proofs.search.Used.{used-before}
 
 -- ---- what the accepted regions give

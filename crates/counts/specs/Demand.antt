@@ -10,7 +10,7 @@ use lib.ListN.{length}
 use lib.Dec.{T}
 use lib.Ieee.{lt, neg}
 use Rattle.base.specs.Refusal.{is-passed}
-use Rattle.counts.specs.Region.{places, graph, region-count, from-region, side, side-sum}
+use Rattle.regions.specs.Region.{places, graph, region-count, from-region, side, side-sum}
 use Rattle.counts.specs.Move.{Change, Reading, Makes, cost}
 use Rattle.counts.specs.Cost.{CostModel, Spacing, costs-of}
 use Rattle.counts.specs.Search.{eps, two-eps}

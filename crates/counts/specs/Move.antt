@@ -7,7 +7,7 @@ use lib.ListN.{length, getD, set}
 use lib.Dec.{T, ltb}
 use lib.Ieee.{Float, nan, add, binary64}
 use Rattle.base.specs.Lists.{In, member, Distinct, any, all}
-use Rattle.counts.specs.Region.{Constraint, constraint, holds}
+use Rattle.regions.specs.Region.{Constraint, constraint, holds}
 
 -- "distinct edges, each with +1 or -1": an edge, and true for +1
 abbrev pub Change : Type 0

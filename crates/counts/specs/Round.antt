@@ -5,7 +5,7 @@ use Prim.Native.Nat.{ℕ, zero, suc}
 use lib.ListN.{length, replicate}
 use lib.Ieee.{Float, inf, sub, lt, neg, binary64}
 use Rattle.base.specs.Lists.{each}
-use Rattle.counts.specs.Region.{Constraint}
+use Rattle.regions.specs.Region.{Constraint}
 use Rattle.counts.specs.Move.{Change, EdgeCost, is-allowed, apply-changes}
 use Rattle.counts.specs.Cost.{CostModel}
 use Rattle.counts.specs.Search.{State, eps, run}

@@ -9,7 +9,7 @@ use lib.Dec.{leb, eqb}
 use lib.Ieee.{Float, inf, add, sub, lt, binary64}
 use Rattle.base.specs.Lists.{differs, any, all, filter, each}
 use Rattle.floats.specs.Scalar.{e-12, two-e-12}
-use Rattle.counts.specs.Region.{Constraint, constraint, holds, own-side, opposite-side, incidence}
+use Rattle.regions.specs.Region.{Constraint, constraint, holds, own-side, opposite-side, incidence}
 use Rattle.counts.specs.Move.{Change, EdgeCost, select, balances}
 
 -- 01's E, 1e-12: `EPS_IMPROVEMENT`

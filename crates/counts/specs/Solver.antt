@@ -8,11 +8,12 @@ use lib.Ieee.{Float, ofBits, binary64}
 use Rattle.base.specs.Lists.{all}
 use Rattle.base.specs.declared.verdict.Verdict.{Verdict}
 use Rattle.base.specs.Refusal.{passed, refused, then-test, refuse-if, is-passed, verdict-of}
-use Rattle.counts.specs.Region.{Constraint, places, region-count, graph, side-sum}
+use Rattle.regions.specs.Region.{Constraint, places, region-count, graph, side-sum}
 use Rattle.counts.specs.Move.{Change, apply-changes}
 use Rattle.counts.specs.Cost.{CostModel, Spacing, by, costs-of, edges-of, energy-from}
 use Rattle.counts.specs.Round.{Found, find-move, Solved, solve-zeros}
-use Rattle.counts.specs.Accept.{limits-test, spacing-limits, spacing-lengths, spacing-test, values-test, pairs-test, regions-test}
+use Rattle.regions.specs.Accept.{limits-test, pairs-test, regions-test}
+use Rattle.counts.specs.Values.{spacing-limits, spacing-lengths, spacing-test, values-test}
 use Rattle.counts.specs.declared.answer.RoundAnswer.{RoundAnswer}
 use Rattle.counts.specs.declared.answer.RoundAnswer.the-variants as round-answer
 use Rattle.counts.specs.declared.answer.SolveAnswer.{SolveAnswer}

@@ -20,7 +20,7 @@ ghost use Rattle.counts.specs.Move.{changed, apply-changes as changed-co
 ghost use Rattle.counts.specs.Round.{improves as improves-on};
 ghost use Rattle.counts.specs.inner.Tables.{Tables, path-of, changes, path-size};
 ghost use Rattle.counts.specs.inner.RoundContract.{Buffers, SearchedFrom, Remembered, Recalled, AllKnown, FoundIn, Priced, CanApply, start-at, weighed as weighed-of, chosen};
-ghost use Rattle.counts.specs.Accept.{max-edges};
+ghost use Rattle.regions.specs.Accept.{max-edges};
 
 const NO_START: usize = CHANGES;
 

@@ -4,16 +4,16 @@ use crate::cost::set_costs;
 use crate::limits::CHANGES;
 use crate::limits::EDGE_PLACES;
 use crate::limits::MAX_CONSTRAINTS;
-use crate::limits::MAX_EDGES;
 use crate::limits::NO_CONSTRAINT;
 use crate::search::wide;
+use regions::region::MAX_EDGES;
 ghost use mathlib.Core.Path.{_≡_};
 ghost use Prim.Native.Nat.{ℕ, _*_, _≤_, _<_};
 ghost use lib.ListN.{length, getD};
 ghost use Rattle.counts.specs.Cost.{range-delta, by-ranges};
 ghost use Rattle.counts.specs.inner.Tables.{no-constraint, changes, max-constraints};
 ghost use Rattle.counts.specs.inner.Components.{Labels, StillEqual, OneMark, Taken, EdgeRefreshed, Refreshed, renamed as renamed-to};
-ghost use Rattle.counts.specs.Accept.{max-edges};
+ghost use Rattle.regions.specs.Accept.{max-edges};
 
 // ---- labels
 

@@ -1,13 +1,13 @@
 // Whether the constraints hold for given counts.
-use crate::region::RECORD_SIZE;
-use crate::region::side;
+use regions::region::RECORD_SIZE;
+use regions::region::side;
 ghost use mathlib.Core.Path.{_≡_};
 ghost use Prim.Native.Nat.{_≤_};
 ghost use lib.ListN.{length};
 ghost use lib.Dec.{T};
 ghost use Rattle.base.specs.Lists.{all};
-ghost use Rattle.counts.specs.Region.{places, constraints, graph, record-size};
-ghost use Rattle.counts.specs.Accept.{sides-fit, records-whole};
+ghost use Rattle.regions.specs.Region.{places, constraints, graph, record-size};
+ghost use Rattle.regions.specs.Accept.{sides-fit, records-whole};
 ghost use Rattle.counts.specs.inner.Checks.{sum-of-side};
 ghost use Rattle.counts.specs.Solver.{constraint-holds};
 

@@ -8,7 +8,7 @@ ghost use lib.Dec.{ltb};
 ghost use lib.Ieee.{ofBits, add, sub, binary64};
 ghost use Rattle.counts.specs.Cost.{deviation, square, step, range-deviation, range-delta, by-ranges, energy-from};
 ghost use Rattle.counts.specs.inner.Tables.{set-both, Entries, changes};
-ghost use Rattle.counts.specs.Accept.{max-edges};
+ghost use Rattle.regions.specs.Accept.{max-edges};
 
 // A reading is taken in place of another one only where it costs less by more than this: 01's E.
 pub(crate) const EPS_IMPROVEMENT: f64 = 1e-12;

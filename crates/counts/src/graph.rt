@@ -4,19 +4,19 @@
 // side on which e stands in it. Sides are counted over all records: side s starts at s * SIDE_SIZE, with its number of edges, and constraint ci has
 // the sides ci / 2 * 4 + ci % 2 and, two further on, the opposite one.
 use crate::limits::EDGE_PLACES;
-use crate::limits::MAX_EDGES;
-use crate::region::RECORD_SIZE;
-use crate::region::SIDE_SIZE;
 use base::refusal::Check;
 use base::refusal::Refusal;
+use regions::region::MAX_EDGES;
+use regions::region::RECORD_SIZE;
+use regions::region::SIDE_SIZE;
 ghost use mathlib.Core.Path.{_≡_};
 ghost use mathlib.Core.List.{List, [], _∷_};
 ghost use Prim.Native.Nat.{ℕ, _≤_, _<_};
 ghost use lib.ListN.{length, getD, replicate};
 ghost use lib.Dec.{T};
 ghost use Rattle.base.specs.Refusal.{is-passed, outcome};
-ghost use Rattle.counts.specs.Region.{Constraint, places, region-count, incidence};
-ghost use Rattle.counts.specs.Accept.{limits-test, pairs-test, overused-test, max-edges};
+ghost use Rattle.regions.specs.Region.{Constraint, places, region-count, incidence};
+ghost use Rattle.regions.specs.Accept.{limits-test, pairs-test, overused-test, max-edges};
 ghost use Rattle.counts.specs.inner.Tables.{the-graph, edges-of, no-constraint, edge-places, max-sides};
 ghost use Rattle.counts.specs.inner.Graph.{SideTested, Tested, Sized, Placed, Filled, Built};
 

@@ -1,13 +1,12 @@
 // The public functions. Each takes any input; specs/Solver.antt defines what it answers and leaves.
 pub mod answer;
 mod augment;
-pub mod check;
+mod check;
 mod components;
 mod constraint;
 mod cost;
 mod graph;
 mod limits;
-pub mod region;
 mod search;
 mod solve;
 
@@ -16,7 +15,6 @@ use crate::answer::HoldAnswer;
 use crate::answer::RoundAnswer;
 use crate::answer::SolveAnswer;
 use crate::check::check_energy;
-use crate::check::check_limits;
 use crate::check::check_round;
 use crate::check::check_solve;
 use crate::constraint::regions_hold;
@@ -28,6 +26,7 @@ use crate::limits::NO_ENTRY;
 use crate::solve::make_round;
 use crate::solve::solve_from_zeros;
 use base::refusal::Check;
+use regions::accept::check_limits;
 ghost use mathlib.Core.Path.{_≡_};
 ghost use Rattle.counts.specs.Cost.{by, within};
 ghost use Rattle.counts.specs.Solver.{energy-of, energy, hold-of, constraints-hold, round-of, round, solve-of, solve};

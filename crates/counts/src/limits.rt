@@ -1,7 +1,7 @@
-// 01's limits, and the sizes of the solver's tables, which follow from them. specs/Accept.antt and specs/inner/Tables.antt have the same.
-pub(crate) const MAX_REGIONS: usize = 128;
-
-pub(crate) const MAX_EDGES: usize = 256;
+// The solver's limits, and the sizes of its tables, which follow from those of the regions. specs/Values.antt, Solver.antt and
+// inner/Tables.antt have the same.
+use regions::region::MAX_EDGES;
+use regions::region::MAX_REGIONS;
 
 pub(crate) const MAX_COUNT: u32 = 1_000_000;
 

@@ -8,8 +8,8 @@ use lib.Dec.{T, leb, ltb, eqb}
 use lib.Ieee.{Float, nan, binary64, sub, lt, le}
 use Rattle.base.specs.declared.verdict.Verdict.{Verdict}
 use Rattle.base.specs.Refusal.{passed, refused, is-passed, then-test, refuse-if}
-use Rattle.counts.specs.Region.{places, record-size, side}
-use Rattle.counts.specs.Accept.{records-whole, max-edges}
+use Rattle.regions.specs.Region.{places, record-size, side}
+use Rattle.regions.specs.Accept.{records-whole, max-edges}
 use Rattle.base.specs.Lists.{all}
 use Rattle.base.proofs.BoolLaws.{eq→eqb}
 use Rattle.base.specs.Answers.{Answer, good, turned-away, verdict}

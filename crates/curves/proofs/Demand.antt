@@ -12,16 +12,16 @@ use lib.Dec.{T, eqb, lt→ltb, ltb→lt}
 use lib.Ieee.{Float}
 use Rattle.base.specs.Refusal.{is-passed}
 use Rattle.base.specs.Lists.{In, member}
-use Rattle.counts.specs.Region.{Constraint, constraint, places, region-count, from-region, graph, side, side-sum, side-size, record-size}
+use Rattle.regions.specs.Region.{Constraint, constraint, places, region-count, from-region, graph, side, side-sum, side-size, record-size}
 use Rattle.counts.specs.Round.{solve-zeros}
 use Rattle.counts.specs.Cost.{Spacing, costs-of, edges-of}
-use Rattle.counts.specs.Accept.{accepted, sides-fit, limits-test, regions-test}
+use Rattle.regions.specs.Accept.{accepted, sides-fit, limits-test, regions-test}
 use Rattle.counts.specs.Solver.{max-limit, solve}
 use Rattle.counts.specs.Demand.{Request, answer-to, request-costs, left-by-all, Balanced, sum-of}
 use Rattle.counts.proofs.check.Accepted.{Accepted, accepted-ok}
 use Rattle.base.proofs.BoolLaws.{clash, eq→eqb, or-left, or-right, T-true}
 use Rattle.base.proofs.TestLaws.{then-left}
-use Rattle.counts.proofs.check.Laws.{sides-first, sides-rest, side-few, limits-passed, whole-sides}
+use Rattle.regions.proofs.accept.Laws.{sides-first, sides-rest, side-few, limits-passed, whole-sides}
 use Rattle.base.proofs.ListLaws.{in→member}
 use Rattle.counts.proofs.Rounds.{Steady, steady-all, constraint-at, demand-3-rounds, test-of, limit-of, asked-is}
 use Rattle.counts.proofs.Solving.{SolveIs, solve-is, solve-balanced, level-solved}

@@ -9,9 +9,9 @@ use lib.ListN.{length, take}
 use lib.Dec.{T}
 use lib.Ieee.{Float}
 use Rattle.base.specs.Refusal.{is-passed}
-use Rattle.counts.specs.Region.{places, record-size, region-count, from-region}
+use Rattle.regions.specs.Region.{places, record-size, region-count, from-region}
 use Rattle.counts.specs.Cost.{Spacing, edges-of}
-use Rattle.counts.specs.Accept.{accepted}
+use Rattle.regions.specs.Accept.{accepted}
 use Rattle.counts.specs.Solver.{solve}
 use Rattle.counts.specs.Demand.{Request, answer-to, request-costs, left-by-all, Demand}
 use Rattle.curves.specs.Lay.{TileInput, lay}

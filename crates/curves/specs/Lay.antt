@@ -7,9 +7,9 @@ use lib.Dec.{ltb, eqb}
 use lib.Ieee.{Float}
 use Rattle.base.specs.declared.verdict.Verdict.{Verdict}
 use Rattle.base.specs.Refusal.{refused, then-test, refuse-if}
-use Rattle.counts.specs.Region.{places, record-size, side}
+use Rattle.regions.specs.Region.{places, record-size, side}
 use Rattle.base.specs.Lists.{all}
-use Rattle.counts.specs.Accept.{limits-test}
+use Rattle.regions.specs.Accept.{limits-test}
 use Rattle.curves.specs.Seam.{side-seam}
 use Rattle.curves.specs.Grid.{Seams, seams}
 use Rattle.curves.specs.Coons.{Outcome, unless, curves-limit, coons-from-parameters}

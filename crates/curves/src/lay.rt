@@ -6,7 +6,7 @@ ghost use lib.ListN.{length, take};
 ghost use lib.Dec.{T, ltb};
 ghost use Rattle.base.specs.Lists.{all};
 ghost use Rattle.base.specs.Refusal.{outcome, is-passed, then-test};
-ghost use Rattle.counts.specs.Region.{places, side, side-sum};
+ghost use Rattle.regions.specs.Region.{places, side, side-sum};
 ghost use Rattle.base.specs.Buffers.{splice};
 ghost use Rattle.curves.specs.Coons.{outcome-of};
 ghost use Rattle.curves.specs.Lay.{tile-input, counts-along, seam-of, record-test, edges-test, breaks-test, lay-test, lay};
@@ -18,10 +18,10 @@ use crate::limits::MAX_SEAM;
 use crate::seam::side_seam;
 use base::refusal::Check;
 use base::refusal::Refusal;
-use counts::check::check_limits;
-use counts::region::PLACES;
-use counts::region::RECORD_SIZE;
-use counts::region::side;
+use regions::accept::check_limits;
+use regions::region::PLACES;
+use regions::region::RECORD_SIZE;
+use regions::region::side;
 
 // The edges of a side.
 const MAX_ALONG: usize = PLACES as usize;

@@ -1,8 +1,8 @@
 -- 01's bench cases and 02's hold, by working out the definitions that the public contracts cite. Assumes nothing.
 use mathlib.Core.Path.{refl}
 use lib.Ieee.{ofBits, ofInt}
-use Rattle.counts.specs.Accept.{first-bad}
-use Rattle.counts.specs.Region.{constraints}
+use Rattle.counts.specs.Values.{first-bad}
+use Rattle.regions.specs.Region.{constraints}
 use Rattle.counts.specs.Cost.{edge-delta, range-delta}
 use Rattle.counts.specs.Solver.{solve, round}
 use Rattle.floats.specs.Root.{root-answer}

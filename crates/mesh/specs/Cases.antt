@@ -8,7 +8,7 @@ use lib.ListN.{length, replicate}
 use lib.IntN.{negsuc}
 use lib.Ieee.{Float, nan, fin, binary64, ofBits}
 use Rattle.base.specs.Refusal.{passed, refused}
-use Rattle.counts.specs.Region.{places}
+use Rattle.regions.specs.Region.{places}
 use Rattle.counts.specs.Cost.{real, Spacing, by, within}
 use Rattle.counts.specs.Solver.{none, made, Round, round, Solve, solve}
 use Rattle.floats.specs.Scalar.{nought, half, one}

@@ -12,7 +12,7 @@ use lib.Dec.{T, ltb, ltb→lt, lt→ltb}
 use lib.Ieee.{Float, nan}
 use Rattle.base.specs.Lists.{In, Distinct, each}
 use Rattle.base.specs.Refusal.{is-passed}
-use Rattle.counts.specs.Region.{Constraint, constraint, holds, graph, places}
+use Rattle.regions.specs.Region.{Constraint, constraint, holds, graph, places}
 use Rattle.counts.specs.Move.{Change, EdgeCost, edges, is-allowed}
 use Rattle.counts.specs.Cost.{CostModel}
 use Rattle.counts.specs.inner.Tables.{Entries, the-graph, cost-in, allowed-in, changes}

@@ -21,7 +21,7 @@ use Rattle.counts.specs.inner.RoundContract.{Buffers, search-of, nothing
 use Rattle.counts.specs.declared.augment.Choice.{Choice}
 use Rattle.counts.specs.declared.augment.FoundMove.{FoundMove}
 use Rattle.counts.specs.declared.search.SearchState.{SearchState}
-use Rattle.counts.specs.Accept.{max-edges}
+use Rattle.regions.specs.Accept.{max-edges}
 use Rattle.base.proofs.BoolLaws.{by-cases, clash, eq→eqb, ne→eqb, same→eqb}
 use Rattle.counts.proofs.search.Places.{encoded-decoded}
 use Rattle.counts.proofs.search.Laws.{each-append}

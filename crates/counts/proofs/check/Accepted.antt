@@ -11,12 +11,12 @@ use lib.ListN.{length, drop}
 use lib.Dec.{T, ltb, eqb, not-T, ltb→lt, nltb→le}
 use Rattle.base.specs.Lists.{In, member, Distinct, any}
 use Rattle.base.specs.Refusal.{is-passed, refused, then-test, refuse-if}
-use Rattle.counts.specs.Region.{Constraint, constraint, constraints, graph, holds, incidence, no-sides, record-size, region-count, side}
-use Rattle.counts.specs.Accept.{accepted, limits-test, regions-test, pairs-test, region-test, pair-test, side-test, overused-test, shared-edge}
+use Rattle.regions.specs.Region.{Constraint, constraint, constraints, graph, holds, incidence, no-sides, record-size, region-count, side}
+use Rattle.regions.specs.Accept.{accepted, limits-test, regions-test, pairs-test, region-test, pair-test, side-test, overused-test, shared-edge}
 use Rattle.base.proofs.BoolLaws.{clash, or-split, or-left, or-right, eq→eqb}
 use Rattle.counts.proofs.Complete.{Thin}
 use Rattle.base.proofs.ListLaws.{member→in}
-use Rattle.counts.proofs.region.Constraints.{holds→incidence}
+use Rattle.regions.proofs.region.Constraints.{holds→incidence}
 use Rattle.base.proofs.TestLaws.{then-left, then-right, not-refused}
 use Rattle.counts.proofs.Sound.{none-out}
 

@@ -14,7 +14,7 @@ use lib.Ieee.{Float, nan}
 use Rattle.counts.specs.Cost.{CostModel}
 use Rattle.counts.specs.inner.Tables.{set-both, Entries, no-constraint, max-constraints, changes}
 use Rattle.counts.specs.inner.Components.{At, Labels, renamed, StillEqual, OneMark, Taken, Outside, EdgeRefreshed, Refreshed}
-use Rattle.counts.specs.Accept.{max-edges}
+use Rattle.regions.specs.Accept.{max-edges}
 use Rattle.base.proofs.BoolLaws.{by-cases, eq→eqb, cond-yes, clash}
 use Rattle.counts.proofs.cost.Laws.{both-plus, both-minus, both-other, length-both, entries-kept, entries-new}
 

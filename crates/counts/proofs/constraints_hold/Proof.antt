@@ -2,7 +2,7 @@
 use borrow.Author.Needs.{needs}
 use denote.Ref.{now}
 use lib.ListN.{length}
-use Rattle.counts.proofs.check.Laws.{limits-passed}
+use Rattle.regions.proofs.accept.Laws.{limits-passed}
 use Rattle.base.proofs.TestLaws.{was-passed}
 use Rattle.counts.proofs.SolverLaws.{hold-refused, hold-answered}
 use Rattle.counts.proofs.constraints_hold.Statement.{statement}

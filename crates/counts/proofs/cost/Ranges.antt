@@ -13,7 +13,7 @@ use lib.IntN.{ℤ, pos}
 use lib.Ieee.{Float, nan, inf, fin, up, down, low, emax, prec, binary64, round, units, odd, sum, add, sub, div, lt, isNan, neg, ofInt, ofBits}
 use lib.Ieee.Fits.{up-pos, down-pos, round-is}
 use lib.Ieee.Scale.{round-same}
-use Rattle.counts.specs.Accept.{ideal-ok}
+use Rattle.counts.specs.Values.{ideal-ok}
 use Rattle.floats.specs.Scalar.{one}
 use Rattle.counts.specs.Cost.{real, step, deviation, square, edge-delta, range-deviation, range-delta, by-ideals, by-ranges}
 

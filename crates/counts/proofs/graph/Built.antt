@@ -15,8 +15,8 @@ use lib.Ieee.Fits.{and-l, and-r}
 use Rattle.base.specs.Lists.{In, member, Distinct}
 use Rattle.base.specs.declared.verdict.Verdict.{Verdict}
 use Rattle.base.specs.Refusal.{passed, refused, outcome, verdict-of, then-test, refuse-if, is-passed}
-use Rattle.counts.specs.Region.{Constraint, places, region-count, constraint, holds, incidence, side-size, record-size}
-use Rattle.counts.specs.Accept.{records-whole, sides-fit, limits-test, pairs-test, overused-test, max-regions, max-edges}
+use Rattle.regions.specs.Region.{Constraint, places, region-count, constraint, holds, incidence, side-size, record-size}
+use Rattle.regions.specs.Accept.{records-whole, sides-fit, limits-test, pairs-test, overused-test, max-regions, max-edges}
 use Rattle.counts.specs.inner.Tables.{the-graph, no-constraint, edges-of, across, StandsOn, Tables, edge-places}
 use Rattle.counts.specs.inner.Graph.{first-side, second-side, side-of, PairTested, Tested, Placed, Filled}
 use Rattle.base.specs.declared.refusal.Check.the-variants.{Passed, Refused}
@@ -24,10 +24,10 @@ use Rattle.base.specs.declared.refusal.Refusal.the-variants.{EdgeOverused}
 use Rattle.counts.proofs.check.Accepted.{ConstraintOk, pairs-ok, overused-ok}
 use Rattle.base.proofs.BoolLaws.{T-or-not, clash, or-left, or-right, T-true, not-T-false, cond-yes, cond-no}
 use Rattle.base.proofs.ListLaws.{getD-in}
-use Rattle.counts.proofs.region.Constraints.{holds-numbered, incidence→holds}
+use Rattle.regions.proofs.region.Constraints.{holds-numbered, incidence→holds}
 use Rattle.counts.proofs.graph.Placing.{filled-more}
 use Rattle.base.proofs.TestLaws.{not-refused}
-use Rattle.counts.proofs.region.Laws.{sides-are, sides-few, length-constraints}
+use Rattle.counts.proofs.graph.Sides.{sides-are, sides-few, length-constraints}
 
 -- ---- what the tests give
 

@@ -13,13 +13,13 @@ use lib.Seq.{getD-set-same, getD-set-other}
 use lib.Dec.{T, eqb, eqb→eq}
 use lib.Ieee.Fits.{and-i, and-l, and-r}
 use Rattle.base.specs.Lists.{member}
-use Rattle.counts.specs.Region.{Constraint, constraint, holds, incidence}
+use Rattle.regions.specs.Region.{Constraint, constraint, holds, incidence}
 use Rattle.counts.specs.inner.Tables.{no-constraint, edge-places}
 use Rattle.counts.specs.inner.Graph.{first-side, second-side, side-of, Sized, Placed, Filled}
-use Rattle.counts.specs.Accept.{max-edges}
+use Rattle.regions.specs.Accept.{max-edges}
 use Rattle.base.proofs.BoolLaws.{T-or-not, clash, eq→eqb, cond-yes, cond-no}
 use Rattle.base.proofs.ListLaws.{member-append, one-in, in-one, length-grown, getD-grown}
-use Rattle.counts.proofs.region.Constraints.{incidence-take, length-incidence}
+use Rattle.regions.proofs.region.Constraints.{incidence-take, length-incidence}
 
 -- ---- one edge
 

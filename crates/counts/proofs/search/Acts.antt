@@ -10,7 +10,7 @@ use lib.Ieee.{Float, fin, inf, nan, add, sub, lt, neg, binary64, isNan}
 use lib.Ieee.Fits.{and-i, and-l, and-r}
 use Rattle.base.specs.Lists.{each, In}
 use Rattle.counts.specs.Move.{Change, balances}
-use Rattle.counts.specs.Region.{Constraint, constraint}
+use Rattle.regions.specs.Region.{Constraint, constraint}
 use Rattle.counts.specs.Search.{partners, others-changed, eps, State, Act, skip, turned-back, entered, keep-reading, record-path, path-is-complete, Go, try-step, visit-by, visit, enter-by, enter, unused, dfs, may-step, two-eps}
 use Rattle.base.proofs.BoolLaws.{T-or-not, clash}
 use Rattle.floats.proofs.scalar.Epsilon.{real-of-lt, below-again, far-below, two-eps-below}

@@ -14,7 +14,7 @@ use lib.Seq.{take-set-le}
 use lib.Dec.{eqb, T, eqb→eq, eqb-refl}
 use lib.Ieee.{Float, nan, lt, sub, add, binary64}
 use Rattle.base.specs.Lists.{all, member, differs}
-use Rattle.counts.specs.Region.{Constraint, constraint, holds, incidence}
+use Rattle.regions.specs.Region.{Constraint, constraint, holds, incidence}
 use Rattle.counts.specs.Move.{Change, balances, select}
 use Rattle.counts.specs.Search.{Act, State, entered, eps, free, is-used, others-changed, path-is-complete, record-path, skip, visit, visit-by}
 use Rattle.counts.specs.inner.Tables.{Other, Tables, after, all-decoded, allowed-in, alone, before, cost-in, decoded, path-of, state-of, the-graph, no-constraint}
@@ -24,7 +24,7 @@ use Rattle.counts.specs.declared.search.Changed.{Changed}
 use Rattle.counts.specs.declared.search.Changed.the-variants.{One}
 use Rattle.base.proofs.BoolLaws.{T-true, clash, false-T, ne→eqb, not-T-false}
 use Rattle.base.proofs.ListLaws.{every-in, in-left, nothing-in}
-use Rattle.counts.proofs.region.Constraints.{holds→incidence, incidence→holds}
+use Rattle.regions.proofs.region.Constraints.{holds→incidence, incidence→holds}
 use Rattle.counts.proofs.MoveLaws.{select-in}
 use Rattle.counts.proofs.search.Used.{set-used, still-used}
 use Rattle.counts.proofs.search.Laws.{all-used, barred-alone, chain-complete, dfs-enters, dfs-turned-back, enter-none, none-held, record-high, record-incomplete, record-kept, unused-alone}

@@ -13,14 +13,14 @@ use lib.Dec.{eqb, T, leb, eqb→eq, eqb-refl, le→leb}
 use lib.Arith.{lt→nleb}
 use lib.Ieee.{Float, lt, sub, add, binary64}
 use Rattle.base.specs.Lists.{In, all, any, each, filter, member, differs}
-use Rattle.counts.specs.Region.{Constraint, constraint, holds, incidence, opposite-side, own-side}
+use Rattle.regions.specs.Region.{Constraint, constraint, holds, incidence, opposite-side, own-side}
 use Rattle.counts.specs.Move.{Change, select}
 use Rattle.counts.specs.Search.{Act, Go, State, dfs, enter, enter-by, entered, eps, is-used, keep-reading, may-step, others-changed, partners, path-is-complete, record-path, signed, skip, try-step, turned-back, visit, visit-by}
 use Rattle.counts.specs.inner.Tables.{Other, after, alone, before, no-constraint}
 use Rattle.counts.specs.inner.SearchContract.{both-signed}
 use Rattle.base.proofs.BoolLaws.{T-true, clash, false-T, ne→eqb, not-T-false, same→eqb}
 use Rattle.base.proofs.ListLaws.{every, in-split, not-any, nothing-in}
-use Rattle.counts.proofs.region.Constraints.{incidence→holds}
+use Rattle.regions.proofs.region.Constraints.{incidence→holds}
 use Rattle.counts.proofs.MoveLaws.{select-in, select-none}
 
 -- ---- acts done one after the other

@@ -11,13 +11,13 @@ use lib.Seq.{getD-set-other}
 use lib.Dec.{eqb, T, leb}
 use lib.Ieee.{Float, add, binary64}
 use Rattle.base.specs.Lists.{In, all, any, filter, differs}
-use Rattle.counts.specs.Region.{Constraint, constraint, holds, incidence}
+use Rattle.regions.specs.Region.{Constraint, constraint, holds, incidence}
 use Rattle.counts.specs.Move.{Change, balances}
 use Rattle.counts.specs.Search.{State, dfs, enter, enter-by, entered, eps, free, is-used, keep-reading, may-step, others-changed, partners, record-path, skip, try-step, turned-back, visit, visit-by}
 use Rattle.base.proofs.BoolLaws.{T-true}
 use Rattle.base.proofs.ListLaws.{filter-in}
 use Rattle.counts.proofs.search.Used.{free-set, set-used}
-use Rattle.counts.proofs.region.Constraints.{incidence→holds}
+use Rattle.regions.proofs.region.Constraints.{incidence→holds}
 use Rattle.counts.proofs.search.Same.{each-same}
 
 filter-same : (p q : ℕ → Bool) (l : List ℕ) → ((i : ℕ) → In i l → p i ≡ q i) → filter p l ≡ filter q l

@@ -14,12 +14,12 @@ use lib.Dec.{eqb, ltb, T, eqb→eq, lt→ltb}
 use lib.Arith.{le→nltb}
 use lib.Ieee.{Float, nan}
 use Rattle.base.specs.Lists.{In}
-use Rattle.counts.specs.Region.{Constraint, constraint, holds, incidence, incidence-from}
+use Rattle.regions.specs.Region.{Constraint, constraint, holds, incidence, incidence-from}
 use Rattle.counts.specs.Move.{Change}
 use Rattle.counts.specs.inner.Tables.{Other, StandsOn, Tables, across, after, all-decoded, alone, before, cost-in, decoded, encoded, no-constraint, path-of, the-graph, max-sides, edge-places}
-use Rattle.counts.specs.Accept.{max-edges}
+use Rattle.regions.specs.Accept.{max-edges}
 use Rattle.base.proofs.BoolLaws.{T-true, clash, not-T-false}
-use Rattle.counts.proofs.region.Constraints.{holds→incidence, incidence-out, incidence→holds}
+use Rattle.regions.proofs.region.Constraints.{holds→incidence, incidence-out, incidence→holds}
 
 -- ---- packed changes
 

@@ -10,12 +10,12 @@ use lib.ListN.{length, set, replicate}
 use lib.Dec.{T, leb, eqb}
 use lib.Ieee.{Float, add, binary64}
 use Rattle.base.specs.Lists.{In, member, any, filter, each, differs}
-use Rattle.counts.specs.Region.{Constraint, constraint, holds, own-side, opposite-side, incidence}
+use Rattle.regions.specs.Region.{Constraint, constraint, holds, own-side, opposite-side, incidence}
 use Rattle.counts.specs.Move.{Change}
 use Rattle.counts.specs.Search.{State, Go, Act, is-used, signed, partners, others-changed, may-step, try-step, visit, visit-by, enter, enter-by, dfs, skip, turned-back, entered, run, fresh}
 use Rattle.base.proofs.BoolLaws.{or-left, or-right}
 use Rattle.base.proofs.ListLaws.{in-split, filter-in, in→member}
-use Rattle.counts.proofs.region.Constraints.{incidence→holds}
+use Rattle.regions.proofs.region.Constraints.{incidence→holds}
 
 pub each-same : {A : Type 0} (f f' : A → Act) (l : List A) → ((a : A) → In a l → (st : State) → f a st ≡ f' a st) → (st : State) → each f l st ≡ each f' l st
 each-same f f' [] h st = refl

@@ -10,7 +10,7 @@ use lib.ListN.{length, getD, take, drop}
 use lib.Seq.{take-suc, take-all, take-add}
 use lib.Dec.{eqb}
 use Rattle.base.specs.Lists.{In, member, differs}
-use Rattle.counts.specs.Region.{Constraint, holds}
+use Rattle.regions.specs.Region.{Constraint, holds}
 use Rattle.counts.specs.Move.{Change}
 use Rattle.counts.specs.Search.{others-changed}
 use Rattle.counts.specs.inner.Tables.{all-decoded, decoded, path-of}

@@ -14,16 +14,16 @@ use lib.Dec.{eqb, leb, T, le→leb}
 use lib.Arith.{lt→nleb}
 use lib.Ieee.{Float, lt, sub, binary64}
 use Rattle.base.specs.Lists.{In, all, each, filter}
-use Rattle.counts.specs.Region.{Constraint, constraint, holds, incidence}
+use Rattle.regions.specs.Region.{Constraint, constraint, holds, incidence}
 use Rattle.counts.specs.Move.{Change}
 use Rattle.counts.specs.Search.{Act, State, dfs, enter, enter-by, entered, eps, free, fresh, is-used, others-changed, run, skip, turned-back}
 use Rattle.counts.specs.inner.Tables.{Other, Tables, all-decoded, allowed-in, cost-in, decoded, no-constraint, path-of, state-of, the-graph, max-constraints, edge-places, changes, marks-size, path-size}
 use Rattle.counts.specs.inner.SearchContract.{Crossed, CrossedAll, Entered, MayCross, Searched, crossing-of, dfs-of, entry-by, entry-of, fresh-state, no-marks, start-cost, visit-of}
 use Rattle.counts.specs.declared.search.SearchState.{SearchState}
-use Rattle.counts.specs.Accept.{max-edges}
+use Rattle.regions.specs.Accept.{max-edges}
 use Rattle.base.proofs.BoolLaws.{T-true, clash, false-T, not-T-false}
 use Rattle.counts.proofs.search.Used.{free-set}
-use Rattle.counts.proofs.region.Constraints.{holds→incidence, incidence→holds}
+use Rattle.regions.proofs.region.Constraints.{holds→incidence, incidence→holds}
 use Rattle.counts.proofs.search.Laws.{dfs-enters, dfs-turned-back, record-high, record-kept}
 use Rattle.counts.proofs.search.Places.{entry-holds, entry-most, in-none, one-change, one-constraint, other-differs, other-first, other-held, other-in, other-same, other-second, same-entry, some-constraint, two-constraints}
 use Rattle.counts.proofs.search.Scan.{hit-self}

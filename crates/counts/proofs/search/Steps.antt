@@ -15,7 +15,7 @@ use lib.Seq.{take-take, take-set-le, take-all, getD-set-other, getD-set-same}
 use lib.Dec.{eqb, T}
 use lib.Ieee.{Float, nan, add, binary64}
 use Rattle.base.specs.Lists.{In, any, each, differs}
-use Rattle.counts.specs.Region.{Constraint, constraint, holds, incidence}
+use Rattle.regions.specs.Region.{Constraint, constraint, holds, incidence}
 use Rattle.counts.specs.Move.{Change, select}
 use Rattle.counts.specs.Search.{Act, State, free, is-used, others-changed, partners, skip, visit}
 use Rattle.counts.specs.inner.Tables.{Other, Tables, all-decoded, allowed-in, cost-in, decoded, path-of, state-of, the-graph, no-constraint, edge-places, changes, path-size}
@@ -23,7 +23,7 @@ use Rattle.counts.specs.inner.SearchContract.{Crossed, MayCross, MayStep
 use Rattle.counts.specs.declared.search.SearchState.{SearchState}
 use Rattle.base.proofs.BoolLaws.{T-true, clash, false-T, ne→eqb, not-T-false, same→eqb}
 use Rattle.counts.proofs.search.Used.{free-set, set-used, still-used, used-before}
-use Rattle.counts.proofs.region.Constraints.{holds→incidence}
+use Rattle.regions.proofs.region.Constraints.{holds→incidence}
 use Rattle.counts.proofs.search.Laws.{barred-other, dfs-enters, dfs-turned-back, each-both, each-suc, enter-one, length-both-signed, may-is, may-not, none-but-next, none-held, not-on-path, opposite-without, try-step-no, try-step-yes, unused-other, visit-crosses}
 use Rattle.counts.proofs.search.Places.{cost-at, encoded-decoded, other-in, path-longer, same-entry}
 

@@ -10,7 +10,7 @@ use lib.ListN.{length, getD, take, drop, length-drop, length-append}
 use lib.Seq.{getD-take, getD-drop, getD-append-add, length-take-le}
 use lib.Dec.{eqb, T}
 use Rattle.base.specs.Lists.{In, member}
-use Rattle.counts.specs.Region.{Constraint, constraint, holds, opposite-side, own-side, places, side-size}
+use Rattle.regions.specs.Region.{Constraint, constraint, holds, opposite-side, own-side, places, side-size}
 use Rattle.counts.specs.Move.{Change}
 use Rattle.counts.specs.Search.{signed}
 use Rattle.counts.specs.inner.Tables.{StandsOn, Tables, across, decoded, edges-of, the-graph, changes}

@@ -10,7 +10,7 @@ use lib.ListN.{length, getD}
 use lib.Dec.{T, eqb, ltb, not-T, eqb→eq, lt→ltb, ltb→lt, nltb→le}
 use lib.Ieee.{Float, nan}
 use Rattle.base.specs.Lists.{In, member}
-use Rattle.counts.specs.Region.{constraint, holds, incidence}
+use Rattle.regions.specs.Region.{constraint, holds, incidence}
 use Rattle.counts.specs.Move.{Change, Joined, same, next, edges, is-allowed, apply-changes}
 use Rattle.counts.specs.Cost.{CostModel, Local}
 use Rattle.counts.specs.Search.{State, run}
@@ -18,13 +18,14 @@ use Rattle.counts.specs.Round.{Found, find-move}
 use Rattle.counts.specs.inner.Tables.{the-graph, decoded, encoded, path-of, cost-in, allowed-in, no-constraint, Tables, changes, path-size}
 use Rattle.counts.specs.inner.Components.{At, Labels, Outside, Refreshed}
 use Rattle.counts.specs.inner.RoundContract.{CanApply, Result, Ready, search-of, nothing-searched}
-use Rattle.counts.specs.Accept.{max-edges}
+use Rattle.regions.specs.Accept.{max-edges}
 use Rattle.counts.proofs.check.Accepted.{Accepted}
 use Rattle.counts.proofs.augment.Applying.{apply-length, apply-other}
 use Rattle.base.proofs.BoolLaws.{by-cases, clash, or-split, or-left, or-right, eq→eqb}
 use Rattle.counts.proofs.Find.{none as found-none, some}
 use Rattle.counts.proofs.augment.Finding.{entry-cost, entry-allowed}
-use Rattle.counts.proofs.region.Constraints.{link, holds→incidence}
+use Rattle.counts.proofs.MoveLaws.{link}
+use Rattle.regions.proofs.region.Constraints.{holds→incidence}
 use Rattle.base.proofs.ListLaws.{in→member, member→in, nothing-in}
 use Rattle.counts.proofs.MoveLaws.{edges-in}
 use Rattle.counts.proofs.search.Places.{two-places, entry-most, in-none, start-in}

@@ -11,11 +11,11 @@ use lib.Dec.{T, eqb, eqb→eq}
 use lib.Ieee.{Float}
 use Rattle.base.specs.Lists.{In, member, Distinct}
 use Rattle.base.specs.Refusal.{passed, is-passed}
-use Rattle.counts.specs.Region.{Constraint, places}
+use Rattle.regions.specs.Region.{Constraint, places}
 use Rattle.counts.specs.Move.{Change, edges, apply-changes}
 use Rattle.counts.specs.Cost.{CostModel, Local}
 use Rattle.counts.specs.Round.{Found, find-move, Solved, solve-by, solve-from, max-moves}
-use Rattle.counts.specs.Accept.{regions-test}
+use Rattle.regions.specs.Accept.{regions-test}
 use Rattle.counts.specs.Solver.{made, round-of, round-made, round-by}
 use Rattle.counts.specs.inner.Tables.{the-graph, decoded, path-of, Tables, path-size}
 use Rattle.counts.specs.inner.Components.{Labels, Refreshed}

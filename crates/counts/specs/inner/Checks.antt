@@ -4,9 +4,9 @@ use mathlib.Core.Bool.{cond}
 use mathlib.Core.List.{List}
 use Prim.Native.Nat.{ℕ}
 use Rattle.base.specs.declared.verdict.Verdict.{Verdict}
-use Rattle.counts.specs.Region.{region-count, side-sum}
+use Rattle.regions.specs.Region.{region-count, side-sum}
 use Rattle.counts.specs.Cost.{Spacing, edges-of}
-use Rattle.counts.specs.Accept.{pairs-test}
+use Rattle.regions.specs.Accept.{pairs-test}
 use Rattle.counts.specs.Solver.{round-order, solve-order, side-in-range}
 use Rattle.counts.specs.declared.constraint.SideSum.{SideSum}
 use Rattle.counts.specs.declared.constraint.SideSum.the-variants as side-total

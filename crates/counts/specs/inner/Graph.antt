@@ -9,8 +9,8 @@ use lib.Dec.{T, eqb}
 use Rattle.base.specs.Lists.{member, Distinct}
 use Rattle.base.specs.declared.verdict.Verdict.{Verdict}
 use Rattle.base.specs.Refusal.{is-passed}
-use Rattle.counts.specs.Region.{Constraint, places, region-count, constraint, incidence, side-size}
-use Rattle.counts.specs.Accept.{max-regions, max-edges, overused-test}
+use Rattle.regions.specs.Region.{Constraint, places, region-count, constraint, incidence, side-size}
+use Rattle.regions.specs.Accept.{max-regions, max-edges, overused-test}
 use Rattle.counts.specs.inner.Tables.{the-graph, no-constraint, edges-of, Tables, max-sides, edge-places}
 
 abbrev pub first-side : ℕ → ℕ

@@ -12,8 +12,8 @@ use Rattle.counts.specs.Cost.{CostModel}
 use Rattle.counts.specs.Search.{State, run}
 use Rattle.counts.specs.Round.{Found, improves, find-augmentation, Solved}
 use Rattle.base.specs.Refusal.{is-passed}
-use Rattle.counts.specs.Region.{places}
-use Rattle.counts.specs.Accept.{regions-test, max-edges}
+use Rattle.regions.specs.Region.{places}
+use Rattle.regions.specs.Accept.{regions-test, max-edges}
 use Rattle.counts.specs.inner.Tables.{the-graph, cost-in, allowed-in, path-of, state-of, changes, path-size}
 use Rattle.counts.specs.inner.SearchContract.{no-marks}
 use Rattle.counts.specs.declared.search.SearchState.{SearchState}

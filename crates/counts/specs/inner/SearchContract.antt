@@ -11,7 +11,7 @@ use lib.ListN.{length, getD, take, drop, set, replicate}
 use lib.Dec.{eqb, leb, T}
 use lib.Ieee.{Float, inf}
 use Rattle.base.specs.Lists.{any, each, differs}
-use Rattle.counts.specs.Region.{places, Constraint, constraint, holds, own-side, opposite-side, incidence}
+use Rattle.regions.specs.Region.{places, Constraint, constraint, holds, own-side, opposite-side, incidence}
 use Rattle.counts.specs.Move.{Change, select}
 use Rattle.counts.specs.Search.{Go, Act, State, skip, turned-back, entered, record-path, signed, others-changed, is-used, free, try-step, visit, dfs, run}
 use Rattle.counts.specs.inner.Tables.{decoded, path-of, state-of, the-graph, cost-in, allowed-in, no-constraint, Other, Tables, edge-places, changes, marks-size, path-size}

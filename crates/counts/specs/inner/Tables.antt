@@ -10,8 +10,8 @@ use lib.ListN.{length, getD, set, take, drop}
 use lib.Dec.{eqb, ltb, T}
 use lib.Ieee.{Float, nan}
 use Rattle.base.specs.Lists.{member, any, differs}
-use Rattle.counts.specs.Region.{Constraint, places, graph, constraint, holds, own-side, opposite-side, incidence, side-size}
-use Rattle.counts.specs.Accept.{max-regions, max-edges}
+use Rattle.regions.specs.Region.{Constraint, places, graph, constraint, holds, own-side, opposite-side, incidence, side-size}
+use Rattle.regions.specs.Accept.{max-regions, max-edges}
 use Rattle.counts.specs.Move.{Change, EdgeCost, select, is-allowed}
 use Rattle.counts.specs.Cost.{CostModel}
 use Rattle.counts.specs.Search.{State, Go, Act, skip, signed, others-changed, is-used, try-step, visit, dfs}

@@ -13,15 +13,15 @@ use lib.Seq.{take-all, take-at}
 use Rattle.base.specs.Lists.{all}
 use Rattle.base.specs.declared.verdict.Verdict.{Verdict}
 use Rattle.base.specs.Refusal.{refused, verdict-of, outcome, is-passed, then-test, refuse-if}
-use Rattle.counts.specs.Region.{places, side, side-sum, record-size}
-use Rattle.counts.specs.Accept.{sides-fit, limits-test}
+use Rattle.regions.specs.Region.{places, side, side-sum, record-size}
+use Rattle.regions.specs.Accept.{sides-fit, limits-test}
 use Rattle.base.specs.declared.refusal.Check.{Check}
 use Rattle.base.specs.declared.refusal.Check.the-variants.{Passed, Refused}
 use Rattle.base.specs.declared.refusal.Refusal.{Refusal}
 use Rattle.base.specs.declared.refusal.Refusal.the-variants as because
 use Rattle.base.proofs.BoolLaws.{T-true}
 use Rattle.base.proofs.TestLaws.{then-left, then-right, not-refused, four-passed, told-passed}
-use Rattle.counts.proofs.check.Laws.{limits-passed, whole-sides, side-few}
+use Rattle.regions.proofs.accept.Laws.{limits-passed, whole-sides, side-few}
 use Rattle.counts.proofs.SolverLaws.{side-short}
 use Rattle.base.proofs.Turns.{drop-at}
 use Rattle.base.specs.Buffers.{splice}

@@ -6,7 +6,7 @@ use denote.Ref.{now}
 use borrow.Author.Tests.{le-leb, lt-leb}
 use lib.ListN.{length, getD, drop}
 use Rattle.base.specs.Refusal.{outcome, verdict-of}
-use Rattle.counts.specs.Accept.{first-bad, count-ok}
+use Rattle.counts.specs.Values.{first-bad, count-ok}
 use Rattle.counts.proofs.check.Laws.{bad-next, bad-here, bad-none}
 use Rattle.counts.proofs.check.check_counts.Statement.{statement}
 use Rattle.counts.proofs.check.check_counts.Tie as tie

@@ -1,7 +1,7 @@
 -- `counts::check::check_edges` meets its contract. Each return is the definition at what the test says. Assumes nothing.
 use borrow.Author.Tests.{le-leb, lt-leb}
 use Rattle.base.specs.Refusal.{outcome, verdict-of}
-use Rattle.counts.specs.Accept.{records-whole, limits-test, max-edges}
+use Rattle.regions.specs.Accept.{records-whole, limits-test, max-edges}
 use Rattle.counts.proofs.check.check_edges.Statement.{statement}
 use Rattle.counts.proofs.check.check_edges.Tie as tie
 

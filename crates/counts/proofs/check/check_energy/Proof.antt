@@ -5,11 +5,12 @@ use borrow.Author.Needs.{needs}
 use denote.Ref.{now}
 use lib.ListN.{length}
 use Rattle.base.specs.Refusal.{then-test}
-use Rattle.counts.specs.Region.{places}
+use Rattle.regions.specs.Region.{places}
 use Rattle.counts.specs.Cost.{by}
-use Rattle.counts.specs.Accept.{limits-test, values-test}
+use Rattle.regions.specs.Accept.{limits-test}
+use Rattle.counts.specs.Values.{values-test}
 use Rattle.counts.specs.Solver.{energy-test}
-use Rattle.counts.proofs.check.Laws.{limits-passed}
+use Rattle.regions.proofs.accept.Laws.{limits-passed}
 use Rattle.counts.proofs.EqualEnds.{values-same}
 use Rattle.base.proofs.TestLaws.{chain-ends, chain-goes-on, was-passed}
 use Rattle.counts.proofs.check.check_energy.Statement.{statement}

@@ -6,7 +6,7 @@ use borrow.Author.Needs.{needs}
 use borrow.Author.Tests.{not-true, not-false}
 use lib.ListN.{length, drop}
 use Rattle.base.specs.Refusal.{outcome, verdict-of}
-use Rattle.counts.specs.Accept.{first-bad, ranges, in-order}
+use Rattle.counts.specs.Values.{first-bad, ranges, in-order}
 use Rattle.counts.proofs.check.Laws.{range-next, range-here, range-none}
 use Rattle.counts.proofs.check.check_order.Statement.{statement}
 use Rattle.counts.proofs.check.check_order.Tie as tie

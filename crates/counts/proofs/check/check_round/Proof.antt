@@ -6,12 +6,13 @@ use borrow.Author.Tests.{lt-ltb, le-ltb}
 use lib.ListN.{length}
 use lib.Dec.{ltb}
 use Rattle.base.specs.Refusal.{outcome, verdict-of, then-test, refuse-if, refused}
-use Rattle.counts.specs.Region.{places, region-count}
+use Rattle.regions.specs.Region.{places, region-count}
 use Rattle.counts.specs.Cost.{within}
-use Rattle.counts.specs.Accept.{limits-test, values-test, pairs-test}
+use Rattle.regions.specs.Accept.{limits-test, pairs-test}
+use Rattle.counts.specs.Values.{values-test}
 use Rattle.counts.specs.Solver.{max-limit, round-order}
 use Rattle.counts.specs.inner.Checks.{round-head}
-use Rattle.counts.proofs.check.Laws.{limits-passed}
+use Rattle.regions.proofs.accept.Laws.{limits-passed, limits-known}
 use Rattle.base.proofs.TestLaws.{chain-ends, chain-goes-on, was-passed}
 use Rattle.counts.proofs.SolverLaws.{limits-of-edges}
 use Rattle.counts.proofs.check.check_round.Statement.{statement}
@@ -62,20 +63,14 @@ returns-4 c =
     ∙ chain-goes-on (c .before .before .before .before .enum-told4 .given .1) (c .before .before .before .before .before .before .check-limits .ensures)
     ∙ chain-goes-on (c .before .before .before .before .before .before .before .enum-told2 .given .1) (c .before .before .before .before .before .before .before .before .before .check-spacing-limits .ensures)
 
-check-pairs-requires : tie.Need-check-pairs-requires
-check-pairs-requires c κs =
-    let s = c .before .before .before .before .before .before .before .before .before .before .before .before .before .before .args in
-    let ranges = within (s .least .now) (s .most .now) in
-    limits-passed (length (s .least .now)) (s .regions .now)
-    (limits-of-edges places (s .regions .now) ranges (was-passed (c .before .before .before .before .before .before .before .enum-told2 .given .1) (c .before .before .before .before .before .before .before .before .before .check-spacing-limits .ensures))) .1
-
 returns-5 : tie.Need-returns-5
 unfolding round-head round-order
 returns-5 c =
     let s = c .before .before .before .before .before .before .before .before .before .before .before .before .before .before .before .args in
     let w = pairs-test places (length (s .least .now)) 0 (region-count places (s .regions .now)) (s .regions .now) in
     let v = then-test (values-test (s .counts .now) (within (s .least .now) (s .most .now))) w in
-    c .check-pairs .ensures
+    c .check-records .ensures
+    ∙ limits-known (length (s .least .now)) (s .regions .now) (limits-of-edges places (s .regions .now) (within (s .least .now) (s .most .now)) (was-passed (c .before .before .before .before .before .before .before .before .enum-told2 .given .1) (c .before .before .before .before .before .before .before .before .before .before .check-spacing-limits .ensures)))
     ∙ chain-goes-on (c .before .enum-told6 .given .1) (c .before .before .before .check-values .ensures)
     ∙ ap (λ (b : Bool). then-test (refuse-if b (refused 10 0 0)) v) (sym (le-ltb 100000 (s .limit) (c .before .before .before .before .if1 .left)))
     ∙ chain-goes-on (c .before .before .before .before .before .enum-told4 .given .1) (c .before .before .before .before .before .before .before .check-limits .ensures)
@@ -98,5 +93,5 @@ check-round-spec =
     (λ c. search needs)
     returns-4
     (λ c. search needs)
-    check-pairs-requires
+    (λ c κs. search needs)
     returns-5)

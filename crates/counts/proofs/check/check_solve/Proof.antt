@@ -7,12 +7,13 @@ use borrow.Author.Tests.{lt-ltb, le-ltb, eq-eqb, ne-eqb}
 use lib.ListN.{length}
 use lib.Dec.{ltb}
 use Rattle.base.specs.Refusal.{outcome, verdict-of, then-test, refuse-if, refused}
-use Rattle.counts.specs.Region.{places, region-count}
+use Rattle.regions.specs.Region.{places, region-count}
 use Rattle.counts.specs.Cost.{within}
-use Rattle.counts.specs.Accept.{lengths-test, ranges-test, pairs-test}
+use Rattle.counts.specs.Values.{lengths-test, ranges-test}
+use Rattle.regions.specs.Accept.{pairs-test}
 use Rattle.counts.specs.inner.Checks.{solve-head}
 use Rattle.counts.specs.Solver.{solve-order}
-use Rattle.counts.proofs.check.Laws.{limits-passed}
+use Rattle.regions.proofs.accept.Laws.{limits-passed, limits-known}
 use Rattle.base.proofs.TestLaws.{chain-ends, chain-goes-on, was-passed}
 use Rattle.counts.proofs.SolverLaws.{limits-of-edges}
 use Rattle.counts.proofs.check.check_solve.Statement.{statement}
@@ -73,13 +74,6 @@ returns-4 c =
     ∙ ap (λ (b : Bool). then-test (refuse-if (not b) (refused 8 0 0)) u) (sym (eq-eqb n (length (s .most .now)) (c .before .before .before .before .if1 .left)))
     ∙ chain-goes-on (c .before .before .before .before .before .enum-told2 .given .1) (c .before .before .before .before .before .before .before .check-spacing-limits .ensures)
 
-check-pairs-requires : tie.Need-check-pairs-requires
-check-pairs-requires c κs =
-    let s = c .before .before .before .before .before .before .before .before .before .before .before .args in
-    let ranges = within (s .least .now) (s .most .now) in
-    limits-passed (length (s .least .now)) (s .regions .now)
-    (limits-of-edges places (s .regions .now) ranges (was-passed (c .before .before .before .before .before .enum-told2 .given .1) (c .before .before .before .before .before .before .before .check-spacing-limits .ensures))) .1
-
 returns-5 : tie.Need-returns-5
 unfolding solve-head solve-order
 returns-5 c =
@@ -88,7 +82,8 @@ returns-5 c =
     let w = pairs-test places n 0 (region-count places (s .regions .now)) (s .regions .now) in
     let v = then-test (ranges-test (s .least .now) (s .most .now)) w in
     let u = then-test (refuse-if (ltb (s .room) n) (refused 11 0 0)) v in
-    c .check-pairs .ensures
+    c .check-records .ensures
+    ∙ limits-known n (s .regions .now) (limits-of-edges places (s .regions .now) (within (s .least .now) (s .most .now)) (was-passed (c .before .before .before .before .before .before .enum-told2 .given .1) (c .before .before .before .before .before .before .before .before .check-spacing-limits .ensures)))
     ∙ chain-goes-on (c .before .enum-told4 .given .1) (c .before .before .before .check-ranges .ensures)
     ∙ ap (λ (b : Bool). then-test (refuse-if b (refused 11 0 0)) v) (sym (le-ltb (s .room) n (c .before .before .before .before .if2 .left)))
     ∙ ap (λ (b : Bool). then-test (refuse-if (not b) (refused 8 0 0)) u) (sym (eq-eqb n (length (s .most .now)) (c .before .before .before .before .before .if1 .left)))
@@ -108,5 +103,5 @@ check-solve-spec =
     (λ c. search needs)
     returns-4
     (λ c. search needs)
-    check-pairs-requires
+    (λ c κs. search needs)
     returns-5)

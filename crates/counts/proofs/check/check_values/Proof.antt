@@ -9,7 +9,7 @@ use lib.ListN.{length}
 use lib.Dec.{eqb}
 use Rattle.base.specs.declared.verdict.Verdict.{Verdict}
 use Rattle.base.specs.Refusal.{outcome, verdict-of, then-test, refuse-if, refused}
-use Rattle.counts.specs.Accept.{ranges-test, counts-test, lengths-test}
+use Rattle.counts.specs.Values.{ranges-test, counts-test, lengths-test}
 use Rattle.base.proofs.TestLaws.{chain-ends, chain-goes-on}
 use Rattle.counts.proofs.check.check_values.Statement.{statement}
 use Rattle.counts.proofs.check.check_values.Tie as tie

@@ -4,7 +4,7 @@ use mathlib.Core.Path.{_≡_, _∙_}
 use native.Mathlib.Omega.{arith}
 use lib.ListN.{length, length-set}
 use Rattle.counts.specs.inner.Components.{Taken}
-use Rattle.counts.specs.Accept.{max-edges}
+use Rattle.regions.specs.Accept.{max-edges}
 use Rattle.counts.proofs.components.Laws.{taken-more}
 use Rattle.counts.proofs.components.take_marks.Statement.{statement}
 use Rattle.counts.proofs.components.take_marks.Tie as tie

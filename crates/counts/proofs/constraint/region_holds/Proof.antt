@@ -3,9 +3,9 @@ use mathlib.Core.Path.{_≡_, sym, ap, _∙_}
 use denote.Ref.{now}
 use mathlib.Core.Bool.{Bool, true, _&&_, and-true}
 use borrow.Author.Needs.{needs}
-use Rattle.counts.specs.Region.{Constraint, places, side, constraints}
+use Rattle.regions.specs.Region.{Constraint, places, side, constraints}
 use Rattle.counts.specs.Solver.{constraint-holds}
-use Rattle.counts.proofs.check.Laws.{side-few}
+use Rattle.regions.proofs.accept.Laws.{side-few}
 use Rattle.counts.proofs.SolverLaws.{side-short}
 use Rattle.counts.proofs.constraint.region_holds.Statement.{statement}
 use Rattle.counts.proofs.constraint.region_holds.Tie as tie

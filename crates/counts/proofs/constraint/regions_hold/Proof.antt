@@ -8,10 +8,10 @@ use borrow.Author.Tests.{not-true, not-false}
 use lib.ListN.{length, drop, length-drop}
 use lib.Dec.{T}
 use Rattle.base.specs.Lists.{all}
-use Rattle.counts.specs.Region.{places, constraints, record-size}
-use Rattle.counts.specs.Accept.{sides-fit}
+use Rattle.regions.specs.Region.{places, constraints, record-size}
+use Rattle.regions.specs.Accept.{sides-fit}
 use Rattle.counts.specs.Solver.{constraint-holds}
-use Rattle.counts.proofs.check.Laws.{whole-sides, rest, sides-now, sides-after}
+use Rattle.regions.proofs.accept.Laws.{whole-sides, rest, sides-now, sides-after}
 use Rattle.counts.proofs.SolverLaws.{hold-turn, hold-end}
 use Rattle.counts.proofs.constraint.regions_hold.Statement.{statement}
 use Rattle.counts.proofs.constraint.regions_hold.Tie as tie

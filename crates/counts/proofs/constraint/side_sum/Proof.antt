@@ -9,7 +9,7 @@ use borrow.Author.Tests.{lt-ltb, le-ltb}
 use lib.ListN.{length, getD, drop, drop-of-length-le}
 use lib.Dec.{ltb}
 use Rattle.counts.specs.declared.constraint.SideSum.the-variants as side-total
-use Rattle.counts.specs.Region.{side-sum}
+use Rattle.regions.specs.Region.{side-sum}
 use Rattle.counts.specs.Solver.{side-in-range}
 use Rattle.base.proofs.Turns.{drop-at, all-here, all-next, all-end}
 use Rattle.counts.proofs.constraint.side_sum.Statement.{statement}

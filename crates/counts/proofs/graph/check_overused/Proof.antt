@@ -6,8 +6,8 @@ use Prim.Native.Nat.{ℕ, _-_, _≤_, _<_}
 use native.Mathlib.Omega.{arith}
 use borrow.Author.Needs.{needs}
 use lib.ListN.{length, getD}
-use Rattle.counts.specs.Region.{Constraint, incidence}
-use Rattle.counts.specs.Accept.{overused-test}
+use Rattle.regions.specs.Region.{Constraint, incidence}
+use Rattle.regions.specs.Accept.{overused-test}
 use Rattle.counts.proofs.graph.Built.{overused-here, overused-next, overused-done}
 use Rattle.counts.proofs.graph.check_overused.Statement.{statement}
 use Rattle.counts.proofs.graph.check_overused.Tie as tie

@@ -7,9 +7,9 @@ use borrow.Author.Needs.{needs}
 use lib.ListN.{getD, take}
 use Rattle.counts.specs.inner.Tables.{edges-of}
 use Rattle.counts.specs.inner.Graph.{Placed}
-use Rattle.counts.specs.Region.{places, side-size}
+use Rattle.regions.specs.Region.{places, side-size}
 use Rattle.counts.proofs.graph.Placing.{placed-none, not-counted}
-use Rattle.counts.proofs.region.Laws.{next-edge, side-more, side-done}
+use Rattle.counts.proofs.graph.Sides.{next-edge, side-more, side-done}
 use Rattle.counts.proofs.graph.place_side.Statement.{statement}
 use Rattle.counts.proofs.graph.place_side.Tie as tie
 

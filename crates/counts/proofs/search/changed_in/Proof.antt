@@ -8,7 +8,7 @@ use Prim.Native.Nat.{ℕ, _-_, _/_, _≤_, _<_}
 use native.Mathlib.Omega.{arith}
 use lib.ListN.{length, getD, take}
 use Rattle.base.specs.Lists.{member}
-use Rattle.counts.specs.Region.{constraint}
+use Rattle.regions.specs.Region.{constraint}
 use Rattle.counts.specs.Search.{others-changed}
 use Rattle.counts.specs.inner.Tables.{path-of, the-graph}
 use Rattle.counts.specs.inner.SearchContract.{both-sides, changed-by}

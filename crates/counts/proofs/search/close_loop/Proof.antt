@@ -3,7 +3,7 @@ use mathlib.Core.Path.{sym, ap, subst, _∙_}
 use mathlib.Core.List.{[], _∷_}
 use Prim.Native.Nat.{ℕ, _/_}
 use native.Mathlib.Omega.{arith}
-use Rattle.counts.specs.Region.{constraint}
+use Rattle.regions.specs.Region.{constraint}
 use Rattle.counts.specs.inner.Tables.{path-of, the-graph}
 use Rattle.counts.specs.declared.search.Changed.{Changed}
 use Rattle.counts.specs.declared.search.Changed.the-variants.{One}

@@ -9,7 +9,7 @@ use Rattle.base.specs.Refusal.{outcome, verdict-of}
 use Rattle.curves.proofs.lay.Laws.{record-by}
 use Rattle.curves.proofs.lay.check_record.Statement.{statement}
 use Rattle.curves.proofs.lay.check_record.Tie as tie
-use Rattle.counts.specs.Region.{places, record-size}
+use Rattle.regions.specs.Region.{places, record-size}
 
 returns : tie.Need-returns
 unfolding outcome verdict-of

@@ -5,7 +5,7 @@ use Prim.Native.Nat.{ℕ, _+_, _-_, _*_, _≤_}
 use native.Mathlib.Omega.{arith}
 use denote.Ref.{now}
 use lib.ListN.{length, getD, take, drop, drop-of-length-le, length-set}
-use Rattle.counts.specs.Region.{side-sum}
+use Rattle.regions.specs.Region.{side-sum}
 use Rattle.base.proofs.Turns.{drop-at}
 use Rattle.base.specs.Buffers.{splice}
 use Rattle.curves.specs.Lay.{counts-along}

@@ -9,7 +9,7 @@ use lib.ListN.{length, take}
 use lib.Seq.{length-take-le}
 use borrow.Author.Needs.{needs}
 use Rattle.base.specs.Lists.{all}
-use Rattle.counts.specs.Region.{places, side, side-sum}
+use Rattle.regions.specs.Region.{places, side, side-sum}
 use Rattle.base.specs.Buffers.{splice}
 use Rattle.curves.specs.Seam.{side-seam}
 use Rattle.curves.specs.Lay.{counts-along}

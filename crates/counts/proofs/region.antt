@@ -1,3 +1,0 @@
--- The laws of the region records. Assumes nothing.
-pub mod Constraints
-pub mod Laws

@@ -1,0 +1,1 @@
+-- The laws of the crate stand by the modules of the code: region and accept. Assumes nothing.

@@ -1,0 +1,2 @@
+-- The laws of the tests of regions. Assumes nothing.
+pub mod Laws

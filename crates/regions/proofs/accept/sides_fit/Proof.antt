@@ -1,0 +1,69 @@
+-- `counts::check::sides_fit` meets its contract. The loop goes side by side, so the definition is first put that way.
+-- Its invariant: whole sides are left, and they fit just if all do. Assumes nothing.
+use mathlib.Core.Path.{_≡_, sym, ap, _∙_}
+use Prim.Native.Nat.{ℕ, _-_, _*_, _/_, _%_}
+use native.Mathlib.Omega.{arith}
+use denote.Ref.{now}
+use borrow.Author.Tests.{le-leb, lt-leb}
+use lib.ListN.{length, getD, drop}
+use Rattle.regions.specs.Accept.{sides-fit}
+use Rattle.regions.specs.Region.{places, region-count, side-size, record-size}
+use Rattle.regions.proofs.accept.Laws.{each-fits, sides-one-by-one, fits-next, fits-not, fits-end}
+use Rattle.regions.proofs.accept.sides_fit.Statement.{statement}
+use Rattle.regions.proofs.accept.sides_fit.Tie as tie
+
+abbrev Inv-loop : tie.InvT-loop
+Inv-loop regions at₀ at = ((length regions - at) % side-size places ≡ 0) × (sides-fit places (region-count places regions) regions ≡ each-fits ((length regions - at) / side-size places) (drop at regions))
+
+abbrev μ-loop : tie.MeasureT-loop
+μ-loop regions at₀ at = length regions - at
+
+loop-holds : tie.Need-loop-holds Inv-loop μ-loop
+loop-holds c =
+    let l = now (c .args .regions) in
+    let e : length l / record-size places * 4 ≡ (length l - 0) / side-size places = omega arith in
+    (omega arith, sides-one-by-one (length l / record-size places) l ∙ ap (λ (k : ℕ). each-fits k l) e)
+
+mul-if1 : tie.Need-mul-if1 Inv-loop μ-loop
+mul-if1 c = omega arith
+
+shared-slice-read-if1 : tie.Need-shared-slice-read-if1 Inv-loop μ-loop
+shared-slice-read-if1 c = omega arith
+
+returns : tie.Need-returns Inv-loop μ-loop
+returns c =
+    let l = now (c .before .before .before .before .args .regions) in
+    let at = c .before .before .before .loop .at in
+    sym (c .before .before .before .loop .inv .1 ∙ fits-not l at (c .before .before .loop-test .taken) (c .before .before .before .loop .inv .0) (lt-leb (getD l at 0) places (c .if1 .taken)))
+
+add-at : tie.Need-add-at Inv-loop μ-loop
+add-at c = omega arith
+
+loop-less : tie.Need-loop-less Inv-loop μ-loop
+loop-less c = omega arith
+
+loop-again : tie.Need-loop-again Inv-loop μ-loop
+loop-again c =
+    let l = now (c .before .before .before .before .args .regions) in
+    let at = c .before .before .before .loop .at in
+    (omega arith, c .before .before .before .loop .inv .1 ∙ fits-next l at (c .before .before .loop-test .taken) (c .before .before .before .loop .inv .0) (le-leb (getD l at 0) places (c .if1 .left)))
+
+returns-2 : tie.Need-returns-2 Inv-loop μ-loop
+returns-2 c =
+    let l = now (c .before .before .args .regions) in
+    sym (c .before .loop .inv .1 ∙ fits-end l (c .before .loop .at) (c .loop-test .left))
+
+pub sides-fit-spec : {M : Type 1} → statement M
+sides-fit-spec =
+    tie.close
+    (tie.spec
+    Inv-loop
+    μ-loop
+    loop-holds
+    mul-if1
+    shared-slice-read-if1
+    returns
+    add-at
+    loop-less
+    loop-again
+    returns-2)

@@ -1,0 +1,2 @@
+-- The laws of the region records. Assumes nothing.
+pub mod Constraints

@@ -1,0 +1,3 @@
+-- The definitions of the crate. Assumes nothing.
+pub mod Accept
+pub mod Region
