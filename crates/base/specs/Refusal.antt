@@ -1,6 +1,6 @@
 -- 01's table "Turned-away input": the number and the two places that each refusal returns, and tests made one after the other.
 -- Assumes nothing.
-use mathlib.Core.Bool.{Bool, true, false, cond}
+use mathlib.Core.Bool.{Bool, cond}
 use Prim.Native.Nat.{ℕ}
 use lib.Dec.{eqb}
 use Rattle.base.specs.declared.refusal.Refusal.{Refusal}

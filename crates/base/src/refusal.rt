@@ -1,4 +1,4 @@
-// The causes for which input is turned away, one variant for each row of the table of refusals (docs/REFUSALS.md). specs/Refusal.antt gives
+// The causes for which input is turned away, one variant for each row of the table of refusals (docs/REFERENCE.md). specs/Refusal.antt gives
 // each its number and its two places. Every crate above refuses by this one enum.
 
 ghost use mathlib.Core.Path.{_≡_};

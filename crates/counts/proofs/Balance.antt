@@ -1,14 +1,14 @@
 -- A unit move leaves the difference of every two opposite sides as it was. Assumes nothing.
-use mathlib.Core.Logic.{_≢_, _⊎_, inl, inr, _↔_}
-use mathlib.Core.Path.{_≡_, refl, sym, ap, subst, _∙_}
+use mathlib.Core.Logic.{_≢_, inl, inr}
+use mathlib.Core.Path.{_≡_, refl, sym, ap, subst}
 use mathlib.Core.Bool.{Bool, true, false, not, _&&_, _||_, cond, Bool·beq}
-use mathlib.Core.List.{List, [], _∷_, _++_}
-use Prim.Native.Nat.{ℕ, zero, suc, _+_, _-_, _≤_, _<_}
+use mathlib.Core.List.{List, [], _∷_}
+use Prim.Native.Nat.{ℕ, suc, _+_, _-_, _<_}
 use native.Mathlib.Omega.{arith}
 use lib.ListN.{length, getD, set, length-set}
 use lib.Seq.{getD-set-same, getD-set-other}
-use lib.Dec.{T, leb, ltb, eqb, eqb→eq, not-T, ltb→lt}
-use lib.Ieee.Fits.{and-i, and-l, and-r}
+use lib.Dec.{T, ltb, eqb, eqb→eq, ltb→lt}
+use lib.Ieee.Fits.{and-l}
 use Rattle.base.specs.Lists.{member, Distinct, In}
 use Rattle.counts.specs.Move.{Change, select, edges, balances, Settled, is-allowed, changed, apply-changes, UnitMove}
 use Rattle.regions.specs.Region.{Constraint, constraint, holds, side-sum}

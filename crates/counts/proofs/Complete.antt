@@ -1,14 +1,14 @@
 -- The search from a reading's first edge comes to that reading: if it is not cut, a reading that costs less than -2E leaves a kept cost below -E. Assumes nothing.
-use mathlib.Core.Logic.{_≢_, _⊎_, inl, inr}
+use mathlib.Core.Logic.{_≢_, inl, inr}
 use mathlib.Core.Path.{_≡_, refl, sym, ap, subst, _∙_}
-use mathlib.Core.Bool.{Bool, true, false, not, _&&_, _||_, cond, Bool·beq}
-use mathlib.Core.List.{List, [], _∷_, _++_, append-assoc, append-nil}
-use Prim.Native.Nat.{ℕ, zero, suc, _+_, _≤_, _<_}
+use mathlib.Core.Bool.{Bool, true, false, not, _&&_, cond}
+use mathlib.Core.List.{List, [], _∷_, _++_, append-nil}
+use Prim.Native.Nat.{ℕ, zero, suc, _+_, _≤_}
 use native.Mathlib.Omega.{arith}
-use lib.ListN.{length, getD, set, replicate}
+use lib.ListN.{length, set, replicate}
 use lib.Seq.{append-snoc}
 use lib.Dec.{T, leb, eqb}
-use lib.Ieee.{Float, inf, add, sub, lt, neg, binary64}
+use lib.Ieee.{Float, add, lt, neg, binary64}
 use lib.Ieee.Fits.{and-i, and-l, and-r}
 use Rattle.base.specs.Lists.{any, all, Distinct, In, differs}
 use Rattle.counts.specs.Move.{Change, select, edges, balances, Settled, Linked, cost-from, cost}

@@ -1,14 +1,14 @@
 -- 02: "Equal ends give the former counts, moves and cut marks." A round and a solve within ranges whose ends are equal answer and leave what the round and
 -- the solve by these ideals do, for every input, refused calls included: 35 cannot come up, the other tests fall together, and where they pass the edge costs
--- have the same bits (RangeLaws). Assumes nothing.
-use mathlib.Core.Path.{_≡_, refl, sym, ap, _∙_}
+-- have the same bits (cost/Ranges). Assumes nothing.
+use mathlib.Core.Path.{_≡_, refl, ap, _∙_}
 use mathlib.Core.Bool.{Bool, true, false, not, _&&_, cond}
 use mathlib.Core.List.{List, [], _∷_}
-use Prim.Native.Nat.{ℕ, suc, _*_, _≤_}
+use Prim.Native.Nat.{ℕ, suc, _*_}
 use native.Mathlib.Omega.{arith}
 use borrow.Author.Tests.{le-ltb}
 use lib.ListN.{length}
-use lib.Dec.{T, ltb, eqb, eqb-refl}
+use lib.Dec.{ltb, eqb, eqb-refl}
 use lib.Ieee.{Float, nan, inf, fin, up, down, lt, ofBits}
 use lib.Ieee.Bits.{is-true}
 use Rattle.base.specs.declared.verdict.Verdict.{Verdict}

@@ -1,16 +1,15 @@
 -- `find-augmentation`: what it finds is a reading that costs less than -E; where it finds nothing and no search was cut, no reading costs
 -- less than -2E. Assumes nothing.
-use mathlib.Core.Logic.{_≢_, _⊎_, inl, inr}
+use mathlib.Core.Logic.{inl, inr}
 use mathlib.Core.Path.{_≡_, refl, sym, ap, subst, _∙_}
-use mathlib.Core.Bool.{Bool, true, false, not, _&&_, _||_, cond, Bool·beq}
-use mathlib.Core.List.{List, [], _∷_, _++_}
-use Prim.Native.Nat.{ℕ, zero, suc, _+_, _-_, _≤_, _<_}
+use mathlib.Core.Bool.{Bool, true, false, not, _&&_, _||_, cond}
+use mathlib.Core.List.{List, [], _∷_}
+use Prim.Native.Nat.{ℕ, zero, suc, _+_, _-_, _<_}
 use native.Mathlib.Nat.{suc-add, add-suc}
 use native.Mathlib.Omega.{arith}
-use lib.ListN.{length, getD, set, replicate}
-use lib.Dec.{T, leb, ltb, eqb, eqb→eq, not-T, ltb→lt, lt→ltb}
+use lib.ListN.{length, replicate}
+use lib.Dec.{T, ltb, ltb→lt, lt→ltb}
 use lib.Ieee.{Float, nan, fin, inf, add, sub, lt, neg, ofBits, binary64}
-use lib.Ieee.Fits.{and-i, and-l, and-r}
 use Rattle.base.specs.Lists.{each, In}
 use Rattle.counts.specs.Move.{Change, Settled, is-allowed, cost, Reading}
 use Rattle.regions.specs.Region.{Constraint, constraint, holds}

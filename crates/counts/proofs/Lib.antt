@@ -1,6 +1,7 @@
 -- The theorems, and the laws that belong to no one module of the code; the others stand by the modules. Assumes nothing.
 -- the search: what it keeps is a unit move, and it meets every reading
 pub mod MoveLaws
+pub mod Accepted
 pub mod Sound
 pub mod Complete
 pub mod Find

@@ -2,7 +2,7 @@
 -- opposite sides, or nothing. So the difference stays over any list of rounds, and each round is as `Told` says. Assumes nothing.
 use mathlib.Core.Logic.{_≢_, _↔_}
 use mathlib.Core.Path.{_≡_, refl, sym, ap, subst, _∙_}
-use mathlib.Core.Bool.{Bool, true, false, not, cond}
+use mathlib.Core.Bool.{Bool, true, false, not}
 use mathlib.Core.List.{List, [], _∷_}
 use Prim.Native.Nat.{ℕ, zero, suc, _+_, _*_, _<_}
 use native.Mathlib.Nat.{zero-mul, suc-mul, add-comm}
@@ -21,8 +21,8 @@ use Rattle.counts.specs.Search.{eps, two-eps}
 use Rattle.counts.specs.Round.{Found, find-move}
 use Rattle.regions.specs.Accept.{accepted}
 use Rattle.counts.specs.Solver.{Round, round-made, round-by, round-refused, round-with, round, round-test}
-use Rattle.counts.specs.Demand.{left, left-by-all, RoundClaim, RoundClaims, Demand, Request, answer-to, request-costs, sum-of}
-use Rattle.counts.proofs.check.Accepted.{Accepted, accepted-ok}
+use Rattle.counts.specs.Demand.{left, left-by-all, RoundClaim, RoundClaims, Demand, Request, answer-to, request-costs}
+use Rattle.counts.proofs.Accepted.{Accepted, accepted-ok}
 use Rattle.counts.proofs.Balance.{move-balance}
 use Rattle.base.proofs.BoolLaws.{by-cases}
 use Rattle.counts.proofs.Find.{Best, none, some, sound-find, complete-find}
@@ -221,11 +221,11 @@ test-of regions request counts = round-test places regions (request .spacing) co
 abbrev pub limit-of : Request → ℕ
 limit-of request = request .limit
 
-pub asked-is : (regions : List ℕ) (request : Request) (counts : List ℕ) → answer-to regions request counts ≡ round-with places (test-of regions request counts) (request-costs request) regions counts (limit-of request)
+pub answer-to-is : (regions : List ℕ) (request : Request) (counts : List ℕ) → answer-to regions request counts ≡ round-with places (test-of regions request counts) (request-costs request) regions counts (limit-of request)
 unfolding round
-asked-is regions request counts = refl
+answer-to-is regions request counts = refl
 
 -- Demand 3's claim on the public rounds: for accepted regions, any starting counts and any list of rounds, each of either kind.
 pub demand-3-rounds : (regions counts : List ℕ) (requests : List Request) → T (accepted places (length counts) regions)
     → Demand regions (answer-to regions) request-costs counts requests
-demand-3-rounds regions counts requests t = rounds-as-demanded regions (answer-to regions) request-costs (test-of regions) limit-of (asked-is regions) counts requests t
+demand-3-rounds regions counts requests t = rounds-as-demanded regions (answer-to regions) request-costs (test-of regions) limit-of (answer-to-is regions) counts requests t

@@ -6,7 +6,7 @@ use Prim.Native.Nat.{ℕ, suc, _+_, _-_, _*_, _≤_, _<_}
 use native.Mathlib.Omega.{arith}
 use borrow.Author.Tests.{eqb-true, ltb-false}
 use lib.ListN.{length, getD, drop, length-take}
-use lib.Dec.{T, ltb, eqb}
+use lib.Dec.{ltb, eqb}
 use lib.Ieee.{Float, binary64, ofBits}
 use Rattle.base.specs.Lists.{all}
 use Rattle.regions.specs.Region.{Constraint, places, region-count, side, constraints, graph, side-sum, side-size, record-size}
@@ -24,7 +24,7 @@ use Rattle.counts.specs.declared.constraint.SideSum.the-variants as side
 use Rattle.base.specs.declared.refusal.Check.{Check}
 use Rattle.base.specs.declared.refusal.Check.the-variants.{Passed, Refused}
 use Rattle.base.specs.declared.refusal.Refusal.{Refusal}
-use Rattle.regions.proofs.accept.Laws.{limits-passed, count-down, next-record}
+use Rattle.regions.proofs.accept.Laws.{count-down, next-record}
 use Rattle.base.proofs.TestLaws.{was-refused, was-passed, then-passed, then-test-assoc}
 
 -- ---- round and solve: the code makes 6 on its tables, after the rest

@@ -1,25 +1,24 @@
 -- Solve's counts are balanced: zeros are, and each move keeps the difference of opposite sides. Assumes nothing.
-use mathlib.Core.Logic.{_≢_, _⊎_, inl, inr}
+use mathlib.Core.Logic.{_≢_, inl, inr}
 use mathlib.Core.Path.{_≡_, refl, sym, ap, subst, _∙_}
-use mathlib.Core.Bool.{Bool, true, false, not, cond}
+use mathlib.Core.Bool.{Bool, true, false, cond}
 use mathlib.Core.List.{List, [], _∷_, _++_}
 use Prim.Native.Nat.{ℕ, zero, suc, _+_, _*_, _<_}
 use native.Mathlib.Omega.{arith}
 use lib.ListN.{length, getD, set, drop, replicate, length-replicate, List·getD-append}
 use lib.Seq.{getD-set-same, getD-set-other}
-use lib.Dec.{T, ltb, eqb, eqb→eq, ltb→lt}
-use lib.Ieee.{Float}
+use lib.Dec.{T, eqb, eqb→eq, ltb→lt}
 use Rattle.base.specs.Lists.{In, member}
 use Rattle.base.specs.declared.verdict.Verdict.{Verdict}
-use Rattle.base.specs.Refusal.{passed, is-passed, refused, refuse-if, then-test}
+use Rattle.base.specs.Refusal.{passed, is-passed, refused}
 use Rattle.regions.specs.Region.{Constraint, constraint, graph, holds, places, region-count, side, side-sum}
 use Rattle.counts.specs.Move.{Change, apply-changes}
 use Rattle.counts.specs.Cost.{CostModel, Spacing, costs-of, edges-of}
 use Rattle.counts.specs.Round.{find-move, Solved, solve-by, solve-from, solve-zeros, max-moves}
 use Rattle.regions.specs.Accept.{accepted, limits-test, regions-test}
 use Rattle.counts.specs.Solver.{Solve, solve, solve-test, solve-with, solve-part, with-rest, solve-refused, max-limit}
-use Rattle.counts.specs.Demand.{Balanced, sum-of}
-use Rattle.counts.proofs.check.Accepted.{Accepted, accepted-ok}
+use Rattle.counts.specs.Demand.{Balanced}
+use Rattle.counts.proofs.Accepted.{Accepted, accepted-ok}
 use Rattle.base.proofs.BoolLaws.{by-cases, clash, eq→eqb, or-left, or-right, true-T, T-true}
 use Rattle.base.proofs.ListLaws.{in→member}
 use Rattle.base.proofs.TestLaws.{then-both}

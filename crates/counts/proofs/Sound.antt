@@ -2,13 +2,12 @@
 use mathlib.Core.Logic.{_≢_, _⊎_, inl, inr}
 use mathlib.Core.Path.{_≡_, refl, sym, ap, subst, _∙_}
 use mathlib.Core.Bool.{Bool, true, false, not, _&&_, _||_, cond, Bool·beq}
-use mathlib.Core.List.{List, [], _∷_, _++_, append-assoc, append-nil}
-use Prim.Native.Nat.{ℕ, zero, suc, _+_, _≤_, _<_}
+use mathlib.Core.List.{List, [], _∷_, _++_, append-nil}
+use Prim.Native.Nat.{ℕ, zero, suc, _+_, _<_}
 use native.Mathlib.Omega.{arith}
-use lib.ListN.{length, getD, set, replicate}
-use lib.Seq.{append-snoc}
+use lib.ListN.{length, set}
 use lib.Dec.{T, leb, ltb, eqb, eqb→eq, not-T}
-use lib.Ieee.{Float, inf, add, sub, lt, neg, binary64}
+use lib.Ieee.{Float, inf, add, sub, lt, binary64}
 use lib.Ieee.Fits.{and-i, and-l, and-r}
 use Rattle.base.specs.Lists.{member, any, all, filter, each, Distinct, In, differs}
 use Rattle.counts.specs.Move.{Change, select, edges, balances, Settled, share, Linked, cost-from, cost, is-allowed, Joined, same, next, Reading}

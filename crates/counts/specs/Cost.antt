@@ -3,10 +3,10 @@
 use mathlib.Core.Path.{_≡_}
 use mathlib.Core.Bool.{Bool, true, false, cond}
 use mathlib.Core.List.{List, [], _∷_}
-use Prim.Native.Nat.{ℕ, _+_, _*_}
-use lib.ListN.{length, getD, set}
+use Prim.Native.Nat.{ℕ}
+use lib.ListN.{length, getD}
 use lib.IntN.{pos}
-use lib.Ieee.{Float, nan, add, sub, mul, div, neg, lt, ofBits, ofInt, binary64}
+use lib.Ieee.{Float, add, sub, mul, div, neg, lt, ofBits, ofInt, binary64}
 use Rattle.floats.specs.Scalar.{one}
 use Rattle.counts.specs.Move.{EdgeCost}
 

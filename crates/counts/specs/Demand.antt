@@ -3,10 +3,9 @@
 -- claim is stated once for every kind of round.
 use mathlib.Core.Logic.{_≢_, _↔_}
 use mathlib.Core.Path.{_≡_}
-use mathlib.Core.Bool.{Bool, not}
+use mathlib.Core.Bool.{not}
 use mathlib.Core.List.{List, [], _∷_}
 use Prim.Native.Nat.{ℕ, _<_}
-use lib.ListN.{length}
 use lib.Dec.{T}
 use lib.Ieee.{lt, neg}
 use Rattle.base.specs.Refusal.{is-passed}

@@ -1,7 +1,7 @@
 -- 01, "Unit moves", second paragraph: `AugmentSearch`, depth first from one edge and sign, over any edge cost. Assumes nothing.
 -- The marks of used constraints and the path of changes are handed down and never come back, since each call leaves them as it found them;
 -- only the state goes on from call to call. A call takes the search one level down as an argument, so that there is one recursion, in `dfs`.
-use mathlib.Core.Bool.{Bool, true, false, not, _&&_, _||_, cond}
+use mathlib.Core.Bool.{Bool, true, false, not, _&&_, cond}
 use mathlib.Core.List.{List, [], _∷_, _++_}
 use Prim.Native.Nat.{ℕ, zero, suc}
 use lib.ListN.{length, getD, set, replicate}

@@ -1,18 +1,18 @@
 -- What the public functions of the crate answer, and what they leave in the lent counts, refused calls included. Assumes nothing.
-use mathlib.Core.Bool.{Bool, true, false, not, _&&_, cond}
+use mathlib.Core.Bool.{Bool, true, false, _&&_, cond}
 use mathlib.Core.List.{List, [], _∷_, _++_}
-use Prim.Native.Nat.{ℕ, zero, suc}
+use Prim.Native.Nat.{ℕ}
 use lib.ListN.{length, drop, replicate}
-use lib.Dec.{leb, ltb, eqb}
+use lib.Dec.{ltb, eqb}
 use lib.Ieee.{Float, ofBits, binary64}
 use Rattle.base.specs.Lists.{all}
 use Rattle.base.specs.declared.verdict.Verdict.{Verdict}
 use Rattle.base.specs.Refusal.{passed, refused, then-test, refuse-if, is-passed, verdict-of}
-use Rattle.regions.specs.Region.{Constraint, places, region-count, graph, side-sum}
+use Rattle.regions.specs.Region.{Constraint, places, graph, side-sum}
 use Rattle.counts.specs.Move.{Change, apply-changes}
 use Rattle.counts.specs.Cost.{CostModel, Spacing, by, costs-of, edges-of, energy-from}
 use Rattle.counts.specs.Round.{Found, find-move, Solved, solve-zeros}
-use Rattle.regions.specs.Accept.{limits-test, pairs-test, regions-test}
+use Rattle.regions.specs.Accept.{limits-test, regions-test}
 use Rattle.counts.specs.Values.{spacing-limits, spacing-lengths, spacing-test, values-test}
 use Rattle.counts.specs.declared.answer.RoundAnswer.{RoundAnswer}
 use Rattle.counts.specs.declared.answer.RoundAnswer.the-variants as round-answer

@@ -1,5 +1,5 @@
 -- 01, "Turned-away input", and 02's 35: the tests of the solver's values, 2, 8, 9 and 35, and of a spacing of either kind. Assumes nothing.
-use mathlib.Core.Bool.{Bool, true, false, not, _&&_, cond}
+use mathlib.Core.Bool.{Bool, false, not, _&&_, cond}
 use mathlib.Core.List.{List, [], _∷_}
 use Prim.Native.Nat.{ℕ, suc}
 use lib.ListN.{length}

@@ -1,4 +1,5 @@
-// The tests that turn input away before any work is done, one function each, in the order of specs/Accept.antt.
+// The tests that turn input away before any work is done, one function each: those of values (specs/Values.antt), then what a round, a solve
+// and an energy test in a row (specs/Solver.antt). Those of the records are in the crate regions.
 use crate::limits::MAX_COUNT;
 use crate::limits::MAX_LIMIT;
 use base::refusal::Check;
@@ -8,14 +9,12 @@ use regions::accept::check_records;
 use regions::region::MAX_EDGES;
 ghost use mathlib.Core.Path.{_≡_};
 ghost use mathlib.Core.List.{[]};
-ghost use Prim.Native.Nat.{_+_, _%_, _≤_, _<_};
+ghost use Prim.Native.Nat.{_+_, _≤_, _<_};
 ghost use lib.ListN.{length};
-ghost use lib.Dec.{T};
-ghost use Rattle.base.specs.Lists.{member};
-ghost use Rattle.regions.specs.Region.{places, region-count, record-size};
+ghost use Rattle.regions.specs.Region.{places};
 ghost use Rattle.base.specs.Refusal.{outcome};
 ghost use Rattle.counts.specs.Cost.{within};
-ghost use Rattle.regions.specs.Accept.{sides-fit, records-whole, limits-test, shared-edge, side-test, pair-test, region-test, pairs-test, max-edges};
+ghost use Rattle.regions.specs.Accept.{limits-test, max-edges};
 ghost use Rattle.counts.specs.Values.{ideal-ok, first-bad, ranges, ends-ok, in-order, ranges-test, counts-test, spacing-limits, values-test};
 ghost use Rattle.counts.specs.inner.Checks.{round-head, solve-head};
 ghost use Rattle.counts.specs.Solver.{energy-test};

@@ -3,6 +3,13 @@
 // `incident` has the constraint's number there, or NO_CONSTRAINT if there is none, and `own` the number of the side on which the edge stands.
 // `used` marks the constraints already crossed (NO_CONSTRAINT always), `path` has the changes so far, `best` the kept reading.
 // `home` is the constraint of the start's edge that is still open, NO_CONSTRAINT if there is none: only there can a loop close.
+// The definition's `dfs` (specs/Search.antt) enters an edge and visits its unused constraints. The code goes from constraint to constraint, since
+// an edge has two at most:
+//   run, by enter and cross     `run`
+//   dfs                         `visit` of one constraint of the last edge, other than `home`
+//   close_loop                  `visit` of `home`
+//   try_step, end_chain         `try-step`, and with it `dfs` of the edge that is entered; end_chain where no constraint of it is left
+//   changed_in                  `others-changed`
 // Inside the search the state is handed over in fresh structs and not lent: a struct that a call is given as it stands lives in memory from then
 // on, which makes the search two to three times as slow. It is lent where that is done once for each start, to `enter` and `cross`.
 use crate::cost::EPS_IMPROVEMENT;
@@ -12,7 +19,6 @@ use crate::limits::MARKS;
 use crate::limits::NO_CONSTRAINT;
 use crate::limits::PATH_SIZE;
 use regions::region::SIDE_SIZE;
-ghost use mathlib.Core.Logic.{_≢_};
 ghost use mathlib.Core.Path.{_≡_};
 ghost use mathlib.Core.Bool.{true, false};
 ghost use Prim.Native.Nat.{_/_, _%_, _≤_, _<_};

@@ -18,12 +18,12 @@ use Rattle.counts.specs.Cost.{Spacing, costs-of, edges-of}
 use Rattle.regions.specs.Accept.{accepted, sides-fit, limits-test, regions-test}
 use Rattle.counts.specs.Solver.{max-limit, solve}
 use Rattle.counts.specs.Demand.{Request, answer-to, request-costs, left-by-all, Balanced, sum-of}
-use Rattle.counts.proofs.check.Accepted.{Accepted, accepted-ok}
+use Rattle.counts.proofs.Accepted.{Accepted, accepted-ok}
 use Rattle.base.proofs.BoolLaws.{clash, eq→eqb, or-left, or-right, T-true}
 use Rattle.base.proofs.TestLaws.{then-left}
 use Rattle.regions.proofs.accept.Laws.{sides-first, sides-rest, side-few, limits-passed, whole-sides}
 use Rattle.base.proofs.ListLaws.{in→member}
-use Rattle.counts.proofs.Rounds.{Steady, steady-all, constraint-at, demand-3-rounds, test-of, limit-of, asked-is}
+use Rattle.counts.proofs.Rounds.{Steady, steady-all, constraint-at, demand-3-rounds, test-of, limit-of, answer-to-is}
 use Rattle.counts.proofs.Solving.{SolveIs, solve-is, solve-balanced, level-solved}
 use Rattle.curves.specs.Lay.{TileInput, seams-of, seam-of, lay}
 use Rattle.curves.specs.Demand.{record-of, Alike, Handed, Demand-3}
@@ -85,7 +85,7 @@ module _ (regions counts : List ℕ) (h : Handed regions counts) where
 
   steady : Steady g (h .begun) after
   steady =
-      steady-all regions (answer-to regions) request-costs (test-of regions) limit-of (asked-is regions)
+      steady-all regions (answer-to regions) request-costs (test-of regions) limit-of (answer-to-is regions)
       (h .requests) (h .begun) (wider n (length (h .begun)) g long ok)
 
   below : (i x : ℕ) → T (member x (constraint g i .a) || member x (constraint g i .b)) → x < n

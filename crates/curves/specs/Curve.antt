@@ -1,9 +1,8 @@
 -- 000's `ArcCurve`: "`ArcCurve::new` holds each point with the length run so far", "`at` clamps, halves down to a segment (equal goes right) and blends as in 000", each operation
 -- rounded once; and what is refused of one curve. Assumes nothing.
-use mathlib.Core.Path.{_≡_}
 use mathlib.Core.Bool.{Bool, true, false, not, _&&_, cond}
 use mathlib.Core.List.{List, [], _∷_}
-use Prim.Native.Nat.{ℕ, zero, suc, _+_, _-_, _*_, _/_, _<_, _≤_}
+use Prim.Native.Nat.{ℕ, zero, suc, _+_, _-_, _*_, _/_}
 use lib.ListN.{length, getD}
 use lib.Dec.{ltb}
 use lib.Ieee.{Float, nan, binary64, add, sub, mul, div, lt, le}

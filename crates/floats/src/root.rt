@@ -2,7 +2,7 @@
 // standard's order: special operands (`sqrt`), the exact root taken apart (`take_apart`), one rounding (`rounded`).
 ghost use mathlib.Core.Path.{_≡_};
 ghost use Prim.Native.Nat.{_+_, _*_, _^_, _≤_, _<_};
-ghost use lib.Ieee.{binary64, ofBits};
+ghost use lib.Ieee.{binary64};
 ghost use Rattle.floats.specs.Root.{root-of, root-answer, root as ieee-root, rounded as rounded-root, parted};
 ghost use Rattle.floats.specs.inner.RootSteps.{Whole, NotBelow, Normal, Splits, Taken};
 use base::refusal::Refusal;

@@ -1,5 +1,5 @@
 -- 01, "Turned-away input": the tests of regions, 1 and 3 to 6, in their order. A side has p places. Assumes nothing.
-use mathlib.Core.Bool.{Bool, true, false, not, _&&_, _||_, cond}
+use mathlib.Core.Bool.{Bool, true, not, _&&_, cond}
 use mathlib.Core.List.{List, [], _∷_}
 use Prim.Native.Nat.{ℕ, zero, suc, _*_, _%_}
 use lib.ListN.{length, getD, drop}

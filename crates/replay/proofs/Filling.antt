@@ -1,9 +1,9 @@
 -- Filling the start of a buffer. Assumes nothing.
 use Prim.Native.Nat.{ℕ, _≤_}
-use mathlib.Core.Path.{_≡_, sym, subst}
+use mathlib.Core.Path.{sym, subst}
 use mathlib.Core.List.{List}
 use native.Mathlib.Omega.{arith}
-use lib.ListN.{length, take, set, length-take, length-set}
+use lib.ListN.{length, set, length-take, length-set}
 use Rattle.replay.specs.Counting.{Counts}
 
 -- a number no larger than a buffer's length counts values at its start

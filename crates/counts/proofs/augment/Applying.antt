@@ -1,17 +1,17 @@
 -- A move's changes made one after the other: each edge is met once, so that its count is still the one before the move. Assumes nothing.
-use mathlib.Core.Logic.{_≢_, _⊎_, inl, inr}
+use mathlib.Core.Logic.{inl, inr}
 use mathlib.Core.Path.{_≡_, refl, sym, ap, subst, _∙_}
-use mathlib.Core.Bool.{Bool, true, false, not, _||_, cond}
+use mathlib.Core.Bool.{not, _||_}
 use mathlib.Core.List.{List, [], _∷_, _++_}
 use Prim.Native.Nat.{ℕ, zero, suc, _+_, _/_, _%_, _≤_, _<_}
 use native.Mathlib.Numerals.{add-one}
 use native.Mathlib.Omega.{arith}
-use lib.ListN.{length, getD, set, take, length-set}
+use lib.ListN.{length, getD, set, length-set}
 use lib.Seq.{getD-set-other}
 use lib.Dec.{T, eqb, eqb→eq, ltb, not-T}
 use Rattle.base.specs.Lists.{In, member, Distinct}
-use Rattle.counts.specs.Move.{Change, edges, is-allowed, changed, apply-changes}
-use Rattle.counts.specs.inner.Tables.{decoded, all-decoded, path-of, path-size}
+use Rattle.counts.specs.Move.{Change, edges, changed, apply-changes}
+use Rattle.counts.specs.inner.Tables.{decoded, path-of, path-size}
 use Rattle.counts.specs.inner.RoundContract.{CanApply}
 use Rattle.base.proofs.BoolLaws.{clash, or-split, or-left, or-right, eq→eqb}
 use Rattle.base.proofs.ListLaws.{in→member}

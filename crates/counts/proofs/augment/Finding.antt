@@ -1,26 +1,24 @@
 -- The tables of a round stand for its edge costs: what is found by the tables is the move of the definition, and it can be made.
 -- Assumes nothing.
-use mathlib.Core.Logic.{_⊎_, inl, inr}
+use mathlib.Core.Logic.{inl, inr}
 use mathlib.Core.Path.{_≡_, refl, sym, ap, subst, _∙_}
-use mathlib.Core.Bool.{Bool, true, false, not, _||_, cond}
+use mathlib.Core.Bool.{Bool, true, false, cond}
 use mathlib.Core.List.{List, [], _∷_}
-use Prim.Native.Nat.{ℕ, zero, suc, _+_, _*_, _≤_, _<_}
+use Prim.Native.Nat.{ℕ, zero, suc, _*_, _≤_, _<_}
 use native.Mathlib.Nat.{add-zero, zero-add}
-use native.Mathlib.Omega.{arith}
 use lib.ListN.{length, getD, replicate, length-replicate}
 use lib.Dec.{T, ltb, ltb→lt, lt→ltb}
 use lib.Ieee.{Float, nan}
-use Rattle.base.specs.Lists.{In, Distinct, each}
-use Rattle.base.specs.Refusal.{is-passed}
-use Rattle.regions.specs.Region.{Constraint, constraint, holds, graph, places}
-use Rattle.counts.specs.Move.{Change, EdgeCost, edges, is-allowed}
+use Rattle.base.specs.Lists.{In, each}
+use Rattle.regions.specs.Region.{Constraint, places}
+use Rattle.counts.specs.Move.{Change, EdgeCost, is-allowed}
 use Rattle.counts.specs.Cost.{CostModel}
 use Rattle.counts.specs.inner.Tables.{Entries, the-graph, cost-in, allowed-in, changes}
 use Rattle.counts.specs.Search.{State, run}
 use Rattle.counts.specs.Round.{Found, weigh, starts, nothing-found, try-start, find-augmentation, find-move}
 use Rattle.counts.specs.inner.RoundContract.{Priced, CanApply, RoundInput, Remembered}
-use Rattle.counts.proofs.check.Accepted.{Accepted, regions-ok}
-use Rattle.counts.proofs.Find.{Best, none, some, starts-below}
+use Rattle.counts.proofs.Accepted.{Accepted, regions-ok}
+use Rattle.counts.proofs.Find.{none, some, starts-below}
 use Rattle.base.proofs.ListLaws.{every-in}
 use Rattle.counts.proofs.Rounds.{Finds, found}
 use Rattle.counts.proofs.search.Same.{run-same}

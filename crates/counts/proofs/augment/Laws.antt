@@ -2,24 +2,23 @@
 -- gives the move that the definition finds. Assumes nothing.
 use mathlib.Core.Logic.{_≢_}
 use mathlib.Core.Path.{_≡_, refl, sym, ap, subst, _∙_}
-use mathlib.Core.Bool.{Bool, true, false, not, _&&_, _||_, cond}
+use mathlib.Core.Bool.{Bool, true, false, _||_, cond}
 use mathlib.Core.List.{List, [], _∷_, _++_}
 use Prim.Native.Nat.{ℕ, zero, suc, _+_, _-_, _*_, _/_, _%_, _≤_, _<_}
 use native.Mathlib.Nat.{add-zero, add-suc, suc-add, zero-add, suc-mul}
 use native.Mathlib.Numerals.{add-one, add-two}
 use native.Mathlib.Omega.{arith}
-use lib.ListN.{length, getD, set, length-set}
+use lib.ListN.{getD, set, length-set}
 use lib.Seq.{getD-set-same, getD-set-other}
-use lib.Dec.{T, eqb, eqb→eq}
-use lib.Ieee.{Float, nan, inf, lt, sub, neg, ofBits, binary64}
+use lib.Dec.{eqb, eqb→eq}
+use lib.Ieee.{Float, nan, lt, neg, ofBits}
 use Rattle.base.specs.Lists.{each}
 use Rattle.counts.specs.Move.{Change}
-use Rattle.counts.specs.Search.{State, run, eps}
+use Rattle.counts.specs.Search.{State, run}
 use Rattle.counts.specs.Round.{Found, nothing-found, improves, weigh, starts, try-start, find-augmentation}
-use Rattle.counts.specs.inner.Tables.{the-graph, cost-in, allowed-in, encoded, state-of, changes}
-use Rattle.counts.specs.inner.RoundContract.{Buffers, search-of, nothing-searched, Result, Remembered, Recalled, AllKnown, start-at, no-start, nothing-chosen, weighed, chosen, found-of}
+use Rattle.counts.specs.inner.Tables.{the-graph, cost-in, allowed-in, state-of, changes}
+use Rattle.counts.specs.inner.RoundContract.{Buffers, search-of, nothing-searched, Result, Remembered, Recalled, AllKnown, start-at, no-start, weighed, chosen, found-of}
 use Rattle.counts.specs.declared.augment.Choice.{Choice}
-use Rattle.counts.specs.declared.augment.FoundMove.{FoundMove}
 use Rattle.counts.specs.declared.search.SearchState.{SearchState}
 use Rattle.regions.specs.Accept.{max-edges}
 use Rattle.base.proofs.BoolLaws.{by-cases, clash, eq→eqb, ne→eqb, same→eqb}

@@ -21,7 +21,7 @@ use Rattle.counts.specs.inner.Tables.{the-graph, no-constraint, edges-of
 use Rattle.counts.specs.inner.Graph.{first-side, second-side, side-of, PairTested, Tested, Placed, Filled}
 use Rattle.base.specs.declared.refusal.Check.the-variants.{Passed, Refused}
 use Rattle.base.specs.declared.refusal.Refusal.the-variants.{EdgeOverused}
-use Rattle.counts.proofs.check.Accepted.{ConstraintOk, pairs-ok, overused-ok}
+use Rattle.counts.proofs.Accepted.{ConstraintOk, pairs-ok, overused-ok}
 use Rattle.base.proofs.BoolLaws.{T-or-not, clash, or-left, or-right, T-true, not-T-false, cond-yes, cond-no}
 use Rattle.base.proofs.ListLaws.{getD-in}
 use Rattle.regions.proofs.region.Constraints.{holds-numbered, incidence→holds}

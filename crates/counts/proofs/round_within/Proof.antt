@@ -1,5 +1,5 @@
 -- `counts::round_within` meets its contract, by the outcome of its tests. Assumes nothing.
-use mathlib.Core.Path.{_≡_, refl}
+use mathlib.Core.Path.{refl}
 use borrow.Author.Needs.{needs}
 use Rattle.counts.specs.Cost.{within}
 use Rattle.counts.proofs.Entry.{round-refused-early, round-refused-late, round-done, round-tables, round-tested, ends-ready, built-tables}

@@ -1,13 +1,13 @@
 -- What every act of the search keeps, and what it is for one to hit a low cost. Assumes nothing.
-use mathlib.Core.Path.{_≡_, refl, sym, ap, subst}
-use mathlib.Core.Bool.{Bool, true, false, not, _&&_, _||_, cond}
-use mathlib.Core.Logic.{_⊎_, inl, inr}
+use mathlib.Core.Path.{subst}
+use mathlib.Core.Bool.{Bool, true, false, not, _&&_, cond}
+use mathlib.Core.Logic.{inl, inr}
 use mathlib.Core.List.{List, [], _∷_, _++_}
 use Prim.Native.Nat.{ℕ, zero, suc, _+_}
-use lib.ListN.{length, getD, set, replicate}
+use lib.ListN.{set}
 use lib.Dec.{T, leb, eqb}
-use lib.Ieee.{Float, fin, inf, nan, add, sub, lt, neg, binary64, isNan}
-use lib.Ieee.Fits.{and-i, and-l, and-r}
+use lib.Ieee.{Float, add, sub, lt, neg, binary64, isNan}
+use lib.Ieee.Fits.{and-i, and-l}
 use Rattle.base.specs.Lists.{each, In}
 use Rattle.counts.specs.Move.{Change, balances}
 use Rattle.regions.specs.Region.{Constraint, constraint}

@@ -1,9 +1,9 @@
 -- A search depends on what the edges joined to its start cost, and on nothing else: where costs and allowed changes agree on a set K of edges
 -- that is closed under constraints, a search from an edge of K gives the same. (K by a bound on the edges: tables serve for lists. K by a component
 -- of the farm that no move has touched: an earlier result still holds.) Assumes nothing.
-use mathlib.Core.Logic.{_⊎_, inl, inr}
+use mathlib.Core.Logic.{inl, inr}
 use mathlib.Core.Path.{_≡_, refl, ap, _∙_}
-use mathlib.Core.Bool.{Bool, true, false, not, _&&_, _||_, cond}
+use mathlib.Core.Bool.{Bool, true, false, not, _&&_, cond}
 use mathlib.Core.List.{List, [], _∷_, _++_}
 use Prim.Native.Nat.{ℕ, zero, suc}
 use lib.ListN.{length, set, replicate}

@@ -19,7 +19,7 @@ use Rattle.counts.specs.inner.Tables.{the-graph, decoded, encoded, path-
 use Rattle.counts.specs.inner.Components.{At, Labels, Outside, Refreshed}
 use Rattle.counts.specs.inner.RoundContract.{CanApply, Result, Ready, search-of, nothing-searched}
 use Rattle.regions.specs.Accept.{max-edges}
-use Rattle.counts.proofs.check.Accepted.{Accepted}
+use Rattle.counts.proofs.Accepted.{Accepted}
 use Rattle.counts.proofs.augment.Applying.{apply-length, apply-other}
 use Rattle.base.proofs.BoolLaws.{by-cases, clash, or-split, or-left, or-right, eq→eqb}
 use Rattle.counts.proofs.Find.{none as found-none, some}

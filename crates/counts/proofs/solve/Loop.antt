@@ -1,25 +1,25 @@
 -- A round by what was found, and a solve move by move. Assumes nothing.
 use mathlib.Core.Logic.{_≢_, _⊎_, inl, inr}
 use mathlib.Core.Path.{_≡_, refl, sym, ap, subst, _∙_}
-use mathlib.Core.Bool.{Bool, true, false, not, cond}
+use mathlib.Core.Bool.{Bool, true, false}
 use mathlib.Core.List.{List, [], _∷_}
-use Prim.Native.Nat.{ℕ, zero, suc, _+_, _-_, _/_, _≤_, _<_}
+use Prim.Native.Nat.{ℕ, zero, suc, _+_, _-_, _/_, _≤_}
 use native.Mathlib.Numerals.{add-one}
 use native.Mathlib.Omega.{arith}
 use lib.ListN.{length, getD, replicate}
 use lib.Dec.{T, eqb, eqb→eq}
 use lib.Ieee.{Float}
-use Rattle.base.specs.Lists.{In, member, Distinct}
+use Rattle.base.specs.Lists.{In, member}
 use Rattle.base.specs.Refusal.{passed, is-passed}
-use Rattle.regions.specs.Region.{Constraint, places}
+use Rattle.regions.specs.Region.{places}
 use Rattle.counts.specs.Move.{Change, edges, apply-changes}
 use Rattle.counts.specs.Cost.{CostModel, Local}
-use Rattle.counts.specs.Round.{Found, find-move, Solved, solve-by, solve-from, max-moves}
+use Rattle.counts.specs.Round.{Found, find-move, Solved, solve-from, max-moves}
 use Rattle.regions.specs.Accept.{regions-test}
 use Rattle.counts.specs.Solver.{made, round-of, round-made, round-by}
 use Rattle.counts.specs.inner.Tables.{the-graph, decoded, path-of, Tables, path-size}
 use Rattle.counts.specs.inner.Components.{Labels, Refreshed}
-use Rattle.counts.specs.inner.RoundContract.{Buffers, RoundInput, CanApply, Priced, Ready, FoundIn, found-of, solved-of}
+use Rattle.counts.specs.inner.RoundContract.{Buffers, RoundInput, CanApply, Priced, Ready, FoundIn, found-of}
 use Rattle.counts.specs.declared.answer.RoundAnswer.the-variants.{Moved, Idle}
 use Rattle.counts.specs.declared.augment.FoundMove.{FoundMove}
 use Rattle.counts.proofs.augment.Applying.{apply-length}

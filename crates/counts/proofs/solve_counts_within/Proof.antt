@@ -1,6 +1,5 @@
 -- `counts::solve_counts_within` meets its contract, by the outcome of its tests. Assumes nothing.
-use mathlib.Core.Path.{_≡_, refl}
-use native.Mathlib.Omega.{arith}
+use mathlib.Core.Path.{refl}
 use borrow.Author.Needs.{needs}
 use Rattle.counts.specs.Cost.{within}
 use Rattle.counts.proofs.Entry.{solve-refused-early, solve-refused-late, solve-done, solve-tables, solve-room, solve-regions, built-tables, part-ready}

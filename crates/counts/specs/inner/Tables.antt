@@ -1,20 +1,20 @@
 -- What the search's tables, buffers and state stand for: the records that the contracts of the functions below the public ones cite.
 -- Assumes nothing.
 -- A place is 2 * edge + k: constraint k (0 or 1) of the edge. A change is packed in one number, 2 * edge + 1 for +1 and 2 * edge for -1.
-use mathlib.Core.Logic.{_≢_, _⊎_}
+use mathlib.Core.Logic.{_≢_}
 use mathlib.Core.Path.{_≡_}
-use mathlib.Core.Bool.{Bool, true, false, not, _&&_, cond}
-use mathlib.Core.List.{List, [], _∷_, _++_}
-use Prim.Native.Nat.{ℕ, zero, suc, _+_, _-_, _*_, _/_, _%_, _≤_, _<_}
+use mathlib.Core.Bool.{Bool, true, false, cond}
+use mathlib.Core.List.{List, [], _∷_}
+use Prim.Native.Nat.{ℕ, _+_, _-_, _*_, _/_, _%_, _≤_, _<_}
 use lib.ListN.{length, getD, set, take, drop}
 use lib.Dec.{eqb, ltb, T}
 use lib.Ieee.{Float, nan}
-use Rattle.base.specs.Lists.{member, any, differs}
+use Rattle.base.specs.Lists.{member}
 use Rattle.regions.specs.Region.{Constraint, places, graph, constraint, holds, own-side, opposite-side, incidence, side-size}
 use Rattle.regions.specs.Accept.{max-regions, max-edges}
-use Rattle.counts.specs.Move.{Change, EdgeCost, select, is-allowed}
+use Rattle.counts.specs.Move.{Change, EdgeCost, is-allowed}
 use Rattle.counts.specs.Cost.{CostModel}
-use Rattle.counts.specs.Search.{State, Go, Act, skip, signed, others-changed, is-used, try-step, visit, dfs}
+use Rattle.counts.specs.Search.{State}
 use Rattle.counts.specs.declared.search.SearchState.{SearchState}
 
 -- ---- packed changes

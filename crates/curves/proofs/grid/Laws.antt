@@ -25,7 +25,7 @@ use Rattle.curves.specs.Grid.{mapped, PointRow, crossings, row-of, coord
 use Rattle.curves.specs.inner.Rows.{mapped-points}
 use Rattle.curves.specs.declared.boundary.Ends.{Ends}
 use Rattle.curves.specs.declared.patch.Column.{Column}
-use Rattle.curves.specs.declared.patch.PointRow.{PointRow as PatchRow}
+use Rattle.curves.specs.declared.patch.Row.{Row as PatchRow}
 use Rattle.curves.specs.declared.point.Point.{Point}
 use Rattle.curves.specs.declared.point.PointAnswer.{PointAnswer}
 use Rattle.curves.specs.declared.point.PointAnswer.the-variants.{At, Refused as NoPoint}

@@ -1,17 +1,17 @@
 -- A row of the grid from its crossings, or from the columns where its lines are level and upright. Assumes nothing.
-use mathlib.Core.Path.{_≡_, refl, sym, ap, subst, _∙_}
+use mathlib.Core.Path.{_≡_, sym, ap, subst, _∙_}
 use mathlib.Core.List.{List}
 use Prim.Native.Nat.{ℕ, _+_, _*_, _<_, _≤_}
 use native.Mathlib.Omega.{arith}
-use lib.ListN.{length, getD, take}
+use lib.ListN.{length, getD}
 use lib.Dec.{T}
 use lib.Ieee.{Float, nan}
 use Rattle.base.specs.declared.verdict.Verdict.{Verdict}
-use Rattle.base.specs.Refusal.{passed, outcome, is-passed}
+use Rattle.base.specs.Refusal.{outcome, is-passed}
 use Rattle.base.specs.declared.refusal.Check.{Check}
 use Rattle.base.specs.declared.refusal.Check.the-variants.{Passed, Refused}
 use Rattle.base.specs.declared.refusal.Refusal.{Refusal}
-use Rattle.base.specs.Answers.{Answer, good}
+use Rattle.base.specs.Answers.{good}
 use Rattle.base.specs.Buffers.{splice}
 use Rattle.floats.specs.Scalar.{clamp-unit}
 use Rattle.curves.specs.Point.{point}
@@ -24,7 +24,6 @@ use Rattle.curves.specs.Grid.{crossings, row-of, row-points, row-test}
 use Rattle.curves.specs.inner.Rows.{mapped-points}
 use Rattle.curves.specs.declared.boundary.Ends.{Ends}
 use Rattle.curves.specs.declared.patch.Row.{Row as PatchRow}
-use Rattle.curves.specs.declared.point.Point.{Point}
 use Rattle.base.proofs.BufferLaws.{splice-over}
 use Rattle.base.proofs.TestLaws.{told-passed}
 use Rattle.curves.proofs.level.Laws.{level-crossing}

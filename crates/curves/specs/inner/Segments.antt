@@ -5,7 +5,6 @@ use mathlib.Core.List.{List}
 use Prim.Native.Nat.{ℕ, _+_, _*_, _<_, _≤_}
 use lib.ListN.{length, getD}
 use lib.Ieee.{Float, nan, le, lt}
-use Rattle.curves.specs.Curve.{point-count, cumulative-of}
 
 -- no length is above the next
 abbrev pub Rising : List Float → Type 0

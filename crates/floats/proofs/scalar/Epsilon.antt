@@ -2,17 +2,17 @@
 -- below -E where b is (below-again); what is below -2E is below (b - E) where b is not below -E (far-below), and below -E (two-eps-below).
 -- Assumes nothing.
 use mathlib.Core.Path.{_≡_, refl, sym, ap, subst, _∙_}
-use mathlib.Core.Bool.{Bool, true, false, not, _&&_, _||_, cond, Bool·beq}
-use mathlib.Core.Logic.{_⊎_, inl, inr}
+use mathlib.Core.Bool.{Bool, true, false, not, _&&_, _||_, cond}
+use mathlib.Core.Logic.{inl, inr}
 use Prim.Native.Nat.{ℕ, zero, suc, _+_, _-_, _*_, _^_, _≤_, _<_}
-use native.Mathlib.Nat.{le-trans, le-of-eq, lt-of-lt-of-le, mul-comm, mul-assoc, mul-left-comm, mul-right-comm, mul-le-mul-right, mul-lt-mul-of-pos-right, lt-of-mul-lt-mul-right, mul-pos}
+use native.Mathlib.Nat.{le-trans, le-of-eq, lt-of-lt-of-le, mul-assoc, mul-right-comm, mul-le-mul-right, mul-lt-mul-of-pos-right, lt-of-mul-lt-mul-right, mul-pos}
 use native.Mathlib.Omega.{arith}
 use lib.Dec.{T, ltb, eqb, ltb→lt, lt→ltb, nltb→le, eqb→eq}
-use lib.IntN.{ℤ, negsuc}
+use lib.IntN.{ℤ}
 use lib.Pow.{pow-pos}
 use lib.Ieee.{Float, fin, inf, nan, add, sub, lt, le, eq, neg, sum, binary64, isNan, round, units, odd, up, down, low, prec, emax, ofBits}
-use lib.Ieee.Fits.{up-pos, down-pos, round-is}
-use lib.Ieee.Order.{round-mono, drop, kept}
+use lib.Ieee.Fits.{down-pos, round-is}
+use lib.Ieee.Order.{round-mono}
 use lib.Ieee.Positive.{first-pos}
 use Rattle.floats.specs.Scalar.{e-12, two-e-12}
 use Rattle.base.proofs.BoolLaws.{or-split}

@@ -1,9 +1,9 @@
 -- The indices of a mesh as they are written, cell by cell and row by row; and which refusals leave zeros. Assumes nothing.
-use mathlib.Core.Path.{_≡_, refl, sym, ap, subst, _∙_}
+use mathlib.Core.Path.{_≡_, refl, sym, ap, _∙_}
 use mathlib.Core.Bool.{Bool, true, false, not, _&&_, cond}
 use mathlib.Core.List.{List, [], _∷_}
-use mathlib.Core.Logic.{_⊎_, inl, inr}
-use Prim.Native.Nat.{ℕ, zero, suc, _+_, _-_, _*_, _<_, _≤_}
+use mathlib.Core.Logic.{inl, inr}
+use Prim.Native.Nat.{ℕ, suc, _+_, _-_, _*_, _<_, _≤_}
 use native.Mathlib.Nat.{mul-comm, mul-assoc, suc-mul, mul-le-mul-right}
 use native.Mathlib.Numerals.{add-one}
 use native.Mathlib.Omega.{arith}
@@ -17,7 +17,7 @@ use Rattle.base.specs.declared.refusal.Refusal.the-variants as because
 use Rattle.base.proofs.refusal.Refusal.{the-type}
 use Rattle.base.specs.Buffers.{concat-tabulate, splice}
 use Rattle.base.proofs.BufferLaws.{length-concat, splice-none, store-next, concat-step}
-use Rattle.mesh.specs.Mesh.{grid-index, cell, row-cells, mesh-cells, zeroes}
+use Rattle.mesh.specs.Mesh.{grid-index, cell, row-cells, zeroes}
 use Rattle.curves.specs.Limits.{max-cells}
 
 -- ---- one cell

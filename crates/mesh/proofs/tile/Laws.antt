@@ -1,12 +1,12 @@
 -- What the functions on a tile answer and leave, by the outcomes of their tests. Assumes nothing.
-use mathlib.Core.Path.{_≡_, refl, sym, ap, subst, _∙_}
+use mathlib.Core.Path.{_≡_, refl, sym, ap, _∙_}
 use mathlib.Core.Bool.{Bool, true, false, _||_, cond}
 use mathlib.Core.List.{List, []}
 use Prim.Native.Nat.{ℕ, _*_, _/_, _<_, _≤_}
 use native.Mathlib.Nat.{mul-le-mul-right}
 use native.Mathlib.Omega.{arith}
 use lib.ListN.{length}
-use lib.Dec.{T, leb, ltb}
+use lib.Dec.{leb, ltb}
 use lib.Ieee.{Float}
 use borrow.Author.Tests.{lt-ltb, le-ltb, le-leb, lt-leb, leb-true, leb-false}
 use Rattle.base.specs.declared.verdict.Verdict.{Verdict}
@@ -14,9 +14,9 @@ use Rattle.base.specs.Refusal.{passed, refused, verdict-of, outcome, is-passed,
 use Rattle.base.specs.declared.refusal.Check.{Check}
 use Rattle.base.specs.declared.refusal.Check.the-variants.{Passed, Refused}
 use Rattle.base.specs.declared.refusal.Refusal.{Refusal}
-use Rattle.base.proofs.TestLaws.{then-right, refusal-number, follows, refuses}
+use Rattle.base.proofs.TestLaws.{refusal-number, follows, refuses}
 use Rattle.base.specs.Buffers.{splice}
-use Rattle.curves.specs.Coons.{Outcome, outcome-of, refusal, unless, curves-limit, cells-limit, coons-curves, coons-quads, coons-nodes}
+use Rattle.curves.specs.Coons.{Outcome, outcome-of, refusal, coons-quads, coons-nodes}
 use Rattle.curves.specs.declared.coons.GridAnswer.{GridAnswer}
 use Rattle.curves.specs.declared.coons.GridAnswer.the-variants as grid-answer
 use Rattle.curves.specs.declared.rows.Layout.the-variants.{Nodes}

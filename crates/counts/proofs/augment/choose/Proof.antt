@@ -1,10 +1,9 @@
 -- `augment::choose` meets its contract. Invariant: the choice is that among the first k starts. The measure is what is left of the starts.
 -- Assumes nothing.
-use Prim.Native.Nat.{ℕ, _+_, _-_, _*_, _≤_, _<_}
-use native.Mathlib.Numerals.{add-one}
+use Prim.Native.Nat.{_-_, _*_, _≤_}
 use native.Mathlib.Omega.{arith}
 use borrow.Author.Needs.{needs}
-use mathlib.Core.Path.{_≡_, refl, sym, ap, _∙_}
+use mathlib.Core.Path.{_≡_, ap, _∙_}
 use Rattle.counts.specs.inner.RoundContract.{chosen}
 use Rattle.counts.specs.inner.Tables.{changes}
 use Rattle.counts.proofs.augment.Laws.{choose-turn, winner-fits}

@@ -1,9 +1,7 @@
 -- `augment::search_from` meets its contract, by whether the change is allowed. Assumes nothing.
-use mathlib.Core.Path.{_≡_, refl, sym, ap, _∙_}
+use mathlib.Core.Path.{sym, ap, _∙_}
 use native.Mathlib.Omega.{arith}
 use borrow.Author.Needs.{needs}
-use Rattle.counts.specs.inner.RoundContract.{Buffers}
-use Rattle.counts.specs.Search.{State}
 use Rattle.counts.specs.declared.search.SearchState.{SearchState}
 use Rattle.counts.proofs.augment.Laws.{searched, not-searched}
 use Rattle.counts.proofs.augment.search_from.Statement.{statement}

@@ -1,7 +1,6 @@
 -- `augment::search_starts` meets its contract. Invariant: the starts below c are known. Measure: the starts that are left. Assumes nothing.
-use Prim.Native.Nat.{ℕ, _-_, _*_, _≤_}
+use Prim.Native.Nat.{_-_, _*_, _≤_}
 use native.Mathlib.Omega.{arith}
-use borrow.Author.Needs.{needs}
 use Rattle.counts.specs.inner.RoundContract.{AllKnown}
 use Rattle.counts.proofs.augment.Laws.{known-more, known-at}
 use Rattle.counts.proofs.augment.search_starts.Statement.{statement}

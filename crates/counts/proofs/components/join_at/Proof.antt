@@ -1,5 +1,5 @@
 -- `components::join_at` meets its contract, by what the two places of the edge hold. Assumes nothing.
-use mathlib.Core.Path.{_≡_, refl, sym}
+use mathlib.Core.Path.{refl, sym}
 use native.Mathlib.Omega.{arith}
 use lib.ListN.{getD}
 use Rattle.counts.proofs.components.Laws.{still-same, rename-keeps, rename-joins, both-marked}

@@ -1,5 +1,5 @@
 -- `components::label_edges` meets its contract. Assumes nothing.
-use mathlib.Core.Path.{_≡_, refl}
+use mathlib.Core.Path.{refl}
 use Rattle.counts.proofs.components.Laws.{labelled}
 use Rattle.counts.proofs.components.label_edges.Statement.{statement}
 use Rattle.counts.proofs.components.label_edges.Tie as tie

@@ -1,6 +1,6 @@
 -- `components::label_of` meets its contract, by whether the edge is in a constraint. Assumes nothing.
 use Prim.Native.Nat.{ℕ}
-use mathlib.Core.Path.{_≡_, ap}
+use mathlib.Core.Path.{ap}
 use lib.ListN.{getD}
 use borrow.Author.Needs.{needs}
 use Rattle.counts.proofs.components.label_of.Statement.{statement}

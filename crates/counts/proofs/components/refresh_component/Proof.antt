@@ -1,7 +1,6 @@
 -- `components::refresh_component` meets its contract. Invariant: the edges below e are refreshed. Measure: the edges that are left. Assumes nothing.
 use Prim.Native.Nat.{_-_, _≤_}
 use native.Mathlib.Omega.{arith}
-use borrow.Author.Needs.{needs}
 use lib.ListN.{length}
 use lib.Ieee.{nan}
 use Rattle.counts.specs.Cost.{by-ranges}

@@ -1,6 +1,6 @@
 -- `components::refresh_edge` meets its contract, by whether the edge is of the component. Assumes nothing.
 use mathlib.Core.Logic.{inl, inr}
-use mathlib.Core.Path.{_≡_, refl}
+use mathlib.Core.Path.{refl}
 use borrow.Author.Needs.{needs}
 use Rattle.counts.proofs.components.refresh_edge.Statement.{statement}
 use Rattle.counts.proofs.components.refresh_edge.Tie as tie

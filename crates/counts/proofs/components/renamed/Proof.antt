@@ -1,5 +1,5 @@
 -- `components::renamed` meets its contract, by whether the label is the one that changes. Assumes nothing.
-use mathlib.Core.Path.{_≡_, sym}
+use mathlib.Core.Path.{sym}
 use lib.Dec.{eqb, eqb→eq}
 use Rattle.base.proofs.BoolLaws.{cond-yes, cond-no, eq→eqb}
 use Rattle.counts.proofs.components.renamed.Statement.{statement}

@@ -1,4 +1,4 @@
--- `counts::measure::constraint_holds` meets its contract. By what the two sums say. Assumes nothing.
+-- `counts::constraint::constraint_holds` meets its contract. By what the two sums say. Assumes nothing.
 use mathlib.Core.Path.{sym, _∙_}
 use borrow.Author.Needs.{needs}
 use denote.Ref.{now}

@@ -1,4 +1,4 @@
--- `counts::measure::region_holds` meets its contract. On the sides that `side` lends. Assumes nothing.
+-- `counts::constraint::region_holds` meets its contract. On the sides that `side` lends. Assumes nothing.
 use mathlib.Core.Path.{_≡_, sym, ap, _∙_}
 use denote.Ref.{now}
 use mathlib.Core.Bool.{Bool, true, _&&_, and-true}

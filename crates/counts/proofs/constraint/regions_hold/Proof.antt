@@ -1,4 +1,4 @@
--- `counts::measure::regions_hold` meets its contract. The loop's invariant: the sides of the records left fit, and all constraints hold just if those left do. Assumes nothing.
+-- `counts::constraint::regions_hold` meets its contract. The loop's invariant: the sides of the records left fit, and all constraints hold just if those left do. Assumes nothing.
 use mathlib.Core.Path.{_≡_, sym, ap, subst, _∙_}
 use Prim.Native.Nat.{ℕ, _+_, _-_, _*_, _/_, _≤_}
 use native.Mathlib.Omega.{arith}

@@ -1,4 +1,4 @@
--- `counts::measure::side_sum` meets its contract. The loop's invariant: the edges passed are in range, and the sum so far, with that of the edges left, is the whole sum.
+-- `counts::constraint::side_sum` meets its contract. The loop's invariant: the edges passed are in range, and the sum so far, with that of the edges left, is the whole sum.
 -- It is at most 2^32 - 1 for each edge passed, so that 64 bits hold it. Assumes nothing.
 use mathlib.Core.Path.{_≡_, refl, sym, ap, _∙_}
 use Prim.Native.Nat.{ℕ, _+_, _-_, _*_, _≤_}

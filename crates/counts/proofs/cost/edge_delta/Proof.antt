@@ -1,6 +1,6 @@
 -- `counts::cost::edge_delta` meets its contract. The callees' results put into the definition. Assumes nothing.
 use borrow.Author.Needs.{needs}
-use lib.Ieee.{sub, add}
+use lib.Ieee.{sub}
 use Rattle.counts.proofs.cost.edge_delta.Statement.{statement}
 use Rattle.counts.proofs.cost.edge_delta.Tie as tie
 

@@ -1,5 +1,5 @@
 -- `counts::cost::set_costs` meets its contract: what the edge costs before a change is worked out once for both. Assumes nothing.
-use mathlib.Core.Path.{_≡_, refl}
+use mathlib.Core.Path.{refl}
 use borrow.Author.Needs.{needs}
 use Rattle.counts.specs.Cost.{range-delta}
 use Rattle.counts.proofs.cost.set_costs.Statement.{statement}

@@ -1,5 +1,5 @@
 -- `solve::make_round` meets its contract: it lends fresh buffers. Assumes nothing.
-use mathlib.Core.Path.{_≡_, refl}
+use mathlib.Core.Path.{refl}
 use Rattle.counts.proofs.search.Start.{marks-made}
 use borrow.Author.Needs.{needs}
 use Rattle.counts.proofs.solve.make_round.Statement.{statement}

@@ -1,7 +1,7 @@
 -- `solve::moves_in` meets its contract. Invariant: the rest of the solve from here is the whole solve, and the tables stand for the counts
 -- (`Progress`). Measure: the moves that are still allowed. Assumes nothing.
 use Prim.Native.Nat.{_-_}
-use mathlib.Core.Path.{_≡_, refl, sym, _∙_}
+use mathlib.Core.Path.{sym, _∙_}
 use native.Mathlib.Omega.{arith}
 use borrow.Author.Needs.{needs}
 use Rattle.counts.specs.Cost.{by-ranges}

@@ -1,5 +1,5 @@
 -- `solve::solve_from_zeros` meets its contract, by whether a move was found too many. Assumes nothing.
-use mathlib.Core.Path.{_≡_, sym, _∙_}
+use mathlib.Core.Path.{sym, _∙_}
 use lib.ListN.{length}
 use Rattle.counts.specs.Cost.{by-ranges}
 use Rattle.counts.proofs.Entry.{zeros-tested, part-done, part-stopped}

@@ -3,7 +3,6 @@ use mathlib.Core.Path.{refl, sym, ap, _∙_}
 use mathlib.Core.Bool.{Bool, cond}
 use Prim.Native.Nat.{ℕ}
 use denote.Ref.{now}
-use Rattle.base.specs.Refusal.{outcome}
 use Rattle.base.proofs.TestLaws.{was-refused, was-passed}
 use Rattle.base.specs.Buffers.{splice}
 use Rattle.curves.specs.Quad.{zeros}

@@ -1,5 +1,4 @@
 -- `grid::fill_row` meets its contract. Assumes nothing.
-use mathlib.Core.Path.{_≡_, sym, _∙_}
 use native.Mathlib.Omega.{arith}
 use denote.Ref.{now}
 use Rattle.curves.specs.Curve.{curve}

@@ -1,4 +1,4 @@
--- `counts::check::check_limits` meets its contract. Each return is the definition at what the tests on the way say. Assumes nothing.
+-- `regions::accept::check_limits` meets its contract. Each return is the definition at what the tests on the way say. Assumes nothing.
 use Prim.Native.Nat.{_/_, _%_}
 use borrow.Author.Needs.{needs}
 use denote.Ref.{now}

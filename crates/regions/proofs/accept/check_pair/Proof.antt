@@ -1,4 +1,4 @@
--- `counts::check::check_pair` meets its contract. A chain of three tests. Assumes nothing.
+-- `regions::accept::check_pair` meets its contract. A chain of three tests. Assumes nothing.
 use mathlib.Core.Path.{sym, ap, _∙_}
 use Prim.Native.Nat.{_+_}
 use borrow.Author.Needs.{needs}

@@ -1,4 +1,4 @@
--- `counts::check::check_pairs` meets its contract. The loop's invariant: the sides of the records left fit, and what is left of the test,
+-- `regions::accept::check_pairs` meets its contract. The loop's invariant: the sides of the records left fit, and what is left of the test,
 -- from region r on, is the whole test. Assumes nothing.
 use mathlib.Core.Path.{_≡_, sym, ap, subst, _∙_}
 use Prim.Native.Nat.{ℕ, _+_, _-_, _*_, _/_, _≤_}

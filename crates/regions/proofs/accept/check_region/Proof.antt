@@ -1,4 +1,4 @@
--- `counts::check::check_region` meets its contract. A chain of two tests, on the sides that `side` lends. Assumes nothing.
+-- `regions::accept::check_region` meets its contract. A chain of two tests, on the sides that `side` lends. Assumes nothing.
 use Rattle.base.specs.Refusal.{outcome}
 use mathlib.Core.Path.{_≡_, _∙_}
 use borrow.Author.Needs.{needs}

@@ -1,4 +1,4 @@
--- `counts::check::check_side` meets its contract. The loop's invariant: what is left of the test, with the edges before i as those seen,
+-- `regions::accept::check_side` meets its contract. The loop's invariant: what is left of the test, with the edges before i as those seen,
 -- is the whole test. Assumes nothing.
 use mathlib.Core.Path.{_≡_, refl, sym, _∙_}
 use Prim.Native.Nat.{_-_}

@@ -1,4 +1,4 @@
--- `counts::check::contains` meets its contract. The loop's invariant: some edge of the list is e just if some edge from i on is. Assumes nothing.
+-- `regions::accept::contains` meets its contract. The loop's invariant: some edge of the list is e just if some edge from i on is. Assumes nothing.
 use mathlib.Core.Path.{_≡_, refl, sym, _∙_}
 use Prim.Native.Nat.{_-_}
 use native.Mathlib.Omega.{arith}

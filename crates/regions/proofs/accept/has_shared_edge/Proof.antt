@@ -1,4 +1,4 @@
--- `counts::check::has_shared_edge` meets its contract. The loop's invariant: a shared edge stands in a just if one stands there from i on. Assumes nothing.
+-- `regions::accept::has_shared_edge` meets its contract. The loop's invariant: a shared edge stands in a just if one stands there from i on. Assumes nothing.
 use mathlib.Core.Path.{_≡_, refl, sym, _∙_}
 use Prim.Native.Nat.{ℕ, _-_}
 use native.Mathlib.Omega.{arith}

@@ -1,4 +1,4 @@
--- `counts::check::sides_fit` meets its contract. The loop goes side by side, so the definition is first put that way.
+-- `regions::accept::sides_fit` meets its contract. The loop goes side by side, so the definition is first put that way.
 -- Its invariant: whole sides are left, and they fit just if all do. Assumes nothing.
 use mathlib.Core.Path.{_≡_, sym, ap, _∙_}
 use Prim.Native.Nat.{ℕ, _-_, _*_, _/_, _%_}

@@ -1,4 +1,4 @@
--- `counts::region::side` meets its contract. The part lent is the definition's: past the list's end there is nothing, and a side that runs over it ends there;
+-- `regions::region::side` meets its contract. The part lent is the definition's: past the list's end there is nothing, and a side that runs over it ends there;
 -- else `start + n - start` is n. Assumes nothing.
 use mathlib.Core.Path.{_≡_, sym, ap, _∙_}
 use mathlib.Core.List.{List, []}

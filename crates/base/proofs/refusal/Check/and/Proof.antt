@@ -1,4 +1,4 @@
--- `counts::refusal::Check::and` meets its contract, by the outcome of the first test. Assumes nothing.
+-- `base::refusal::Check::and` meets its contract, by the outcome of the first test. Assumes nothing.
 use mathlib.Core.Path.{refl}
 use borrow.Author.Needs.{needs}
 use Rattle.base.specs.Refusal.{outcome}

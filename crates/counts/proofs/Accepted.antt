@@ -1,15 +1,15 @@
 -- What accepted regions give: in each constraint every edge is below n, none stands twice in a side and none on both sides; and no edge is
 -- in three constraints. Assumes nothing.
-use mathlib.Core.Logic.{_≢_, _⊎_, inl, inr}
-use mathlib.Core.Path.{_≡_, refl, sym, subst, _∙_}
-use mathlib.Core.Bool.{Bool, true, false, not, _||_, cond}
+use mathlib.Core.Logic.{_≢_, inl, inr}
+use mathlib.Core.Path.{refl, sym, subst, _∙_}
+use mathlib.Core.Bool.{Bool, true, false, not, cond}
 use mathlib.Core.List.{List, [], _∷_}
-use Prim.Native.Nat.{ℕ, zero, suc, _+_, _*_, _≤_, _<_}
+use Prim.Native.Nat.{ℕ, zero, suc, _+_, _≤_, _<_}
 use native.Mathlib.Nat.{add-zero, zero-add, suc-add, add-suc}
 use native.Mathlib.Omega.{arith}
 use lib.ListN.{length, drop}
 use lib.Dec.{T, ltb, eqb, not-T, ltb→lt, nltb→le}
-use Rattle.base.specs.Lists.{In, member, Distinct, any}
+use Rattle.base.specs.Lists.{In, member, Distinct}
 use Rattle.base.specs.Refusal.{is-passed, refused, then-test, refuse-if}
 use Rattle.regions.specs.Region.{Constraint, constraint, constraints, graph, holds, incidence, no-sides, record-size, region-count, side}
 use Rattle.regions.specs.Accept.{accepted, limits-test, regions-test, pairs-test, region-test, pair-test, side-test, overused-test, shared-edge}
