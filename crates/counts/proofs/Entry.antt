@@ -14,7 +14,7 @@ use Rattle.regions.specs.Region.{Constraint, places, region-count, graph}
 use Rattle.counts.specs.Cost.{CostModel, Spacing, within, costs-of, edges-of}
 use Rattle.counts.specs.Round.{find-move, Solved, solve-from, solve-zeros, max-moves}
 use Rattle.regions.specs.Accept.{limits-test, pairs-test, overused-test, regions-test, max-edges}
-use Rattle.counts.specs.Values.{spacing-lengths, counts-test, count-ok, first-bad}
+use Rattle.counts.specs.Values.{spacing-lengths, counts-test, count-ok, first-bad, max-count}
 use Rattle.counts.specs.Solver.{Round, round-of, round-by, round-refused, round-with, round, round-test, Solve, solve-of, solve-part, with-rest, solve-refused, solve-with, solve, solve-test, max-limit}
 use Rattle.counts.specs.inner.Checks.{round-head, solve-head}
 use Rattle.counts.specs.inner.Tables.{Tables, the-graph}
@@ -61,8 +61,8 @@ none-bad {A} ok number i (s ∷ l) d n t h x = go (ok s) refl h x (none-bad ok n
     go true e h (suc x) f = f h x
     go false e h x f = absurd (let z : T false = subst T (sym h ∙ n) tt in z)
 
-counts-small : (counts : List ℕ) → is-passed (counts-test counts) ≡ true → (x : ℕ) → getD counts x 0 ≤ 1000000
-counts-small counts h x = leb→le (getD counts x 0) 1000000 (none-bad count-ok 9 0 counts 0 refl tt h x)
+counts-small : (counts : List ℕ) → is-passed (counts-test counts) ≡ true → (x : ℕ) → getD counts x 0 ≤ max-count
+counts-small counts h x = leb→le (getD counts x 0) max-count (none-bad count-ok 9 0 counts 0 refl tt h x)
 
 -- ---- the regions pass, by the head and by test 6
 

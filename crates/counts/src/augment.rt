@@ -21,6 +21,7 @@ ghost use Rattle.counts.specs.Round.{improves as improves-on};
 ghost use Rattle.counts.specs.inner.Tables.{Tables, path-of, changes, path-size};
 ghost use Rattle.counts.specs.inner.RoundContract.{Buffers, SearchedFrom, Remembered, Recalled, AllKnown, FoundIn, Priced, CanApply, start-at, weighed as weighed-of, chosen};
 ghost use Rattle.regions.specs.Accept.{max-edges};
+ghost use Rattle.counts.specs.Values.{max-count};
 
 const NO_START: usize = CHANGES;
 
@@ -287,7 +288,7 @@ pub(crate) fn find_augmentation(
 
 // A count after +1 or -1.
 fn changed_count(s: u32, plus: bool) -> u32
-    requires { ⌜ (s ≤ 1000000) × T (plus || ltb 0 s) ⌝ }
+    requires { ⌜ (s ≤ max-count) × T (plus || ltb 0 s) ⌝ }
     ensures { λ r. ⌜ r ≡ changed plus s ⌝ }
 {
     if plus {

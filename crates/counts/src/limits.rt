@@ -7,6 +7,9 @@ pub(crate) const MAX_COUNT: u32 = 1_000_000;
 
 pub(crate) const MAX_LIMIT: u32 = 100_000;
 
+// Moves of a solve.
+pub(crate) const MAX_AUGMENTATIONS: u32 = 200_000;
+
 // Each region gives two constraints.
 pub(crate) const MAX_CONSTRAINTS: usize = 2 * MAX_REGIONS;
 

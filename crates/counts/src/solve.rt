@@ -9,6 +9,7 @@ use crate::components::refresh_component;
 use crate::limits::CHANGES;
 use crate::limits::EDGE_PLACES;
 use crate::limits::MARKS;
+use crate::limits::MAX_AUGMENTATIONS;
 use crate::limits::NO_CONSTRAINT;
 use crate::limits::PATH_SIZE;
 use crate::search::wide;
@@ -34,8 +35,6 @@ fn wide_len(x: u32) -> usize
 {
     x as usize
 }
-
-const MAX_AUGMENTATIONS: u32 = 200_000;
 
 // How many moves a solve made, and whether it found a further one after the last that is allowed.
 pub struct MovesMade {

@@ -1,5 +1,5 @@
 // The geometry above the counts: points, curves, their seams, the patch between them, its grid of points and quads, and lay, which grids a
-// region by its counts. Public are `coons` and `lay`.
+// region by its counts. Public are `coons` and `lay`, and `limits` for the mesh.
 mod boundary;
 mod columns;
 pub mod coons;

@@ -16,6 +16,7 @@ use Rattle.counts.specs.inner.RoundContract.{CanApply}
 use Rattle.base.proofs.BoolLaws.{clash, or-split, or-left, or-right, eq→eqb}
 use Rattle.base.proofs.ListLaws.{in→member}
 use Rattle.counts.proofs.MoveLaws.{edges-in}
+use Rattle.counts.specs.Values.{max-count}
 
 -- ---- apply-changes
 
@@ -74,7 +75,7 @@ path-distinct (suc i) (suc n) (c ∷ l) h b d =
 -- what is known when the change c at i is to be made
 pub record AtChange (c : ℕ) (now-counts : List ℕ) : Type 0 where
   pub below : c / 2 < length now-counts
-  pub small : getD now-counts (c / 2) 0 ≤ 1000000
+  pub small : getD now-counts (c / 2) 0 ≤ max-count
   pub down : T (eqb (c % 2) 1 || ltb 0 (getD now-counts (c / 2) 0))
 
 module _ (counts best : List ℕ) (len i c : ℕ) (now-counts : List ℕ) (can : CanApply counts (path-of len best) × (len ≤ path-size) × (length best ≡ path-size)) (more : i < len)
@@ -89,7 +90,7 @@ module _ (counts best : List ℕ) (len i c : ℕ) (now-counts : List ℕ) (can :
       let same = ap (λ (l : List ℕ). getD l (z .0) 0) so-far ∙ apply-other (path-of i best) counts (z .0) (path-distinct i len best more inside (can .0 .distinct)) in
       record {
         below = subst (λ (n : ℕ). z .0 < n) (sym (ap length so-far ∙ apply-length (path-of i best) counts)) (can .0 .below z there);
-        small = subst (λ (n : ℕ). n ≤ 1000000) (sym same) (can .0 .small (z .0));
+        small = subst (λ (n : ℕ). n ≤ max-count) (sym same) (can .0 .small (z .0));
         down = subst (λ (n : ℕ). T (z .1 || ltb 0 n)) (sym same) (can .0 .down z there);
       }
 

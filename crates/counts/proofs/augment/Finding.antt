@@ -22,6 +22,7 @@ use Rattle.counts.proofs.Find.{none, some, starts-below}
 use Rattle.base.proofs.ListLaws.{every-in}
 use Rattle.counts.proofs.Rounds.{Finds, found}
 use Rattle.counts.proofs.search.Same.{run-same}
+use Rattle.counts.specs.Values.{max-count}
 
 -- ---- tables filled edge by edge
 
@@ -73,7 +74,7 @@ by-tables regions costs counts limit table allowed ok p =
 
 -- ---- what is found can be made
 
-pub can-apply : (g : List Constraint) (costs : CostModel) (counts : List ℕ) (limit : ℕ) → Accepted (length counts) g → ((x : ℕ) → getD counts x 0 ≤ 1000000)
+pub can-apply : (g : List Constraint) (costs : CostModel) (counts : List ℕ) (limit : ℕ) → Accepted (length counts) g → ((x : ℕ) → getD counts x 0 ≤ max-count)
     → CanApply counts (find-move g costs counts limit .best)
 can-apply g costs counts limit ok small = go (found g counts ok costs limit)
   where

@@ -20,6 +20,7 @@ use Rattle.counts.specs.declared.search.SearchState.{SearchState}
 use Rattle.counts.specs.declared.augment.Choice.{Choice}
 use Rattle.counts.specs.declared.augment.FoundMove.{FoundMove}
 use Rattle.counts.specs.declared.solve.MovesMade.{MovesMade}
+use Rattle.counts.specs.Values.{max-count}
 
 -- ---- one search for each start
 
@@ -120,12 +121,12 @@ pub record CanApply (counts : List ℕ) (r : List Change) : Type 0 where
   pub distinct : Distinct (edges r)
   pub below : (z : Change) → In z r → z .0 < length counts
   pub down : (z : Change) → In z r → T (is-allowed counts (z .0) (z .1))
-  pub small : (x : ℕ) → getD counts x 0 ≤ 1000000
+  pub small : (x : ℕ) → getD counts x 0 ≤ max-count
 
 -- the input of a round that passed its tests: no count too large, regions accepted
 pub record RoundInput (regions counts : List ℕ) : Type 0 where
   pub few : length counts ≤ max-edges
-  pub small : (x : ℕ) → getD counts x 0 ≤ 1000000
+  pub small : (x : ℕ) → getD counts x 0 ≤ max-count
   pub regions-pass : T (is-passed (regions-test places (length counts) regions))
 
 -- buffers and tables that hold nothing yet worth knowing

@@ -122,7 +122,7 @@ breaks-known region breaks k t =
     let b = eqb (length breaks) (suc (length (side places region k))) in
     eqb→eq (length breaks) (suc (length (side places region k))) (not-not b (not-refused (not b) 26 k 0 t))
 
--- a record that is let by has no more than 16 edges on a side
+-- a record that is let by has no more edges on a side than places
 pub sides-short : (region : List ℕ) (n : ℕ) → T (is-passed (record-test region n))
     → (length (side places region 0) ≤ places) × (length (side places region 1) ≤ places) × (length (side places region 2) ≤ places) × (length (side places region 3) ≤ places)
 unfolding record-test

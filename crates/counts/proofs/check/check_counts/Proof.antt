@@ -6,7 +6,7 @@ use denote.Ref.{now}
 use borrow.Author.Tests.{le-leb, lt-leb}
 use lib.ListN.{length, getD, drop}
 use Rattle.base.specs.Refusal.{outcome, verdict-of}
-use Rattle.counts.specs.Values.{first-bad, count-ok}
+use Rattle.counts.specs.Values.{first-bad, count-ok, max-count}
 use Rattle.counts.proofs.check.Laws.{bad-next, bad-here, bad-none}
 use Rattle.counts.proofs.check.check_counts.Statement.{statement}
 use Rattle.counts.proofs.check.check_counts.Tie as tie
@@ -34,7 +34,7 @@ unfolding outcome verdict-of
 returns c =
     let xs = now (c .before .before .before .before .args .counts) in
     let i = c .before .before .before .loop .e in
-    sym (c .before .before .before .loop .inv ∙ bad-here count-ok 9 xs 0 i (c .before .before .loop-test .taken) (lt-leb (getD xs i 0) 1000000 (c .if1 .taken)))
+    sym (c .before .before .before .loop .inv ∙ bad-here count-ok 9 xs 0 i (c .before .before .loop-test .taken) (lt-leb (getD xs i 0) max-count (c .if1 .taken)))
 
 add-e : tie.Need-add-e Inv-loop μ-loop
 add-e c = omega arith
@@ -47,7 +47,7 @@ loop-again c =
     let xs = now (c .before .before .before .before .args .counts) in
     let i = c .before .before .before .loop .e in
     c .before .before .before .loop .inv
-    ∙ bad-next count-ok 9 xs 0 i (c .before .before .loop-test .taken) (le-leb (getD xs i 0) 1000000 (c .if1 .left))
+    ∙ bad-next count-ok 9 xs 0 i (c .before .before .loop-test .taken) (le-leb (getD xs i 0) max-count (c .if1 .left))
 
 returns-2 : tie.Need-returns-2 Inv-loop μ-loop
 unfolding outcome

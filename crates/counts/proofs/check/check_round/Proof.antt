@@ -43,7 +43,7 @@ returns-3 c =
     let s = c .before .before .before .before .before .before .before .before .before .before .before .args in
     let w = pairs-test places (length (s .least .now)) 0 (region-count places (s .regions .now)) (s .regions .now) in
     let v = then-test (values-test (s .counts .now) (within (s .least .now) (s .most .now))) w in
-    ap (λ (b : Bool). then-test (refuse-if b (refused 10 0 0)) v) (sym (lt-ltb 100000 (s .limit) (c .if1 .taken)))
+    ap (λ (b : Bool). then-test (refuse-if b (refused 10 0 0)) v) (sym (lt-ltb max-limit (s .limit) (c .if1 .taken)))
     ∙ chain-goes-on (c .before .enum-told4 .given .1) (c .before .before .before .check-limits .ensures)
     ∙ chain-goes-on (c .before .before .before .before .enum-told2 .given .1) (c .before .before .before .before .before .before .check-spacing-limits .ensures)
 
@@ -59,7 +59,7 @@ returns-4 c =
     let w = pairs-test places (length (s .least .now)) 0 (region-count places (s .regions .now)) (s .regions .now) in
     let v = then-test (values-test (s .counts .now) (within (s .least .now) (s .most .now))) w in
     chain-ends w (c .enum-told5 .given .1) (c .before .before .check-values .ensures)
-    ∙ ap (λ (b : Bool). then-test (refuse-if b (refused 10 0 0)) v) (sym (le-ltb 100000 (s .limit) (c .before .before .before .if1 .left)))
+    ∙ ap (λ (b : Bool). then-test (refuse-if b (refused 10 0 0)) v) (sym (le-ltb max-limit (s .limit) (c .before .before .before .if1 .left)))
     ∙ chain-goes-on (c .before .before .before .before .enum-told4 .given .1) (c .before .before .before .before .before .before .check-limits .ensures)
     ∙ chain-goes-on (c .before .before .before .before .before .before .before .enum-told2 .given .1) (c .before .before .before .before .before .before .before .before .before .check-spacing-limits .ensures)
 
@@ -72,7 +72,7 @@ returns-5 c =
     c .check-records .ensures
     ∙ limits-known (length (s .least .now)) (s .regions .now) (limits-of-edges places (s .regions .now) (within (s .least .now) (s .most .now)) (was-passed (c .before .before .before .before .before .before .before .before .enum-told2 .given .1) (c .before .before .before .before .before .before .before .before .before .before .check-spacing-limits .ensures)))
     ∙ chain-goes-on (c .before .enum-told6 .given .1) (c .before .before .before .check-values .ensures)
-    ∙ ap (λ (b : Bool). then-test (refuse-if b (refused 10 0 0)) v) (sym (le-ltb 100000 (s .limit) (c .before .before .before .before .if1 .left)))
+    ∙ ap (λ (b : Bool). then-test (refuse-if b (refused 10 0 0)) v) (sym (le-ltb max-limit (s .limit) (c .before .before .before .before .if1 .left)))
     ∙ chain-goes-on (c .before .before .before .before .before .enum-told4 .given .1) (c .before .before .before .before .before .before .before .check-limits .ensures)
     ∙ chain-goes-on (c .before .before .before .before .before .before .before .before .enum-told2 .given .1) (c .before .before .before .before .before .before .before .before .before .before .check-spacing-limits .ensures)
 
