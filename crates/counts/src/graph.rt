@@ -17,7 +17,7 @@ ghost use lib.Dec.{T};
 ghost use Rattle.base.specs.Refusal.{is-passed, outcome};
 ghost use Rattle.regions.specs.Region.{Constraint, places, region-count, incidence};
 ghost use Rattle.regions.specs.Accept.{limits-test, pairs-test, overused-test, max-edges};
-ghost use Rattle.counts.specs.inner.Tables.{the-graph, edges-of, no-constraint, edge-places, max-sides};
+ghost use Rattle.counts.specs.inner.Tables.{the-graph, edges-on, no-constraint, edge-places, max-sides};
 ghost use Rattle.counts.specs.inner.Graph.{SideTested, Tested, Sized, Placed, Filled, Built};
 
 // Edge e stands on side s of constraint ci: both go to its next place. An edge in over two constraints is only counted, for test 6.
@@ -54,7 +54,7 @@ fn place_side(
 )
     requires { ⌜ SideTested (now regions) s × (ci < no-constraint) ⌝ }
     requires { ⌜ Sized (now incident) (now own) (now uses) × ((y : ℕ) → y < max-edges → getD (now uses) y 0 ≤ max-sides) ⌝ }
-    ensures { λ _. ⌜ Placed ci s (edges-of (now (regions .entry)) s) (now (incident .entry)) (now (own .entry)) (now (uses .entry)) (now (incident .exit)) (now (own .exit)) (now (uses .exit)) ⌝ }
+    ensures { λ _. ⌜ Placed ci s (edges-on (now (regions .entry)) s) (now (incident .entry)) (now (own .entry)) (now (uses .entry)) (now (incident .exit)) (now (own .exit)) (now (uses .exit)) ⌝ }
 {
     let start = s * SIDE_SIZE;
     let count = regions[start] as usize;

@@ -17,7 +17,7 @@ use Rattle.base.specs.declared.verdict.Verdict.{Verdict}
 use Rattle.base.specs.Refusal.{passed, refused, outcome, verdict-of, then-test, refuse-if, is-passed}
 use Rattle.regions.specs.Region.{Constraint, places, region-count, constraint, holds, incidence, side-size, record-size}
 use Rattle.regions.specs.Accept.{records-whole, sides-fit, limits-test, pairs-test, overused-test, max-regions, max-edges}
-use Rattle.counts.specs.inner.Tables.{the-graph, no-constraint, edges-of, across, StandsOn, Tables, edge-places}
+use Rattle.counts.specs.inner.Tables.{the-graph, no-constraint, edges-on, across, StandsOn, Tables, edge-places}
 use Rattle.counts.specs.inner.Graph.{first-side, second-side, side-of, PairTested, Tested, Placed, Filled}
 use Rattle.base.specs.declared.refusal.Check.the-variants.{Passed, Refused}
 use Rattle.base.specs.declared.refusal.Refusal.the-variants.{EdgeOverused}
@@ -98,8 +98,8 @@ tested n regions t1 t3 = record { few = lim .regions-few; pair-tested = pair }
 pub constraint-more : {i : ℕ} {regions incident own uses incident1 own1 uses1 incident2 own2 uses2 : List ℕ} → Tested regions
     → i < region-count places regions * 2
     → Filled (the-graph regions) (take i (the-graph regions)) incident own uses
-    → Placed i (first-side i) (edges-of regions (first-side i)) incident own uses incident1 own1 uses1
-    → Placed i (second-side i) (edges-of regions (second-side i)) incident1 own1 uses1 incident2 own2 uses2
+    → Placed i (first-side i) (edges-on regions (first-side i)) incident own uses incident1 own1 uses1
+    → Placed i (second-side i) (edges-on regions (second-side i)) incident1 own1 uses1 incident2 own2 uses2
     → Filled (the-graph regions) (take (i + 1) (the-graph regions)) incident2 own2 uses2
 constraint-more {i} {regions} {incident} {own} {uses} {incident1} {own1} {uses1} {incident2} {own2} {uses2} ok h f a b =
     let g = the-graph regions in
@@ -161,7 +161,7 @@ module _ (regions : List ℕ) (i y : ℕ) (ok : PairTested regions i) (h : i < r
       record {
         below = ok .first .numbered;
         own-is = cond-yes (member y (c .a)) (c .a) (c .b) t ∙ are .0;
-        opposite-is = cond-yes (member y (c .a)) (c .b) (c .a) t ∙ are .1 ∙ ap (edges-of regions) (sym over);
+        opposite-is = cond-yes (member y (c .a)) (c .b) (c .a) t ∙ are .1 ∙ ap (edges-on regions) (sym over);
         own-fits = ok .first .fits;
         opposite-fits = subst (λ (s : ℕ). s * side-size places + side-size places ≤ length regions) (sym over) (ok .second .fits);
         own-few = ok .first .few;
@@ -179,7 +179,7 @@ module _ (regions : List ℕ) (i y : ℕ) (ok : PairTested regions i) (h : i < r
       record {
         below = ok .second .numbered;
         own-is = cond-no (member y (c .a)) (c .a) (c .b) n ∙ are .1;
-        opposite-is = cond-no (member y (c .a)) (c .b) (c .a) n ∙ are .0 ∙ ap (edges-of regions) (sym over);
+        opposite-is = cond-no (member y (c .a)) (c .b) (c .a) n ∙ are .0 ∙ ap (edges-on regions) (sym over);
         own-fits = ok .second .fits;
         opposite-fits = subst (λ (s : ℕ). s * side-size places + side-size places ≤ length regions) (sym over) (ok .first .fits);
         own-few = ok .second .few;

@@ -12,7 +12,7 @@ use lib.Ieee.Fits.{and-l, and-r}
 use Rattle.base.specs.Lists.{member}
 use Rattle.regions.specs.Region.{places, constraint, constraints, side-size, record-size}
 use Rattle.regions.specs.Accept.{sides-fit, max-edges}
-use Rattle.counts.specs.inner.Tables.{edges-of}
+use Rattle.counts.specs.inner.Tables.{edges-on}
 use Rattle.counts.specs.inner.Graph.{first-side, second-side, SideTested, Placed}
 use Rattle.base.proofs.ListLaws.{one-in, member-getD, distinct-before}
 use Rattle.counts.proofs.graph.Placing.{placed-more}
@@ -22,17 +22,17 @@ use Rattle.counts.proofs.graph.Placing.{placed-more}
 -- edge e is read at j, after the edges before it
 pub record Next (regions : List ℕ) (s j e : ℕ) : Type 0 where
   pub inside : e < max-edges
-  pub fresh : T (member e (take j (edges-of regions s))) → ⊥
-  pub reached : take (j + 1) (edges-of regions s) ≡ take j (edges-of regions s) ++ e ∷ []
+  pub fresh : T (member e (take j (edges-on regions s))) → ⊥
+  pub reached : take (j + 1) (edges-on regions s) ≡ take j (edges-on regions s) ++ e ∷ []
 
 module _ (regions : List ℕ) (s : ℕ) (ok : SideTested regions s) where
-  pub length-edges : length (edges-of regions s) ≡ getD regions (s * side-size places) 0
+  pub length-edges : length (edges-on regions s) ≡ getD regions (s * side-size places) 0
   length-edges =
       length-take-le (getD regions (s * side-size places) 0) (drop (s * side-size places + 1) regions) (simp length-drop (let f = ok .fits in let g = ok .few in omega (arith, f, g)))
 
   pub next-edge : (j e : ℕ) → j < getD regions (s * side-size places) 0 → e ≡ getD regions (s * side-size places + 1 + j) 0 → Next regions s j e
   next-edge j e h q =
-      let l = edges-of regions s in
+      let l = edges-on regions s in
       let hl : j < length l = omega (arith, length-edges) in
       let at : getD l j 0 ≡ e = getD-take (getD regions (s * side-size places) 0) (drop (s * side-size places + 1) regions) j 0 h ∙ getD-drop (s * side-size places + 1) regions j 0 ∙ sym q in
       record {
@@ -43,23 +43,23 @@ module _ (regions : List ℕ) (s : ℕ) (ok : SideTested regions s) where
 
 -- a turn of the loop over a side's edges, and its end
 pub side-more : {i s j e : ℕ} {regions incident own uses incident1 own1 uses1 incident2 own2 uses2 : List ℕ} → Next regions s j e
-    → Placed i s (take j (edges-of regions s)) incident own uses incident1 own1 uses1
+    → Placed i s (take j (edges-on regions s)) incident own uses incident1 own1 uses1
     → Placed i s (e ∷ []) incident1 own1 uses1 incident2 own2 uses2
-    → Placed i s (take (j + 1) (edges-of regions s)) incident own uses incident2 own2 uses2
+    → Placed i s (take (j + 1) (edges-on regions s)) incident own uses incident2 own2 uses2
 side-more {i} {s} {j} {e} {regions} {incident} {own} {uses} {incident1} {own1} {uses1} {incident2} {own2} {uses2} x a b =
     subst (λ (l : List ℕ). Placed i s l incident own uses incident2 own2 uses2) (sym (x .reached))
-    (placed-more i s (take j (edges-of regions s)) (e ∷ []) incident own uses incident1 own1 uses1 incident2 own2 uses2
-    (λ y t u. x .fresh (subst (λ (z : ℕ). T (member z (take j (edges-of regions s)))) (one-in y e u) t)) a b)
+    (placed-more i s (take j (edges-on regions s)) (e ∷ []) incident own uses incident1 own1 uses1 incident2 own2 uses2
+    (λ y t u. x .fresh (subst (λ (z : ℕ). T (member z (take j (edges-on regions s)))) (one-in y e u) t)) a b)
 
 pub side-done : {i s j : ℕ} {regions incident own uses incident1 own1 uses1 : List ℕ} → SideTested regions s → getD regions (s * side-size places) 0 ≤ j
-    → Placed i s (take j (edges-of regions s)) incident own uses incident1 own1 uses1
-    → Placed i s (edges-of regions s) incident own uses incident1 own1 uses1
+    → Placed i s (take j (edges-on regions s)) incident own uses incident1 own1 uses1
+    → Placed i s (edges-on regions s) incident own uses incident1 own1 uses1
 side-done {i} {s} {j} {regions} {incident} {own} {uses} {incident1} {own1} {uses1} ok h a =
-    subst (λ (l : List ℕ). Placed i s l incident own uses incident1 own1 uses1) (take-all j (edges-of regions s) (omega (arith, length-edges regions s ok))) a
+    subst (λ (l : List ℕ). Placed i s l incident own uses incident1 own1 uses1) (take-all j (edges-on regions s) (omega (arith, length-edges regions s ok))) a
 
 -- ---- the sides of the constraints
 
-edges-drop : (l : List ℕ) (s s' : ℕ) → s' ≡ s + 4 → edges-of (drop (record-size places) l) s ≡ edges-of l s'
+edges-drop : (l : List ℕ) (s s' : ℕ) → s' ≡ s + 4 → edges-on (drop (record-size places) l) s ≡ edges-on l s'
 edges-drop l s s' e =
     let p : (record-size places) + s * side-size places ≡ s' * side-size places = omega arith in
     let q : (record-size places) + (s * side-size places + 1) ≡ s' * side-size places + 1 = omega arith in
@@ -67,7 +67,7 @@ edges-drop l s s' e =
     ∙ ap (λ (m : List ℕ). take (getD l (s' * side-size places) 0) m) (drop-drop (s * side-size places + 1) (record-size places) l ∙ ap (λ (n : ℕ). drop n l) q)
 
 pub sides-are : (m i : ℕ) (l : List ℕ) → i < m * 2
-    → (constraint (constraints places m l) i .a ≡ edges-of l (first-side i)) × (constraint (constraints places m l) i .b ≡ edges-of l (second-side i))
+    → (constraint (constraints places m l) i .a ≡ edges-on l (first-side i)) × (constraint (constraints places m l) i .b ≡ edges-on l (second-side i))
 unfolding constraints
 sides-are zero i l h = absurd (omega arith)
 sides-are (suc m) zero l h = (refl, refl)

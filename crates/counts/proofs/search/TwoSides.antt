@@ -13,7 +13,7 @@ use Rattle.base.specs.Lists.{In, member}
 use Rattle.regions.specs.Region.{Constraint, constraint, holds, opposite-side, own-side, places, side-size}
 use Rattle.counts.specs.Move.{Change}
 use Rattle.counts.specs.Search.{signed}
-use Rattle.counts.specs.inner.Tables.{StandsOn, Tables, across, decoded, edges-of, the-graph, changes}
+use Rattle.counts.specs.inner.Tables.{StandsOn, Tables, across, decoded, edges-on, the-graph, changes}
 use Rattle.counts.specs.inner.SearchContract.{SidesAt, both-sides, both-signed}
 use Rattle.base.proofs.BoolLaws.{T-true, true-T}
 use Rattle.base.proofs.ListLaws.{in→member}
@@ -43,20 +43,20 @@ holds-both c x e = go (member x (c .a)) ∙ sym (member-append e (opposite-side 
 
 -- ---- where the two sides stand
 
-length-edges-of : (regions : List ℕ) (s : ℕ) → s * side-size places + side-size places ≤ length regions → getD regions (s * side-size places) 0 ≤ places → length (edges-of regions s) ≡ getD regions (s * side-size places) 0
-length-edges-of regions s h k = length-take-le (getD regions (s * side-size places) 0) (drop (s * side-size places + 1) regions) (let q = length-drop (s * side-size places + 1) regions in omega (arith, q, h, k))
+length-edges-on : (regions : List ℕ) (s : ℕ) → s * side-size places + side-size places ≤ length regions → getD regions (s * side-size places) 0 ≤ places → length (edges-on regions s) ≡ getD regions (s * side-size places) 0
+length-edges-on regions s h k = length-take-le (getD regions (s * side-size places) 0) (drop (s * side-size places + 1) regions) (let q = length-drop (s * side-size places + 1) regions in omega (arith, q, h, k))
 
 pub sides-at : (regions : List ℕ) (i x s s' a b : ℕ) → StandsOn regions i x s → s' ≡ across s → a ≡ getD regions (s' * side-size places) 0 → b ≡ getD regions (s * side-size places) 0 → SidesAt regions i x (s' * side-size places + 1) a (s * side-size places + 1) (a + b)
 sides-at regions i x s s' a b d e p q =
     record {
-      opposite-is = d .opposite-is ∙ ap (edges-of regions) (sym e) ∙ ap (λ (k : ℕ). take k (drop (s' * side-size places + 1) regions)) (sym p);
+      opposite-is = d .opposite-is ∙ ap (edges-on regions) (sym e) ∙ ap (λ (k : ℕ). take k (drop (s' * side-size places + 1) regions)) (sym p);
       own-is = d .own-is ∙ ap (λ (k : ℕ). take k (drop (s * side-size places + 1) regions)) (sym q ∙ (let r : b ≡ a + b - a = omega arith in r));
       opposite-fits = (let r = fits' in let k = few' in omega (arith, r, k, p));
       own-fits = (let r = d .own-fits in let k = d .own-few in omega (arith, r, k, q));
       in-order = omega arith;
       few = (let k = few' in let l = d .own-few in omega (arith, k, l, p, q));
-      count = ap (λ (n : ℕ). n + b) p ∙ ap (λ (n : ℕ). getD regions (s' * side-size places) 0 + n) q ∙ sym (ap (λ (n : ℕ). n + length (own-side (constraint (the-graph regions) i) x)) (ap length (d .opposite-is) ∙ ap (λ (k : ℕ). length (edges-of regions k)) (sym e) ∙ length-edges-of regions s' fits' few')
-          ∙ ap (λ (n : ℕ). getD regions (s' * side-size places) 0 + n) (ap length (d .own-is) ∙ length-edges-of regions s (d .own-fits) (d .own-few)));
+      count = ap (λ (n : ℕ). n + b) p ∙ ap (λ (n : ℕ). getD regions (s' * side-size places) 0 + n) q ∙ sym (ap (λ (n : ℕ). n + length (own-side (constraint (the-graph regions) i) x)) (ap length (d .opposite-is) ∙ ap (λ (k : ℕ). length (edges-on regions k)) (sym e) ∙ length-edges-on regions s' fits' few')
+          ∙ ap (λ (n : ℕ). getD regions (s' * side-size places) 0 + n) (ap length (d .own-is) ∙ length-edges-on regions s (d .own-fits) (d .own-few)));
     }
   where
     fits' : s' * side-size places + side-size places ≤ length regions

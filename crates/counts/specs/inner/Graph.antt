@@ -11,7 +11,7 @@ use Rattle.base.specs.declared.verdict.Verdict.{Verdict}
 use Rattle.base.specs.Refusal.{is-passed}
 use Rattle.regions.specs.Region.{Constraint, places, region-count, constraint, incidence, side-size}
 use Rattle.regions.specs.Accept.{max-regions, max-edges, overused-test}
-use Rattle.counts.specs.inner.Tables.{the-graph, no-constraint, edges-of, Tables, max-sides, edge-places}
+use Rattle.counts.specs.inner.Tables.{the-graph, no-constraint, edges-on, Tables, max-sides, edge-places}
 
 abbrev pub first-side : ℕ → ℕ
 first-side i = i / 2 * 4 + i % 2
@@ -26,14 +26,14 @@ pub record SideTested (regions : List ℕ) (s : ℕ) : Type 0 where
   pub numbered : s < max-sides
   pub fits : s * side-size places + side-size places ≤ length regions
   pub few : getD regions (s * side-size places) 0 ≤ places
-  pub inside : (y : ℕ) → T (member y (edges-of regions s)) → y < max-edges
-  pub once : Distinct (edges-of regions s)
+  pub inside : (y : ℕ) → T (member y (edges-on regions s)) → y < max-edges
+  pub once : Distinct (edges-on regions s)
 
 -- of constraint i
 pub record PairTested (regions : List ℕ) (i : ℕ) : Type 0 where
   pub first : SideTested regions (first-side i)
   pub second : SideTested regions (second-side i)
-  pub parted : (y : ℕ) → T (member y (edges-of regions (first-side i))) → T (member y (edges-of regions (second-side i))) → ⊥
+  pub parted : (y : ℕ) → T (member y (edges-on regions (first-side i))) → T (member y (edges-on regions (second-side i))) → ⊥
 
 pub record Tested (regions : List ℕ) : Type 0 where
   pub few : region-count places regions ≤ max-regions

@@ -90,8 +90,8 @@ path-size = max-constraints + 1
 -- ---- what stands in the tables
 
 -- the edges of side s, sides counted over all records
-abbrev pub edges-of : List ℕ → ℕ → List ℕ
-edges-of regions s = take (getD regions (s * side-size places) 0) (drop (s * side-size places + 1) regions)
+abbrev pub edges-on : List ℕ → ℕ → List ℕ
+edges-on regions s = take (getD regions (s * side-size places) 0) (drop (s * side-size places + 1) regions)
 
 -- the side opposite s
 abbrev pub across : ℕ → ℕ
@@ -106,8 +106,8 @@ pub data Other (g : List Constraint) (y i o : ℕ) : Type 0 where
 -- edge x of constraint i stands on side s
 pub record StandsOn (regions : List ℕ) (i x s : ℕ) : Type 0 where
   pub below : s < max-sides
-  pub own-is : own-side (constraint (the-graph regions) i) x ≡ edges-of regions s
-  pub opposite-is : opposite-side (constraint (the-graph regions) i) x ≡ edges-of regions (across s)
+  pub own-is : own-side (constraint (the-graph regions) i) x ≡ edges-on regions s
+  pub opposite-is : opposite-side (constraint (the-graph regions) i) x ≡ edges-on regions (across s)
   pub own-fits : s * side-size places + side-size places ≤ length regions
   pub opposite-fits : across s * side-size places + side-size places ≤ length regions
   pub own-few : getD regions (s * side-size places) 0 ≤ places

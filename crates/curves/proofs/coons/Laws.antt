@@ -21,7 +21,7 @@ use Rattle.base.specs.Buffers.{splice}
 use Rattle.curves.specs.Boundary.{BoundaryCurves}
 use Rattle.curves.specs.Seam.{uniform-parameters, seam-test, pair-test, seams-test}
 use Rattle.curves.specs.Grid.{Seams, seams, n-u, n-v, Grid, grid-of, grid-test, needed}
-use Rattle.curves.specs.Coons.{Outcome, outcome-of, refusal, unless, filled, seams-and-room-test, grid-stage, curve-limit, curves-limit, seam-limit, seams-limit, cells-limit, coons-from-parameters}
+use Rattle.curves.specs.Coons.{Outcome, outcome-of, refusal, unless, filled, seams-and-room-test, grid-stage, curve-limit, curves-limit, seam-limit, seams-limit, cells-limit, coons-from-parameters, coons-curves}
 use Rattle.curves.specs.declared.rows.Layout.{Layout}
 use Rattle.curves.specs.declared.coons.GridAnswer.the-variants as grid-answer
 use Rattle.base.proofs.BufferLaws.{length-tabulate, take-splice}

@@ -5,7 +5,7 @@ use mathlib.Core.Path.{refl}
 use native.Mathlib.Omega.{arith}
 use borrow.Author.Needs.{needs}
 use lib.ListN.{getD, take}
-use Rattle.counts.specs.inner.Tables.{edges-of}
+use Rattle.counts.specs.inner.Tables.{edges-on}
 use Rattle.counts.specs.inner.Graph.{Placed}
 use Rattle.regions.specs.Region.{places, side-size}
 use Rattle.counts.proofs.graph.Placing.{placed-none, not-counted}
@@ -15,7 +15,7 @@ use Rattle.counts.proofs.graph.place_side.Tie as tie
 
 abbrev Inv-loop : tie.InvT-loop
 Inv-loop regions incident₀ own₀ uses₀ ci s start count j₀ incident own uses j =
-    (j ≤ count) × Placed ci s (take j (edges-of regions s)) incident₀ own₀ uses₀ incident own uses
+    (j ≤ count) × Placed ci s (take j (edges-on regions s)) incident₀ own₀ uses₀ incident own uses
 
 abbrev μ-loop : tie.MeasureT-loop
 μ-loop regions incident₀ own₀ uses₀ ci s start count j₀ incident own uses j = count - j
