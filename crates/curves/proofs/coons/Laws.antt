@@ -21,8 +21,9 @@ use Rattle.base.specs.Buffers.{splice}
 use Rattle.curves.specs.Boundary.{BoundaryCurves}
 use Rattle.curves.specs.Seam.{uniform-parameters, seam-test, pair-test, seams-test}
 use Rattle.curves.specs.Grid.{Seams, seams, n-u, n-v, Grid, grid-of, grid-test, needed}
-use Rattle.curves.specs.Coons.{Outcome, outcome-of, refusal, unless, filled, seams-and-room-test, grid-stage, curve-limit, curves-limit, seam-limit, seams-limit, cells-limit, coons-from-parameters, coons-curves}
+use Rattle.curves.specs.Coons.{Outcome, outcome-of, refusal, unless, filled, seams-and-room-test, grid-stage, curve-limit, curves-limit, seam-limit, seams-limit, cells-limit, coons-from-parameters, coons-curves, coons-nodes}
 use Rattle.curves.specs.declared.rows.Layout.{Layout}
+use Rattle.curves.specs.declared.rows.Layout.the-variants.{Nodes}
 use Rattle.curves.specs.declared.coons.GridAnswer.the-variants as grid-answer
 use Rattle.base.proofs.BufferLaws.{length-tabulate, take-splice}
 use Rattle.curves.proofs.grid.Filled.{good-grid, no-grid}
@@ -194,9 +195,12 @@ passed-before v out rest h = go (is-passed v) refl h
     go false e h = subst (λ (x : Verdict). T (is-passed x)) h tt
 
 -- a grid that is made has numbers of cells that are let by
-pub cells-of-made : (layout : Layout) (bottom right top left : List Float) (n m : ℕ) (out : List Float) → passed ≡ coons-curves layout bottom right top left n m out .verdict
+cells-of-made : (layout : Layout) (bottom right top left : List Float) (n m : ℕ) (out : List Float) → passed ≡ coons-curves layout bottom right top left n m out .verdict
     → (n ≤ max-cells) × (m ≤ max-cells)
 unfolding coons-curves
 cells-of-made layout bottom right top left n m out h =
     let limits : Verdict = then-test (curves-limit bottom right top left) (cells-limit n m) in
     cells-let-by n m (then-right (curves-limit bottom right top left) (cells-limit n m) (passed-before limits out _ h))
+
+pub cells-of-nodes : (bottom right top left : List Float) (n m : ℕ) (out : List Float) → passed ≡ coons-nodes bottom right top left n m out .verdict → (n ≤ max-cells) × (m ≤ max-cells)
+cells-of-nodes bottom right top left n m out h = cells-of-made Nodes bottom right top left n m out h

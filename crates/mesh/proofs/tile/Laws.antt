@@ -19,8 +19,7 @@ use Rattle.base.specs.Buffers.{splice}
 use Rattle.curves.specs.Coons.{Outcome, outcome-of, refusal, coons-quads, coons-nodes}
 use Rattle.curves.specs.declared.coons.GridAnswer.{GridAnswer}
 use Rattle.curves.specs.declared.coons.GridAnswer.the-variants as grid-answer
-use Rattle.curves.specs.declared.rows.Layout.the-variants.{Nodes}
-use Rattle.curves.proofs.coons.Laws.{cells-of-made}
+use Rattle.curves.proofs.coons.Laws.{cells-of-nodes}
 use Rattle.mesh.specs.Loop.{loop-test, piece}
 use Rattle.mesh.specs.Mesh.{Mesh, mesh-of, needed-cells, mesh-cells, no-cells, zeroes, cells-left, with-cells, without-cells, mesh-tile-curves}
 use Rattle.mesh.specs.Tile.{cell-limits-test, tile-test, coons-checked, mesh-tile}
@@ -94,7 +93,7 @@ module _ (bottom right top left : List Float) (n m : ℕ) (points : List Float) 
     -- a grid that was made has numbers of cells that are let by
     pub few-cells : (quads : ℕ) → made ≡ grid-answer.Made quads → (n ≤ max-cells) × (m ≤ max-cells)
     unfolding outcome-of
-    few-cells quads q = cells-of-made Nodes bottom right top left n m points (ap (λ (x : Outcome). x .verdict) (ap (λ (x : GridAnswer). outcome-of x after) (sym q) ∙ o))
+    few-cells quads q = cells-of-nodes bottom right top left n m points (ap (λ (x : Outcome). x .verdict) (ap (λ (x : GridAnswer). outcome-of x after) (sym q) ∙ o))
 
 -- ---- the tests of a loop
 
