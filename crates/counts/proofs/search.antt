@@ -3,9 +3,9 @@ pub mod Acts
 pub mod Endings
 pub mod Laws
 pub mod Marks
-pub mod Places
 pub mod Same
 pub mod Scan
+pub mod Slots
 pub mod Start
 pub mod Steps
 pub mod TwoSides

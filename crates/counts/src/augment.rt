@@ -2,7 +2,7 @@
 use crate::cost::EPS_IMPROVEMENT;
 use crate::cost::fill_costs;
 use crate::limits::CHANGES;
-use crate::limits::EDGE_PLACES;
+use crate::limits::EDGE_SLOTS;
 use crate::limits::MARKS;
 use crate::limits::PATH_SIZE;
 use crate::search::SearchState;
@@ -59,8 +59,8 @@ fn start_at(k: usize) -> usize
 // The search from one start; nothing where the change is not allowed.
 fn search_from(
     regions: &[u16],
-    incident: &[u16; EDGE_PLACES],
-    own: &[u16; EDGE_PLACES],
+    incident: &[u16; EDGE_SLOTS],
+    own: &[u16; EDGE_SLOTS],
     costs: &[f64; CHANGES],
     allowed: &[bool; CHANGES],
     limit: u32,
@@ -93,8 +93,8 @@ fn search_from(
 // Sees to it that the result from start c is known.
 fn recall(
     regions: &[u16],
-    incident: &[u16; EDGE_PLACES],
-    own: &[u16; EDGE_PLACES],
+    incident: &[u16; EDGE_SLOTS],
+    own: &[u16; EDGE_SLOTS],
     costs: &[f64; CHANGES],
     allowed: &[bool; CHANGES],
     limit: u32,
@@ -134,8 +134,8 @@ fn recall(
 // Sees to it that the result from every start is known, of n edges.
 fn search_starts(
     regions: &[u16],
-    incident: &[u16; EDGE_PLACES],
-    own: &[u16; EDGE_PLACES],
+    incident: &[u16; EDGE_SLOTS],
+    own: &[u16; EDGE_SLOTS],
     costs: &[f64; CHANGES],
     allowed: &[bool; CHANGES],
     limit: u32,
@@ -225,8 +225,8 @@ fn choose(kept: &[f64; CHANGES], cut: &[bool; CHANGES], n: usize) -> Choice
 // The best move over all starts of n edges, its changes in `best`. The winner is searched once more, for its changes.
 pub(crate) fn find_augmentation(
     regions: &[u16],
-    incident: &[u16; EDGE_PLACES],
-    own: &[u16; EDGE_PLACES],
+    incident: &[u16; EDGE_SLOTS],
+    own: &[u16; EDGE_SLOTS],
     costs: &[f64; CHANGES],
     allowed: &[bool; CHANGES],
     limit: u32,

@@ -2,7 +2,7 @@
 // what it gave holds until a move touches that component.
 use crate::cost::set_costs;
 use crate::limits::CHANGES;
-use crate::limits::EDGE_PLACES;
+use crate::limits::EDGE_SLOTS;
 use crate::limits::MAX_CONSTRAINTS;
 use crate::limits::NO_CONSTRAINT;
 use crate::search::wide;
@@ -39,7 +39,7 @@ fn rename(marks: &mut [u16; MAX_CONSTRAINTS], from: u16, to: u16)
 }
 
 // The two constraints of edge e, if it has two, get one mark.
-fn join_at(incident: &[u16; EDGE_PLACES], e: usize, marks: &mut [u16; MAX_CONSTRAINTS])
+fn join_at(incident: &[u16; EDGE_SLOTS], e: usize, marks: &mut [u16; MAX_CONSTRAINTS])
     requires { ⌜ (e < max-edges) × (length (now marks) ≡ max-constraints) ⌝ }
     ensures { λ _. ⌜ StillEqual (now (marks .entry)) (now (marks .exit)) × OneMark (now (incident .entry)) (now (marks .exit)) e ⌝ }
 {
@@ -60,7 +60,7 @@ fn join_at(incident: &[u16; EDGE_PLACES], e: usize, marks: &mut [u16; MAX_CONSTR
 }
 
 // The constraints of each of n edges get one mark.
-fn join_constraints(incident: &[u16; EDGE_PLACES], n: usize, marks: &mut [u16; MAX_CONSTRAINTS])
+fn join_constraints(incident: &[u16; EDGE_SLOTS], n: usize, marks: &mut [u16; MAX_CONSTRAINTS])
     requires { ⌜ (n ≤ max-edges) × (length (now marks) ≡ max-constraints) ⌝ }
     ensures { λ _. ⌜ ((x : ℕ) → x < n → OneMark (now (incident .entry)) (now (marks .exit)) x) ⌝ }
 {
@@ -84,7 +84,7 @@ fn number_constraints(marks: &mut [u16; MAX_CONSTRAINTS])
 }
 
 // The label of edge e is the mark of its constraints; an edge in no constraint is a component of its own.
-fn label_of(incident: &[u16; EDGE_PLACES], marks: &[u16; MAX_CONSTRAINTS], e: usize) -> u16
+fn label_of(incident: &[u16; EDGE_SLOTS], marks: &[u16; MAX_CONSTRAINTS], e: usize) -> u16
     requires { ⌜ e < max-edges ⌝ }
     ensures { λ r. ⌜ (getD (now (incident .entry)) (e * 2) 0 < no-constraint → r ≡ getD (now (marks .entry)) (getD (now (incident .entry)) (e * 2) 0) 0) ⌝ }
 {
@@ -96,7 +96,7 @@ fn label_of(incident: &[u16; EDGE_PLACES], marks: &[u16; MAX_CONSTRAINTS], e: us
 }
 
 fn take_marks(
-    incident: &[u16; EDGE_PLACES],
+    incident: &[u16; EDGE_SLOTS],
     n: usize,
     marks: &[u16; MAX_CONSTRAINTS],
     labels: &mut [u16; MAX_EDGES],
@@ -112,7 +112,7 @@ fn take_marks(
 }
 
 // The labels of n edges.
-pub(crate) fn label_edges(incident: &[u16; EDGE_PLACES], n: usize, labels: &mut [u16; MAX_EDGES])
+pub(crate) fn label_edges(incident: &[u16; EDGE_SLOTS], n: usize, labels: &mut [u16; MAX_EDGES])
     requires { ⌜ (n ≤ max-edges) × (length (now labels) ≡ max-edges) ⌝ }
     ensures { λ _. ⌜ Labels n (now (incident .entry)) (now (labels .exit)) ⌝ }
 {

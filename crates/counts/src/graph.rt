@@ -1,9 +1,9 @@
 // `build_graph`: the tables that tell the search which constraints hold an edge. In 000 these are lists of lists; here the constraints stay in
-// the records, and each edge has two places, since test 6 turns away an edge in over two constraints. Tests 1 and 3 to 5 come before.
-// At place 2 * e + k, k being 0 or 1, `incident` has the number of the k-th constraint that holds edge e, NO_CONSTRAINT if there is none, and `own` the
+// the records, and each edge has two slots, since test 6 turns away an edge in over two constraints. Tests 1 and 3 to 5 come before.
+// At slot 2 * e + k, k being 0 or 1, `incident` has the number of the k-th constraint that holds edge e, NO_CONSTRAINT if there is none, and `own` the
 // side on which e stands in it. Sides are counted over all records: side s starts at s * SIDE_SIZE, with its number of edges, and constraint ci has
 // the sides ci / 2 * 4 + ci % 2 and, two further on, the opposite one.
-use crate::limits::EDGE_PLACES;
+use crate::limits::EDGE_SLOTS;
 use base::refusal::Check;
 use base::refusal::Refusal;
 use regions::region::MAX_EDGES;
@@ -17,13 +17,13 @@ ghost use lib.Dec.{T};
 ghost use Rattle.base.specs.Refusal.{is-passed, outcome};
 ghost use Rattle.regions.specs.Region.{Constraint, places, region-count, incidence};
 ghost use Rattle.regions.specs.Accept.{limits-test, pairs-test, overused-test, max-edges};
-ghost use Rattle.counts.specs.inner.Tables.{the-graph, edges-on, no-constraint, edge-places, max-sides};
+ghost use Rattle.counts.specs.inner.Tables.{the-graph, edges-on, no-constraint, edge-slots, max-sides};
 ghost use Rattle.counts.specs.inner.Graph.{SideTested, Tested, Sized, Placed, Filled, Built};
 
-// Edge e stands on side s of constraint ci: both go to its next place. An edge in over two constraints is only counted, for test 6.
+// Edge e stands on side s of constraint ci: both go to its next slot. An edge in over two constraints is only counted, for test 6.
 fn place_edge(
-    incident: &mut [u16; EDGE_PLACES],
-    own: &mut [u16; EDGE_PLACES],
+    incident: &mut [u16; EDGE_SLOTS],
+    own: &mut [u16; EDGE_SLOTS],
     uses: &mut [u16; MAX_EDGES],
     ci: usize,
     s: usize,
@@ -46,8 +46,8 @@ fn place_edge(
 // The edges of side s, in listed order.
 fn place_side(
     regions: &[u16],
-    incident: &mut [u16; EDGE_PLACES],
-    own: &mut [u16; EDGE_PLACES],
+    incident: &mut [u16; EDGE_SLOTS],
+    own: &mut [u16; EDGE_SLOTS],
     uses: &mut [u16; MAX_EDGES],
     ci: usize,
     s: usize,
@@ -66,15 +66,15 @@ fn place_side(
     }
 }
 
-// Constraints in region order, so that the places of an edge hold its constraints rising.
+// Constraints in region order, so that the slots of an edge hold its constraints rising.
 fn place_constraints(
     regions: &[u16],
-    incident: &mut [u16; EDGE_PLACES],
-    own: &mut [u16; EDGE_PLACES],
+    incident: &mut [u16; EDGE_SLOTS],
+    own: &mut [u16; EDGE_SLOTS],
     uses: &mut [u16; MAX_EDGES],
 )
     requires { ⌜ Tested (now regions) ⌝ }
-    requires { ⌜ (now incident ≡ replicate edge-places no-constraint) × (length (now own) ≡ edge-places) × (now uses ≡ replicate max-edges 0) ⌝ }
+    requires { ⌜ (now incident ≡ replicate edge-slots no-constraint) × (length (now own) ≡ edge-slots) × (now uses ≡ replicate max-edges 0) ⌝ }
     ensures { λ _. ⌜ Filled (the-graph (now (regions .entry))) (the-graph (now (regions .entry))) (now (incident .exit)) (now (own .exit)) (now (uses .exit)) ⌝ }
 {
     let m = regions.len() / RECORD_SIZE * 2;
@@ -106,11 +106,11 @@ fn check_overused(uses: &[u16; MAX_EDGES], n: usize) -> Check
 pub(crate) fn build_graph(
     regions: &[u16],
     n: usize,
-    incident: &mut [u16; EDGE_PLACES],
-    own: &mut [u16; EDGE_PLACES],
+    incident: &mut [u16; EDGE_SLOTS],
+    own: &mut [u16; EDGE_SLOTS],
 ) -> Check
     requires { ⌜ T (is-passed (limits-test places n (now regions))) × T (is-passed (pairs-test places n 0 (region-count places (now regions)) (now regions))) ⌝ }
-    requires { ⌜ (now incident ≡ replicate edge-places no-constraint) × (length (now own) ≡ edge-places) ⌝ }
+    requires { ⌜ (now incident ≡ replicate edge-slots no-constraint) × (length (now own) ≡ edge-slots) ⌝ }
     ensures { λ r. ⌜ Built n (now (regions .entry)) (now (incident .exit)) (now (own .exit)) (outcome r) ⌝ }
 {
     let mut uses = [0; MAX_EDGES];

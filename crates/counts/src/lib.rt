@@ -20,7 +20,7 @@ use crate::check::check_solve;
 use crate::constraint::regions_hold;
 use crate::cost::total_energy;
 use crate::graph::build_graph;
-use crate::limits::EDGE_PLACES;
+use crate::limits::EDGE_SLOTS;
 use crate::limits::MAX_LIMIT;
 use crate::limits::NO_ENTRY;
 use crate::solve::make_round;
@@ -44,8 +44,8 @@ pub fn round_within(
     if let Check::Refused(r) = check_round(regions, least, most, counts, limit) {
         return RoundAnswer::Refused(r);
     }
-    let mut incident = [NO_ENTRY; EDGE_PLACES];
-    let mut own = [0; EDGE_PLACES];
+    let mut incident = [NO_ENTRY; EDGE_SLOTS];
+    let mut own = [0; EDGE_SLOTS];
     if let Check::Refused(r) = build_graph(regions, least.len(), &mut incident, &mut own) {
         return RoundAnswer::Refused(r);
     }
@@ -72,8 +72,8 @@ pub fn solve_counts_within(
     if let Check::Refused(r) = check_solve(regions, least, most, room) {
         return SolveAnswer::Refused(r);
     }
-    let mut incident = [NO_ENTRY; EDGE_PLACES];
-    let mut own = [0; EDGE_PLACES];
+    let mut incident = [NO_ENTRY; EDGE_SLOTS];
+    let mut own = [0; EDGE_SLOTS];
     let n = least.len();
     if let Check::Refused(r) = build_graph(regions, n, &mut incident, &mut own) {
         return SolveAnswer::Refused(r);

@@ -18,8 +18,8 @@ pub(crate) const NO_CONSTRAINT: usize = MAX_CONSTRAINTS;
 
 pub(crate) const NO_ENTRY: u16 = NO_CONSTRAINT as u16;
 
-// An edge is in two constraints at most, so it has two places.
-pub(crate) const EDGE_PLACES: usize = 2 * MAX_EDGES;
+// An edge is in two constraints at most, so it has two slots.
+pub(crate) const EDGE_SLOTS: usize = 2 * MAX_EDGES;
 
 // An edge has two changes, +1 and -1.
 pub(crate) const CHANGES: usize = 2 * MAX_EDGES;

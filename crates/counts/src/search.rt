@@ -1,5 +1,5 @@
 // The search for the cheapest unit move from one start: `AugmentSearch` of 000, over tables that are made once.
-// A change is packed in one number, 2 * edge + 1 for +1 and 2 * edge for -1. A place is 2 * edge + k: constraint k (0 or 1) of the edge;
+// A change is packed in one number, 2 * edge + 1 for +1 and 2 * edge for -1. A slot is 2 * edge + k: constraint k (0 or 1) of the edge;
 // `incident` has the constraint's number there, or NO_CONSTRAINT if there is none, and `own` the number of the side on which the edge stands.
 // `used` marks the constraints already crossed (NO_CONSTRAINT always), `path` has the changes so far, `best` the kept reading.
 // `home` is the constraint of the start's edge that is still open, NO_CONSTRAINT if there is none: only there can a loop close.
@@ -14,7 +14,7 @@
 // on, which makes the search two to three times as slow. It is lent where that is done once for each start, to `enter` and `cross`.
 use crate::cost::EPS_IMPROVEMENT;
 use crate::limits::CHANGES;
-use crate::limits::EDGE_PLACES;
+use crate::limits::EDGE_SLOTS;
 use crate::limits::MARKS;
 use crate::limits::NO_CONSTRAINT;
 use crate::limits::PATH_SIZE;
@@ -29,7 +29,7 @@ ghost use Rattle.base.specs.Lists.{member};
 ghost use Rattle.regions.specs.Region.{constraint, holds};
 ghost use Rattle.counts.specs.Move.{balances};
 ghost use Rattle.counts.specs.Search.{is-used, others-changed};
-ghost use Rattle.counts.specs.inner.Tables.{decoded, path-of, the-graph, across, Other, Tables, edge-places, changes, marks-size, path-size, no-constraint, max-sides};
+ghost use Rattle.counts.specs.inner.Tables.{decoded, path-of, the-graph, across, Other, Tables, edge-slots, changes, marks-size, path-size, no-constraint, max-sides};
 ghost use Rattle.counts.specs.inner.SearchContract.{both-sides, both-signed, changed-by, SidesAt, MayCross, MayStep, Crossed, Stepped, Ended, no-marks, fresh-state, Entered, CrossedAll, Searched};
 
 // The kept cost and the length of the kept reading, how many entries there were, and whether one was turned back.
@@ -63,11 +63,11 @@ pub(crate) fn wide(x: u16) -> usize
 
 // ---- reading the tables
 
-fn entry(table: &[u16; EDGE_PLACES], place: usize) -> usize
-    requires { ⌜ place < edge-places ⌝ }
-    ensures { λ r. ⌜ r ≡ getD (now (table .entry)) place 0 ⌝ }
+fn entry(table: &[u16; EDGE_SLOTS], slot: usize) -> usize
+    requires { ⌜ slot < edge-slots ⌝ }
+    ensures { λ r. ⌜ r ≡ getD (now (table .entry)) slot 0 ⌝ }
 {
-    wide(table[place])
+    wide(table[slot])
 }
 
 fn is_allowed(allowed: &[bool; CHANGES], change: usize) -> bool
@@ -98,50 +98,50 @@ fn number_at(regions: &[u16], i: usize) -> usize
     wide(regions[i])
 }
 
-// The place of the edge's constraint besides ci.
-fn other_place(
+// The slot of the edge's constraint besides ci.
+fn other_slot(
     regions: &[u16],
-    incident: &[u16; EDGE_PLACES],
-    own: &[u16; EDGE_PLACES],
+    incident: &[u16; EDGE_SLOTS],
+    own: &[u16; EDGE_SLOTS],
     edge: usize,
     ci: usize,
 ) -> usize
     requires { ⌜ Tables (now regions) (now incident) (now own) ⌝ }
     requires { ⌜ T (holds (constraint (the-graph (now regions)) ci) edge) ⌝ }
-    ensures { λ r. ⌜ (r < edge-places) × (r / 2 ≡ edge) × (getD (now (incident .entry)) r 0 ≤ no-constraint) × Other (the-graph (now (regions .entry))) edge ci (getD (now (incident .entry)) r 0) ⌝ }
+    ensures { λ r. ⌜ (r < edge-slots) × (r / 2 ≡ edge) × (getD (now (incident .entry)) r 0 ≤ no-constraint) × Other (the-graph (now (regions .entry))) edge ci (getD (now (incident .entry)) r 0) ⌝ }
 {
     let k = edge * 2;
     if entry(incident, k) == ci { k + 1 } else { k }
 }
 
-// The place of the edge's constraint ci.
-fn place_in(
+// The slot of the edge's constraint ci.
+fn slot_in(
     regions: &[u16],
-    incident: &[u16; EDGE_PLACES],
-    own: &[u16; EDGE_PLACES],
+    incident: &[u16; EDGE_SLOTS],
+    own: &[u16; EDGE_SLOTS],
     edge: usize,
     ci: usize,
 ) -> usize
     requires { ⌜ Tables (now regions) (now incident) (now own) ⌝ }
     requires { ⌜ T (holds (constraint (the-graph (now regions)) ci) edge) ⌝ }
-    ensures { λ r. ⌜ (r < edge-places) × (r / 2 ≡ edge) × (getD (now (incident .entry)) r 0 ≡ ci) ⌝ }
+    ensures { λ r. ⌜ (r < edge-slots) × (r / 2 ≡ edge) × (getD (now (incident .entry)) r 0 ≡ ci) ⌝ }
 {
     let k = edge * 2;
     if entry(incident, k) == ci { k } else { k + 1 }
 }
 
-// Whether the edge stands on the first side of the constraint at its place.
+// Whether the edge stands on the first side of the constraint at its slot.
 fn on_first_side(
     regions: &[u16],
-    incident: &[u16; EDGE_PLACES],
-    own: &[u16; EDGE_PLACES],
-    place: usize,
+    incident: &[u16; EDGE_SLOTS],
+    own: &[u16; EDGE_SLOTS],
+    slot: usize,
 ) -> bool
     requires { ⌜ Tables (now regions) (now incident) (now own) ⌝ }
-    requires { ⌜ (place < edge-places) × (getD (now incident) place 0 < no-constraint) ⌝ }
-    ensures { λ r. ⌜ r ≡ member (place / 2) (constraint (the-graph (now (regions .entry))) (getD (now (incident .entry)) place 0) .a) ⌝ }
+    requires { ⌜ (slot < edge-slots) × (getD (now incident) slot 0 < no-constraint) ⌝ }
+    ensures { λ r. ⌜ r ≡ member (slot / 2) (constraint (the-graph (now (regions .entry))) (getD (now (incident .entry)) slot 0) .a) ⌝ }
 {
-    entry(own, place) % 4 < 2
+    entry(own, slot) % 4 < 2
 }
 
 // ---- the two sides of a constraint
@@ -156,15 +156,15 @@ fn opposite(side: usize) -> usize
 
 fn sides_of(
     regions: &[u16],
-    incident: &[u16; EDGE_PLACES],
-    own: &[u16; EDGE_PLACES],
-    place: usize,
+    incident: &[u16; EDGE_SLOTS],
+    own: &[u16; EDGE_SLOTS],
+    slot: usize,
 ) -> Sides
     requires { ⌜ Tables (now regions) (now incident) (now own) ⌝ }
-    requires { ⌜ (place < edge-places) × (getD (now incident) place 0 < no-constraint) ⌝ }
-    ensures { λ r. ⌜ SidesAt (now (regions .entry)) (getD (now (incident .entry)) place 0) (place / 2) (r .opposite) (r .split) (r .own) (r .total) ⌝ }
+    requires { ⌜ (slot < edge-slots) × (getD (now incident) slot 0 < no-constraint) ⌝ }
+    ensures { λ r. ⌜ SidesAt (now (regions .entry)) (getD (now (incident .entry)) slot 0) (slot / 2) (r .opposite) (r .split) (r .own) (r .total) ⌝ }
 {
-    let here = entry(own, place);
+    let here = entry(own, slot);
     let there = opposite(here);
     let split = number_at(regions, there * SIDE_SIZE);
     let count = number_at(regions, here * SIDE_SIZE);
@@ -179,16 +179,16 @@ fn sides_of(
 // The edge at j of the two sides.
 fn edge_at(
     regions: &[u16],
-    incident: &[u16; EDGE_PLACES],
-    own: &[u16; EDGE_PLACES],
+    incident: &[u16; EDGE_SLOTS],
+    own: &[u16; EDGE_SLOTS],
     sides: Sides,
-    place: usize,
+    slot: usize,
     j: usize,
 ) -> usize
     requires { ⌜ Tables (now regions) (now incident) (now own) ⌝ }
-    requires { ⌜ SidesAt (now regions) (getD (now incident) place 0) (place / 2) (sides .opposite) (sides .split) (sides .own) (sides .total) ⌝ }
+    requires { ⌜ SidesAt (now regions) (getD (now incident) slot 0) (slot / 2) (sides .opposite) (sides .split) (sides .own) (sides .total) ⌝ }
     requires { ⌜ j < sides .total ⌝ }
-    ensures { λ r. ⌜ r ≡ getD (both-sides (constraint (the-graph (now (regions .entry))) (getD (now (incident .entry)) place 0)) (place / 2)) j 0 ⌝ }
+    ensures { λ r. ⌜ r ≡ getD (both-sides (constraint (the-graph (now (regions .entry))) (getD (now (incident .entry)) slot 0)) (slot / 2)) j 0 ⌝ }
 {
     let split = sides.split;
     if j < split {
@@ -201,17 +201,17 @@ fn edge_at(
 // The same as a change that could follow: the same sign on the opposite side, the other sign on the own side.
 fn partner(
     regions: &[u16],
-    incident: &[u16; EDGE_PLACES],
-    own: &[u16; EDGE_PLACES],
+    incident: &[u16; EDGE_SLOTS],
+    own: &[u16; EDGE_SLOTS],
     sides: Sides,
-    place: usize,
+    slot: usize,
     change: usize,
     j: usize,
 ) -> usize
     requires { ⌜ Tables (now regions) (now incident) (now own) ⌝ }
-    requires { ⌜ SidesAt (now regions) (getD (now incident) place 0) (place / 2) (sides .opposite) (sides .split) (sides .own) (sides .total) ⌝ }
+    requires { ⌜ SidesAt (now regions) (getD (now incident) slot 0) (slot / 2) (sides .opposite) (sides .split) (sides .own) (sides .total) ⌝ }
     requires { ⌜ j < sides .total ⌝ }
-    ensures { λ r. ⌜ (r < changes) × T (holds (constraint (the-graph (now (regions .entry))) (getD (now (incident .entry)) place 0)) (r / 2)) × (decoded r ≡ getD (both-signed (constraint (the-graph (now (regions .entry))) (getD (now (incident .entry)) place 0)) (place / 2) (eqb (change % 2) 1)) j (decoded 0)) ⌝ }
+    ensures { λ r. ⌜ (r < changes) × T (holds (constraint (the-graph (now (regions .entry))) (getD (now (incident .entry)) slot 0)) (r / 2)) × (decoded r ≡ getD (both-signed (constraint (the-graph (now (regions .entry))) (getD (now (incident .entry)) slot 0)) (slot / 2) (eqb (change % 2) 1)) j (decoded 0)) ⌝ }
 {
     let split = sides.split;
     if j < split {
@@ -221,53 +221,53 @@ fn partner(
     }
 }
 
-// Whether the start's change and another one, at a place of `home`, balance there.
+// Whether the start's change and another one, at a slot of `home`, balance there.
 fn balances_with_start(
     regions: &[u16],
-    incident: &[u16; EDGE_PLACES],
-    own: &[u16; EDGE_PLACES],
-    place: usize,
+    incident: &[u16; EDGE_SLOTS],
+    own: &[u16; EDGE_SLOTS],
+    slot: usize,
     change: usize,
     start: usize,
     home: usize,
 ) -> bool
     requires { ⌜ Tables (now regions) (now incident) (now own) ⌝ }
-    requires { ⌜ (place < edge-places) × (place / 2 ≡ change / 2) × (getD (now incident) place 0 ≡ home) × (home < no-constraint) × T (holds (constraint (the-graph (now regions)) home) (start / 2)) ⌝ }
+    requires { ⌜ (slot < edge-slots) × (slot / 2 ≡ change / 2) × (getD (now incident) slot 0 ≡ home) × (home < no-constraint) × T (holds (constraint (the-graph (now regions)) home) (start / 2)) ⌝ }
     ensures { λ r. ⌜ r ≡ balances (constraint (the-graph (now (regions .entry))) home) (decoded start) (decoded change) ⌝ }
 {
-    let start_place = place_in(regions, incident, own, start / 2, home);
-    let start_first = on_first_side(regions, incident, own, start_place);
-    let first = on_first_side(regions, incident, own, place);
+    let start_slot = slot_in(regions, incident, own, start / 2, home);
+    let start_first = on_first_side(regions, incident, own, start_slot);
+    let first = on_first_side(regions, incident, own, slot);
     if start_first == first {
         return start % 2 != change % 2;
     }
     start % 2 == change % 2
 }
 
-// The changed edges that the constraint at a place holds besides the place's own edge; left at the second one found.
+// The changed edges that the constraint at a slot holds besides the slot's own edge; left at the second one found.
 fn changed_in(
     regions: &[u16],
-    incident: &[u16; EDGE_PLACES],
-    own: &[u16; EDGE_PLACES],
-    place: usize,
+    incident: &[u16; EDGE_SLOTS],
+    own: &[u16; EDGE_SLOTS],
+    slot: usize,
     path: &[u16; PATH_SIZE],
     depth: usize,
 ) -> Changed
     requires { ⌜ Tables (now regions) (now incident) (now own) ⌝ }
-    requires { ⌜ (place < edge-places) × (getD (now incident) place 0 < no-constraint) ⌝ }
+    requires { ⌜ (slot < edge-slots) × (getD (now incident) slot 0 < no-constraint) ⌝ }
     requires { ⌜ (depth ≤ path-size) × (length (now path) ≡ path-size) ⌝ }
-    ensures { λ r. ⌜ r ≡ changed-by (others-changed (constraint (the-graph (now (regions .entry))) (getD (now (incident .entry)) place 0)) (place / 2) (path-of depth (now (path .entry)))) ⌝ }
+    ensures { λ r. ⌜ r ≡ changed-by (others-changed (constraint (the-graph (now (regions .entry))) (getD (now (incident .entry)) slot 0)) (slot / 2) (path-of depth (now (path .entry)))) ⌝ }
 {
-    let sides = sides_of(regions, incident, own, place);
+    let sides = sides_of(regions, incident, own, slot);
     let total = sides.total;
     let mut found = Changed::Nothing;
     let mut i = 0;
     'changes: while i < depth {
         let edge = wide(path[i]) / 2;
-        if edge != place / 2 {
+        if edge != slot / 2 {
             let mut j = 0;
             while j < total {
-                if edge_at(regions, incident, own, sides, place, j) == edge {
+                if edge_at(regions, incident, own, sides, slot, j) == edge {
                     match found {
                         Changed::Nothing => {
                             found = Changed::One(edge);
@@ -347,8 +347,8 @@ fn end_chain(
 // The last edge stands in the start's open constraint: the loop closes there if the two balance and no other edge was changed in it.
 fn close_loop(
     regions: &[u16],
-    incident: &[u16; EDGE_PLACES],
-    own: &[u16; EDGE_PLACES],
+    incident: &[u16; EDGE_SLOTS],
+    own: &[u16; EDGE_SLOTS],
     costs: &[f64; CHANGES],
     allowed: &[bool; CHANGES],
     limit: u32,
@@ -356,22 +356,22 @@ fn close_loop(
     path: &[u16; PATH_SIZE],
     best: &mut [u16; PATH_SIZE],
     depth: usize,
-    place: usize,
+    slot: usize,
     cost: f64,
     home: usize,
     state: SearchState,
 ) -> SearchState
     requires { ⌜ Tables (now regions) (now incident) (now own) ⌝ }
-    requires { ⌜ MayCross (the-graph (now regions)) (now incident) (now used) (now path) depth place home ⌝ }
-    requires { ⌜ getD (now incident) place 0 ≡ home ⌝ }
+    requires { ⌜ MayCross (the-graph (now regions)) (now incident) (now used) (now path) depth slot home ⌝ }
+    requires { ⌜ getD (now incident) slot 0 ≡ home ⌝ }
     requires { ⌜ length (now best) ≡ path-size ⌝ }
-    ensures { λ r. ⌜ Crossed (now (regions .entry)) (now (incident .entry)) (now (costs .entry)) (now (allowed .entry)) limit (now (used .entry)) (now (path .entry)) (now (best .entry)) depth place cost state (now (used .entry)) (now (path .entry)) (now (best .exit)) r ⌝ }
+    ensures { λ r. ⌜ Crossed (now (regions .entry)) (now (incident .entry)) (now (costs .entry)) (now (allowed .entry)) limit (now (used .entry)) (now (path .entry)) (now (best .entry)) depth slot cost state (now (used .entry)) (now (path .entry)) (now (best .exit)) r ⌝ }
 {
     let start = wide(path[0]);
     let change = wide(path[depth - 1]);
-    if balances_with_start(regions, incident, own, place, change, start, home) {
+    if balances_with_start(regions, incident, own, slot, change, start, home) {
         if cost < state.kept - EPS_IMPROVEMENT {
-            if let Changed::One(edge) = changed_in(regions, incident, own, place, path, depth) {
+            if let Changed::One(edge) = changed_in(regions, incident, own, slot, path, depth) {
                 if edge == start / 2 {
                     keep_path(path, depth, best);
                     let len = depth as u32;
@@ -393,8 +393,8 @@ fn close_loop(
 // May a change follow through constraint ci, which is used already? Then its edge is entered, and its other constraint crossed.
 fn try_step(
     regions: &[u16],
-    incident: &[u16; EDGE_PLACES],
-    own: &[u16; EDGE_PLACES],
+    incident: &[u16; EDGE_SLOTS],
+    own: &[u16; EDGE_SLOTS],
     costs: &[f64; CHANGES],
     allowed: &[bool; CHANGES],
     limit: u32,
@@ -416,8 +416,8 @@ fn try_step(
 {
     if change / 2 != current {
         if is_allowed(allowed, change) {
-            let place = other_place(regions, incident, own, change / 2, ci);
-            let other = entry(incident, place);
+            let slot = other_slot(regions, incident, own, change / 2, ci);
+            let other = entry(incident, slot);
             if other == NO_CONSTRAINT {
                 let t = SearchState {
                     kept: state.kept,
@@ -457,7 +457,7 @@ fn try_step(
                 path,
                 best,
                 depth + 1,
-                place,
+                slot,
                 c,
                 home,
                 t,
@@ -473,11 +473,11 @@ fn try_step(
     state
 }
 
-// Crosses the unused constraint at a place of the last changed edge: tries its opposite edges, then the others of the own side.
+// Crosses the unused constraint at a slot of the last changed edge: tries its opposite edges, then the others of the own side.
 fn dfs(
     regions: &[u16],
-    incident: &[u16; EDGE_PLACES],
-    own: &[u16; EDGE_PLACES],
+    incident: &[u16; EDGE_SLOTS],
+    own: &[u16; EDGE_SLOTS],
     costs: &[f64; CHANGES],
     allowed: &[bool; CHANGES],
     limit: u32,
@@ -485,17 +485,17 @@ fn dfs(
     path: &mut [u16; PATH_SIZE],
     best: &mut [u16; PATH_SIZE],
     depth: usize,
-    place: usize,
+    slot: usize,
     cost: f64,
     home: usize,
     state: SearchState,
 ) -> SearchState
     requires { ⌜ Tables (now regions) (now incident) (now own) ⌝ }
-    requires { ⌜ MayCross (the-graph (now regions)) (now incident) (now used) (now path) depth place home ⌝ }
+    requires { ⌜ MayCross (the-graph (now regions)) (now incident) (now used) (now path) depth slot home ⌝ }
     requires { ⌜ length (now best) ≡ path-size ⌝ }
-    ensures { λ r. ⌜ Crossed (now (regions .entry)) (now (incident .entry)) (now (costs .entry)) (now (allowed .entry)) limit (now (used .entry)) (now (path .entry)) (now (best .entry)) depth place cost state (now (used .exit)) (now (path .exit)) (now (best .exit)) r ⌝ }
+    ensures { λ r. ⌜ Crossed (now (regions .entry)) (now (incident .entry)) (now (costs .entry)) (now (allowed .entry)) limit (now (used .entry)) (now (path .entry)) (now (best .entry)) depth slot cost state (now (used .exit)) (now (path .exit)) (now (best .exit)) r ⌝ }
 {
-    let ci = entry(incident, place);
+    let ci = entry(incident, slot);
     if ci == home {
         let t = SearchState {
             kept: state.kept,
@@ -514,14 +514,14 @@ fn dfs(
             path,
             best,
             depth,
-            place,
+            slot,
             cost,
             home,
             t,
         );
     }
     let last = wide(path[depth - 1]);
-    let sides = sides_of(regions, incident, own, place);
+    let sides = sides_of(regions, incident, own, slot);
     let total = sides.total;
     let mut out = SearchState {
         kept: state.kept,
@@ -532,7 +532,7 @@ fn dfs(
     used[ci] = true;
     let mut j = 0;
     while j < total {
-        let change = partner(regions, incident, own, sides, place, last, j);
+        let change = partner(regions, incident, own, sides, slot, last, j);
         out = try_step(
             regions,
             incident,
@@ -544,7 +544,7 @@ fn dfs(
             path,
             best,
             depth,
-            place / 2,
+            slot / 2,
             change,
             cost,
             ci,
@@ -584,8 +584,8 @@ pub(crate) fn fresh() -> SearchState
 fn enter_start(
     state: SearchState,
     regions: &[u16],
-    incident: &[u16; EDGE_PLACES],
-    own: &[u16; EDGE_PLACES],
+    incident: &[u16; EDGE_SLOTS],
+    own: &[u16; EDGE_SLOTS],
     costs: &[f64; CHANGES],
     limit: u32,
     path: &mut [u16; PATH_SIZE],
@@ -631,8 +631,8 @@ fn enter_start(
 fn cross_start(
     state: SearchState,
     regions: &[u16],
-    incident: &[u16; EDGE_PLACES],
-    own: &[u16; EDGE_PLACES],
+    incident: &[u16; EDGE_SLOTS],
+    own: &[u16; EDGE_SLOTS],
     costs: &[f64; CHANGES],
     allowed: &[bool; CHANGES],
     limit: u32,
@@ -648,12 +648,12 @@ fn cross_start(
     if state.cut {
         return state;
     }
-    let place = start / 2 * 2;
-    let first = entry(incident, place);
+    let slot = start / 2 * 2;
+    let first = entry(incident, slot);
     if first == NO_CONSTRAINT {
         return state;
     }
-    let second = entry(incident, place + 1);
+    let second = entry(incident, slot + 1);
     let cost = edge_cost(costs, start);
     let t = SearchState {
         kept: state.kept,
@@ -672,7 +672,7 @@ fn cross_start(
         path,
         best,
         1,
-        place,
+        slot,
         cost,
         second,
         t,
@@ -702,7 +702,7 @@ fn cross_start(
         path,
         best,
         1,
-        place + 1,
+        slot + 1,
         cost,
         first,
         u,
@@ -712,8 +712,8 @@ fn cross_start(
 fn enter(
     state: &mut SearchState,
     regions: &[u16],
-    incident: &[u16; EDGE_PLACES],
-    own: &[u16; EDGE_PLACES],
+    incident: &[u16; EDGE_SLOTS],
+    own: &[u16; EDGE_SLOTS],
     costs: &[f64; CHANGES],
     limit: u32,
     path: &mut [u16; PATH_SIZE],
@@ -740,8 +740,8 @@ fn enter(
 fn cross(
     state: &mut SearchState,
     regions: &[u16],
-    incident: &[u16; EDGE_PLACES],
-    own: &[u16; EDGE_PLACES],
+    incident: &[u16; EDGE_SLOTS],
+    own: &[u16; EDGE_SLOTS],
     costs: &[f64; CHANGES],
     allowed: &[bool; CHANGES],
     limit: u32,
@@ -772,8 +772,8 @@ fn cross(
 // The whole search from one change.
 pub(crate) fn run(
     regions: &[u16],
-    incident: &[u16; EDGE_PLACES],
-    own: &[u16; EDGE_PLACES],
+    incident: &[u16; EDGE_SLOTS],
+    own: &[u16; EDGE_SLOTS],
     costs: &[f64; CHANGES],
     allowed: &[bool; CHANGES],
     limit: u32,

@@ -7,7 +7,7 @@ use crate::augment::start_tables;
 use crate::components::label_edges;
 use crate::components::refresh_component;
 use crate::limits::CHANGES;
-use crate::limits::EDGE_PLACES;
+use crate::limits::EDGE_SLOTS;
 use crate::limits::MARKS;
 use crate::limits::MAX_AUGMENTATIONS;
 use crate::limits::NO_CONSTRAINT;
@@ -45,8 +45,8 @@ pub struct MovesMade {
 // One round: the move found, if any, is made. The buffers are lent.
 fn round_in(
     regions: &[u16],
-    incident: &[u16; EDGE_PLACES],
-    own: &[u16; EDGE_PLACES],
+    incident: &[u16; EDGE_SLOTS],
+    own: &[u16; EDGE_SLOTS],
     least: &[f64],
     most: &[f64],
     counts: &mut [u32],
@@ -90,8 +90,8 @@ fn round_in(
 
 pub(crate) fn make_round(
     regions: &[u16],
-    incident: &[u16; EDGE_PLACES],
-    own: &[u16; EDGE_PLACES],
+    incident: &[u16; EDGE_SLOTS],
+    own: &[u16; EDGE_SLOTS],
     least: &[f64],
     most: &[f64],
     counts: &mut [u32],
@@ -166,8 +166,8 @@ fn make_move(
 // Round after round until one finds no move. The buffers are lent.
 fn moves_in(
     regions: &[u16],
-    incident: &[u16; EDGE_PLACES],
-    own: &[u16; EDGE_PLACES],
+    incident: &[u16; EDGE_SLOTS],
+    own: &[u16; EDGE_SLOTS],
     labels: &[u16; MAX_EDGES],
     least: &[f64],
     most: &[f64],
@@ -229,8 +229,8 @@ fn moves_in(
 
 pub(crate) fn make_moves(
     regions: &[u16],
-    incident: &[u16; EDGE_PLACES],
-    own: &[u16; EDGE_PLACES],
+    incident: &[u16; EDGE_SLOTS],
+    own: &[u16; EDGE_SLOTS],
     least: &[f64],
     most: &[f64],
     counts: &mut [u32],
@@ -284,8 +284,8 @@ fn clear(counts: &mut [u32])
 // The counts solved from zeros, or zeros where there is a move too many.
 pub(crate) fn solve_from_zeros(
     regions: &[u16],
-    incident: &[u16; EDGE_PLACES],
-    own: &[u16; EDGE_PLACES],
+    incident: &[u16; EDGE_SLOTS],
+    own: &[u16; EDGE_SLOTS],
     least: &[f64],
     most: &[f64],
     counts: &mut [u32],

@@ -22,7 +22,7 @@ use Rattle.counts.specs.declared.augment.Choice.{Choice}
 use Rattle.counts.specs.declared.search.SearchState.{SearchState}
 use Rattle.regions.specs.Accept.{max-edges}
 use Rattle.base.proofs.BoolLaws.{by-cases, clash, eq→eqb, ne→eqb, same→eqb}
-use Rattle.counts.proofs.search.Places.{encoded-decoded}
+use Rattle.counts.proofs.search.Slots.{encoded-decoded}
 use Rattle.counts.proofs.search.Laws.{each-append}
 
 -- ---- one start

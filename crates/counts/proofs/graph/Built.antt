@@ -17,7 +17,7 @@ use Rattle.base.specs.declared.verdict.Verdict.{Verdict}
 use Rattle.base.specs.Refusal.{passed, refused, outcome, verdict-of, then-test, refuse-if, is-passed}
 use Rattle.regions.specs.Region.{Constraint, places, region-count, constraint, holds, incidence, side-size, record-size}
 use Rattle.regions.specs.Accept.{records-whole, sides-fit, limits-test, pairs-test, overused-test, max-regions, max-edges}
-use Rattle.counts.specs.inner.Tables.{the-graph, no-constraint, edges-on, across, StandsOn, Tables, edge-places}
+use Rattle.counts.specs.inner.Tables.{the-graph, no-constraint, edges-on, across, StandsOn, Tables, edge-slots}
 use Rattle.counts.specs.inner.Graph.{first-side, second-side, side-of, PairTested, Tested, Placed, Filled}
 use Rattle.base.specs.declared.refusal.Check.the-variants.{Passed, Refused}
 use Rattle.base.specs.declared.refusal.Refusal.the-variants.{EdgeOverused}
@@ -240,7 +240,7 @@ tables n regions incident own uses t1 t3 t6 f =
         let r = in-range i y held in
         subst (StandsOn regions i y) (sym (f .own-is y k ly lk h)) (stands-on regions i y (tested n regions t1 t3 .pair-tested i r) r)
 
-    stands : (p : ℕ) → p < edge-places → getD incident p 0 < no-constraint → StandsOn regions (getD incident p 0) (p / 2) (getD own p 0)
+    stands : (p : ℕ) → p < edge-slots → getD incident p 0 < no-constraint → StandsOn regions (getD incident p 0) (p / 2) (getD own p 0)
     stands p l h =
         let e : p / 2 * 2 + p % 2 ≡ p = omega arith in
         subst (λ (q : ℕ). StandsOn regions (getD incident q 0) (p / 2) (getD own q 0)) e

@@ -1,6 +1,6 @@
 -- Laws of filling the tables: one edge, one side, one constraint after the other. Assumes nothing.
--- An edge of which u constraints are placed gets its next one at its place u, if u is below 2. So two lists of edges placed one after the
--- other are placed like their sum, as long as no edge is in both; and the places of an edge hold the list of its constraints.
+-- An edge of which u constraints are placed gets its next one at its slot u, if u is below 2. So two lists of edges placed one after the
+-- other are placed like their sum, as long as no edge is in both; and the slots of an edge hold the list of its constraints.
 use mathlib.Core.Logic.{inl, inr}
 use mathlib.Core.Path.{_≡_, refl, sym, ap, subst, _∙_}
 use mathlib.Core.Bool.{Bool, true, false, not, _&&_, _||_, cond}
@@ -14,7 +14,7 @@ use lib.Dec.{T, eqb, eqb→eq}
 use lib.Ieee.Fits.{and-i, and-l, and-r}
 use Rattle.base.specs.Lists.{member}
 use Rattle.regions.specs.Region.{Constraint, constraint, holds, incidence}
-use Rattle.counts.specs.inner.Tables.{no-constraint, edge-places}
+use Rattle.counts.specs.inner.Tables.{no-constraint, edge-slots}
 use Rattle.counts.specs.inner.Graph.{first-side, second-side, side-of, Sized, Placed, Filled}
 use Rattle.regions.specs.Accept.{max-edges}
 use Rattle.base.proofs.BoolLaws.{T-or-not, clash, eq→eqb, cond-yes, cond-no}
@@ -23,10 +23,10 @@ use Rattle.regions.proofs.region.Constraints.{incidence-take, length-incidence}
 
 -- ---- one edge
 
--- a table read at place k of y, once v stands at place n of e; u is n if y is e
-set-place : (table : List ℕ) (e n v y k u : ℕ) → length table ≡ edge-places → e < max-edges → n < 2 → k < 2 → (y ≡ e → u ≡ n)
+-- a table read at slot k of y, once v stands at slot n of e; u is n if y is e
+set-slot : (table : List ℕ) (e n v y k u : ℕ) → length table ≡ edge-slots → e < max-edges → n < 2 → k < 2 → (y ≡ e → u ≡ n)
     → getD (set table (e * 2 + n) v) (y * 2 + k) 0 ≡ cond (member y (e ∷ []) && eqb u k) v (getD table (y * 2 + k) 0)
-set-place table e n v y k u size le ln lk un = elim (T-or-not (member y (e ∷ []) && eqb u k)) [ inl t ↦ here t | inr t ↦ there t ]
+set-slot table e n v y k u size le ln lk un = elim (T-or-not (member y (e ∷ []) && eqb u k)) [ inl t ↦ here t | inr t ↦ there t ]
   where
     here : T (member y (e ∷ []) && eqb u k) → getD (set table (e * 2 + n) v) (y * 2 + k) 0 ≡ cond (member y (e ∷ []) && eqb u k) v (getD table (y * 2 + k) 0)
     here t =
@@ -79,12 +79,12 @@ module _ (i s e n : ℕ) (incident own uses : List ℕ) (size : Sized incident o
               uses-size = length-set uses e (n + 1) ∙ size .uses-size;
             };
         counted = λ y ly. count-one uses e n y (omega (arith, size .uses-size)) en;
-        incident-at = λ y k ly lk. set-place incident e n i y k (getD uses y 0) (size .incident-size) le ln lk (has y);
-        own-at = λ y k ly lk. set-place own e n s y k (getD uses y 0) (size .own-size) le ln lk (has y);
+        incident-at = λ y k ly lk. set-slot incident e n i y k (getD uses y 0) (size .incident-size) le ln lk (has y);
+        own-at = λ y k ly lk. set-slot own e n s y k (getD uses y 0) (size .own-size) le ln lk (has y);
       }
 
-  no-place : 2 ≤ n → (y k : ℕ) → k < 2 → T (member y (e ∷ []) && eqb (getD uses y 0) k) → ⊥
-  no-place ln y k lk t =
+  no-slot : 2 ≤ n → (y k : ℕ) → k < 2 → T (member y (e ∷ []) && eqb (getD uses y 0) k) → ⊥
+  no-slot ln y k lk t =
       let q = has y (one-in y e (and-l (member y (e ∷ [])) (eqb (getD uses y 0) k) t)) in
       let r = eqb→eq (getD uses y 0) k (and-r (member y (e ∷ [])) (eqb (getD uses y 0) k) t) in
       omega arith
@@ -99,8 +99,8 @@ module _ (i s e n : ℕ) (incident own uses : List ℕ) (size : Sized incident o
               uses-size = length-set uses e (n + 1) ∙ size .uses-size;
             };
         counted = λ y ly. count-one uses e n y (omega (arith, size .uses-size)) en;
-        incident-at = λ y k ly lk. sym (cond-no (member y (e ∷ []) && eqb (getD uses y 0) k) i (getD incident (y * 2 + k) 0) (no-place ln y k lk));
-        own-at = λ y k ly lk. sym (cond-no (member y (e ∷ []) && eqb (getD uses y 0) k) s (getD own (y * 2 + k) 0) (no-place ln y k lk));
+        incident-at = λ y k ly lk. sym (cond-no (member y (e ∷ []) && eqb (getD uses y 0) k) i (getD incident (y * 2 + k) 0) (no-slot ln y k lk));
+        own-at = λ y k ly lk. sym (cond-no (member y (e ∷ []) && eqb (getD uses y 0) k) s (getD own (y * 2 + k) 0) (no-slot ln y k lk));
       }
 
 -- ---- one list of edges after the other: y is in the first (p) or in the second (q), and has u constraints before
@@ -176,13 +176,13 @@ own-kept f i s s' n o p true hp hq h l = hq tt
 own-kept f i s s' n o true false hp hq h l = hp tt
 own-kept f i s s' n o false false hp hq h l = h l
 
-pub filled-none : (g : List Constraint) (incident own uses : List ℕ) → incident ≡ replicate edge-places no-constraint → length own ≡ edge-places → uses ≡ replicate max-edges 0
+pub filled-none : (g : List Constraint) (incident own uses : List ℕ) → incident ≡ replicate edge-slots no-constraint → length own ≡ edge-slots → uses ≡ replicate max-edges 0
     → Filled g [] incident own uses
 filled-none g incident own uses ei size eu =
     record {
       sized =
           record {
-            incident-size = ap length ei ∙ length-replicate {A = ℕ} edge-places no-constraint;
+            incident-size = ap length ei ∙ length-replicate {A = ℕ} edge-slots no-constraint;
             own-size = size;
             uses-size = ap length eu ∙ length-replicate {A = ℕ} max-edges 0;
           };
@@ -192,7 +192,7 @@ filled-none g incident own uses ei size eu =
     }
   where
     empty : (y k : ℕ) → y < max-edges → k < 2 → getD incident (y * 2 + k) 0 ≡ no-constraint
-    empty y k ly lk = ap (λ (l : List ℕ). getD l (y * 2 + k) 0) ei ∙ getD-replicate edge-places (y * 2 + k) no-constraint 0 (omega arith)
+    empty y k ly lk = ap (λ (l : List ℕ). getD l (y * 2 + k) 0) ei ∙ getD-replicate edge-slots (y * 2 + k) no-constraint 0 (omega arith)
 
 pub filled-more : (g : List Constraint) (i : ℕ) (incident own uses incident1 own1 uses1 incident2 own2 uses2 : List ℕ) → i < length g
     → ((y : ℕ) → T (member y (constraint g i .a)) → T (member y (constraint g i .b)) → ⊥)

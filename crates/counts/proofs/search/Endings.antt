@@ -28,7 +28,7 @@ use Rattle.regions.proofs.region.Constraints.{holds→incidence, incidence→ho
 use Rattle.counts.proofs.MoveLaws.{select-in}
 use Rattle.counts.proofs.search.Used.{set-used, still-used}
 use Rattle.counts.proofs.search.Laws.{all-used, barred-alone, chain-complete, dfs-enters, dfs-turned-back, enter-none, none-held, record-high, record-incomplete, record-kept, unused-alone}
-use Rattle.counts.proofs.search.Places.{cost-at, path-longer, start-in}
+use Rattle.counts.proofs.search.Slots.{cost-at, path-longer, start-in}
 use Rattle.counts.proofs.search.Steps.{nothing-written, step-taken}
 use Rattle.counts.proofs.search.Scan.{found-one}
 

@@ -20,7 +20,7 @@ use Rattle.counts.specs.declared.search.Changed.the-variants.{Many, Noth
 use Rattle.base.proofs.BoolLaws.{T-true, ne→eqb, same→eqb}
 use Rattle.base.proofs.ListLaws.{in→member}
 use Rattle.counts.proofs.MoveLaws.{select-append}
-use Rattle.counts.proofs.search.Places.{decoded-append}
+use Rattle.counts.proofs.search.Slots.{decoded-append}
 use Rattle.counts.proofs.search.TwoSides.{holds-both, in-getD, member-append}
 
 -- ---- one change against the edges of both sides

@@ -17,7 +17,7 @@ use Rattle.base.specs.Lists.{In, all, each, filter}
 use Rattle.regions.specs.Region.{Constraint, constraint, holds, incidence}
 use Rattle.counts.specs.Move.{Change}
 use Rattle.counts.specs.Search.{Act, State, dfs, enter, enter-by, entered, eps, free, fresh, is-used, others-changed, run, skip, turned-back}
-use Rattle.counts.specs.inner.Tables.{Other, Tables, all-decoded, allowed-in, cost-in, decoded, no-constraint, path-of, state-of, the-graph, max-constraints, edge-places, changes, marks-size, path-size}
+use Rattle.counts.specs.inner.Tables.{Other, Tables, all-decoded, allowed-in, cost-in, decoded, no-constraint, path-of, state-of, the-graph, max-constraints, edge-slots, changes, marks-size, path-size}
 use Rattle.counts.specs.inner.SearchContract.{Crossed, CrossedAll, Entered, MayCross, Searched, crossing-of, dfs-of, entry-by, entry-of, fresh-state, no-marks, start-cost, visit-of}
 use Rattle.counts.specs.declared.search.SearchState.{SearchState}
 use Rattle.regions.specs.Accept.{max-edges}
@@ -25,7 +25,7 @@ use Rattle.base.proofs.BoolLaws.{T-true, clash, false-T, not-T-false}
 use Rattle.counts.proofs.search.Used.{free-set}
 use Rattle.regions.proofs.region.Constraints.{holds→incidence, incidence→holds}
 use Rattle.counts.proofs.search.Laws.{dfs-enters, dfs-turned-back, record-high, record-kept}
-use Rattle.counts.proofs.search.Places.{entry-holds, entry-most, in-none, one-change, one-constraint, other-differs, other-first, other-held, other-in, other-same, other-second, same-entry, some-constraint, two-constraints}
+use Rattle.counts.proofs.search.Slots.{entry-holds, entry-most, in-none, one-change, one-constraint, other-differs, other-first, other-held, other-in, other-same, other-second, same-entry, some-constraint, two-constraints}
 use Rattle.counts.proofs.search.Scan.{hit-self}
 use Rattle.counts.proofs.search.Marks.{dfs-like}
 
@@ -175,7 +175,7 @@ module _ (regions incident own : List ℕ) (costs : List Float) (allowed : List 
 
   -- ---- a crossing from the start
 
-  pub may-start : (used : List Bool) (path : List ℕ) (p home : ℕ) → used ≡ no-marks → length path ≡ path-size → getD path 0 0 ≡ start → p < edge-places → p / 2 ≡ edge → getD incident p 0 < no-constraint → Other g edge (getD incident p 0) home → home ≤ no-constraint
+  pub may-start : (used : List Bool) (path : List ℕ) (p home : ℕ) → used ≡ no-marks → length path ≡ path-size → getD path 0 0 ≡ start → p < edge-slots → p / 2 ≡ edge → getD incident p 0 < no-constraint → Other g edge (getD incident p 0) home → home ≤ no-constraint
       → MayCross g incident used path 1 p home
   may-start used path p home us long at-start small here real other most =
       subst (λ (u : List Bool). MayCross g incident u path 1 p home) (sym us)
@@ -228,7 +228,7 @@ module _ (regions incident own : List ℕ) (costs : List Float) (allowed : List 
     pub crossed-none : start < changes → st .cut ≡ false → getD incident (edge * 2) 0 ≡ no-constraint → CrossedAll regions costs allowed limit start used path best st used path best st
     crossed-none small whole e = stays (crosses st best whole [] (in-none regions incident own tables edge (omega (arith, small)) e))
 
-  -- `first` and `second` are the entries at the start's two places, and the first is a constraint
+  -- `first` and `second` are the entries at the start's two slots, and the first is a constraint
   module _ (used : List Bool) (path best : List ℕ) (us : used ≡ no-marks) (path-long : length path ≡ path-size) (best-long : length best ≡ path-size) (at-start : getD path 0 0 ≡ start) (small : start < changes)
       (first second : ℕ) (is-first : first ≡ getD incident (edge * 2) 0) (is-second : second ≡ getD incident (edge * 2 + 1) 0) (crossable : first ≢ no-constraint) where
     low : edge < max-edges

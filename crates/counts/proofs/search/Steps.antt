@@ -18,14 +18,14 @@ use Rattle.base.specs.Lists.{In, any, each, differs}
 use Rattle.regions.specs.Region.{Constraint, constraint, holds, incidence}
 use Rattle.counts.specs.Move.{Change, select}
 use Rattle.counts.specs.Search.{Act, State, free, is-used, others-changed, partners, skip, visit}
-use Rattle.counts.specs.inner.Tables.{Other, Tables, all-decoded, allowed-in, cost-in, decoded, path-of, state-of, the-graph, no-constraint, edge-places, changes, path-size}
+use Rattle.counts.specs.inner.Tables.{Other, Tables, all-decoded, allowed-in, cost-in, decoded, path-of, state-of, the-graph, no-constraint, edge-slots, changes, path-size}
 use Rattle.counts.specs.inner.SearchContract.{Crossed, MayCross, MayStep, SidesAt, Stepped, both-signed, dfs-of, try-partner-of, try-step-of, visit-of}
 use Rattle.counts.specs.declared.search.SearchState.{SearchState}
 use Rattle.base.proofs.BoolLaws.{T-true, clash, false-T, ne→eqb, not-T-false, same→eqb}
 use Rattle.counts.proofs.search.Used.{free-set, set-used, still-used, used-before}
 use Rattle.regions.proofs.region.Constraints.{holds→incidence}
 use Rattle.counts.proofs.search.Laws.{barred-other, dfs-enters, dfs-turned-back, each-both, each-suc, enter-one, length-both-signed, may-is, may-not, none-but-next, none-held, not-on-path, opposite-without, try-step-no, try-step-yes, unused-other, visit-crosses}
-use Rattle.counts.proofs.search.Places.{cost-at, encoded-decoded, other-in, path-longer, same-entry}
+use Rattle.counts.proofs.search.Slots.{cost-at, encoded-decoded, other-in, path-longer, same-entry}
 
 -- ---- the ways of a step
 
@@ -129,7 +129,7 @@ start-differs (x ∷ l) (suc n) y h h' e q = true≢false (sym (ap (λ (b : Bool
 
 -- what `dfs` is lent: of the new edge's two constraints one is used and the other is to be crossed, so both invariants hold again
 pub may-cross-next : (g : List Constraint) (incident : List ℕ) (used : List Bool) (path : List ℕ) (n e i d home o k : ℕ)
-    → MayStep g used path n e i d home → d / 2 ≢ e → o < no-constraint → Other g (d / 2) i o → is-used used o ≡ false → o ≡ getD incident k 0 → k < edge-places → k / 2 ≡ d / 2
+    → MayStep g used path n e i d home → d / 2 ≢ e → o < no-constraint → Other g (d / 2) i o → is-used used o ≡ false → o ≡ getD incident k 0 → k < edge-slots → k / 2 ≡ d / 2
     → MayCross g incident used (set path n d) (n + 1) k home
 may-cross-next g incident used path n e i d home o k s ne l w u on small at-y =
     record {

@@ -1,4 +1,4 @@
--- The two sides of a constraint, read from the records at an edge's place: where they stand, which edges they have, and with which signs a step
+-- The two sides of a constraint, read from the records at an edge's slot: where they stand, which edges they have, and with which signs a step
 -- could follow. Assumes nothing.
 use mathlib.Core.Logic.{inl, inr}
 use mathlib.Core.Path.{_≡_, refl, sym, ap, subst, _∙_}

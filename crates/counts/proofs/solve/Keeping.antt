@@ -28,14 +28,14 @@ use Rattle.counts.proofs.MoveLaws.{link}
 use Rattle.regions.proofs.region.Constraints.{holds→incidence}
 use Rattle.base.proofs.ListLaws.{in→member, member→in, nothing-in}
 use Rattle.counts.proofs.MoveLaws.{edges-in}
-use Rattle.counts.proofs.search.Places.{two-places, entry-most, in-none, start-in}
+use Rattle.counts.proofs.search.Slots.{two-slots, entry-most, in-none, start-in}
 use Rattle.counts.proofs.Rounds.{Finds, found}
 use Rattle.counts.proofs.search.Same.{run-same}
 
 -- ---- labels by constraints
 
 held-at : (regions incident own : List ℕ) → Tables regions incident own → (i x : ℕ) → T (holds (constraint (the-graph regions) i) x) → At incident i x
-held-at regions incident own tables i x h = elim (two-places regions incident own tables i x h) [
+held-at regions incident own tables i x h = elim (two-slots regions incident own tables i x h) [
   | inl p ↦ inl (p .0)
   | inr p ↦ inr (first-there, p .0)
 ]

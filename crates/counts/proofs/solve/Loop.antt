@@ -27,7 +27,7 @@ use Rattle.base.proofs.BoolLaws.{by-cases, or-split}
 use Rattle.counts.proofs.augment.Finding.{by-tables, can-apply, tested-ok}
 use Rattle.counts.proofs.solve.Keeping.{ready-again, one-component}
 use Rattle.counts.proofs.Makes.{makes-apply}
-use Rattle.counts.proofs.search.Places.{start-in}
+use Rattle.counts.proofs.search.Slots.{start-in}
 use Rattle.counts.proofs.Solving.{getD-zeros}
 
 -- ---- what was found, by the number of its changes

@@ -13,7 +13,7 @@ use Rattle.counts.specs.inner.Tables.{set-both, Entries, no-constraint, 
 
 -- ---- labels
 
--- edge x has constraint i at one of its two places
+-- edge x has constraint i at one of its two slots
 abbrev pub At : List ℕ → ℕ → ℕ → Type 0
 At incident i x = (getD incident (x * 2) 0 ≡ i) ⊎ ((getD incident (x * 2) 0 < no-constraint) × (getD incident (x * 2 + 1) 0 ≡ i))
 

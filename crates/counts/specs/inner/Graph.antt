@@ -11,7 +11,7 @@ use Rattle.base.specs.declared.verdict.Verdict.{Verdict}
 use Rattle.base.specs.Refusal.{is-passed}
 use Rattle.regions.specs.Region.{Constraint, places, region-count, constraint, incidence, side-size}
 use Rattle.regions.specs.Accept.{max-regions, max-edges, overused-test}
-use Rattle.counts.specs.inner.Tables.{the-graph, no-constraint, edges-on, Tables, max-sides, edge-places}
+use Rattle.counts.specs.inner.Tables.{the-graph, no-constraint, edges-on, Tables, max-sides, edge-slots}
 
 abbrev pub first-side : ℕ → ℕ
 first-side i = i / 2 * 4 + i % 2
@@ -21,7 +21,7 @@ second-side i = first-side i + 2
 
 -- ---- what records that passed tests 1 and 3 to 5 have
 
--- of side s: it is there, its number of edges fits, its edges are distinct and each has its places
+-- of side s: it is there, its number of edges fits, its edges are distinct and each has its slots
 pub record SideTested (regions : List ℕ) (s : ℕ) : Type 0 where
   pub numbered : s < max-sides
   pub fits : s * side-size places + side-size places ≤ length regions
@@ -42,11 +42,11 @@ pub record Tested (regions : List ℕ) : Type 0 where
 -- ---- what stands in the tables: `uses` has the number of constraints of each edge
 
 pub record Sized (incident own uses : List ℕ) : Type 0 where
-  pub incident-size : length incident ≡ edge-places
-  pub own-size : length own ≡ edge-places
+  pub incident-size : length incident ≡ edge-slots
+  pub own-size : length own ≡ edge-slots
   pub uses-size : length uses ≡ max-edges
 
--- The edges of l, which stand on side s of constraint i, are put into the tables: each counts one use more, and i and s stand at its place
+-- The edges of l, which stand on side s of constraint i, are put into the tables: each counts one use more, and i and s stand at its slot
 -- with the number of its uses before, if that is below 2. All else is as it was.
 pub record Placed (i s : ℕ) (l incident own uses incident' own' uses' : List ℕ) : Type 0 where
   pub sized : Sized incident' own' uses'
@@ -73,5 +73,5 @@ pub record Filled (g placed : List Constraint) (incident own uses : List ℕ) : 
 pub record Built (n : ℕ) (regions incident own : List ℕ) (verdict : Verdict) : Type 0 where
   pub verdict-is : verdict ≡ overused-test (the-graph regions) 0 n
   pub tables : T (is-passed verdict) → Tables regions incident own
-  pub incident-size : length incident ≡ edge-places
-  pub own-size : length own ≡ edge-places
+  pub incident-size : length incident ≡ edge-slots
+  pub own-size : length own ≡ edge-slots

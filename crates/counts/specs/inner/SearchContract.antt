@@ -14,7 +14,7 @@ use Rattle.base.specs.Lists.{any, each, differs}
 use Rattle.regions.specs.Region.{places, Constraint, constraint, holds, own-side, opposite-side, incidence}
 use Rattle.counts.specs.Move.{Change, select}
 use Rattle.counts.specs.Search.{Go, Act, State, skip, turned-back, entered, record-path, signed, others-changed, is-used, free, try-step, visit, dfs, run}
-use Rattle.counts.specs.inner.Tables.{decoded, path-of, state-of, the-graph, cost-in, allowed-in, no-constraint, Other, Tables, edge-places, changes, marks-size, path-size}
+use Rattle.counts.specs.inner.Tables.{decoded, path-of, state-of, the-graph, cost-in, allowed-in, no-constraint, Other, Tables, edge-slots, changes, marks-size, path-size}
 use Rattle.counts.specs.declared.search.SearchState.{SearchState}
 use Rattle.counts.specs.declared.search.Changed.{Changed}
 use Rattle.counts.specs.declared.search.Changed.the-variants.{Nothing, One, Many}
@@ -69,13 +69,13 @@ pub record Home (g : List Constraint) (used : List Bool) (path : List ℕ) (home
   pub unmet : home ≢ no-constraint → is-used used home ≡ false
   pub at-most : home ≤ no-constraint
 
--- `dfs` is to cross the unused constraint at place p of the last of n changes
+-- `dfs` is to cross the unused constraint at slot p of the last of n changes
 pub record MayCross (g : List Constraint) (incident : List ℕ) (used : List Bool) (path : List ℕ) (n p home : ℕ) : Type 0 where
   pub one : 1 ≤ n
   pub room : n + free used ≤ marks-size
   pub long : length used ≡ marks-size
   pub path-long : length path ≡ path-size
-  pub small : p < edge-places
+  pub small : p < edge-slots
   pub here : getD path (n - 1) 0 / 2 ≡ p / 2
   pub real : getD incident p 0 < no-constraint
   pub unused : is-used used (getD incident p 0) ≡ false

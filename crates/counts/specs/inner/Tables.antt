@@ -1,6 +1,6 @@
 -- What the search's tables, buffers and state stand for: the records that the contracts of the functions below the public ones cite.
 -- Assumes nothing.
--- A place is 2 * edge + k: constraint k (0 or 1) of the edge. A change is packed in one number, 2 * edge + 1 for +1 and 2 * edge for -1.
+-- A slot is 2 * edge + k: constraint k (0 or 1) of the edge. A change is packed in one number, 2 * edge + 1 for +1 and 2 * edge for -1.
 use mathlib.Core.Logic.{_≢_}
 use mathlib.Core.Path.{_≡_}
 use mathlib.Core.Bool.{Bool, true, false, cond}
@@ -73,9 +73,9 @@ max-sides = 4 * max-regions
 abbrev pub no-constraint : ℕ
 no-constraint = max-constraints
 
--- an edge has two places, one for each of its constraints, and two changes, +1 and -1
-abbrev pub edge-places : ℕ
-edge-places = 2 * max-edges
+-- an edge has two slots, one for each of its constraints, and two changes, +1 and -1
+abbrev pub edge-slots : ℕ
+edge-slots = 2 * max-edges
 
 abbrev pub changes : ℕ
 changes = 2 * max-edges
@@ -114,11 +114,11 @@ pub record StandsOn (regions : List ℕ) (i x s : ℕ) : Type 0 where
   pub opposite-few : getD regions (across s * side-size places) 0 ≤ places
   pub first : member x (constraint (the-graph regions) i .a) ≡ ltb (s % 4) 2
 
--- The tables stand for the records: `incident` has the constraint at each place, or none, and `own` the side on which the edge stands there.
+-- The tables stand for the records: `incident` has the constraint at each slot, or none, and `own` the side on which the edge stands there.
 pub record Tables (regions incident own : List ℕ) : Type 0 where
   pub parted : (i y : ℕ) → T (member y (constraint (the-graph regions) i .a)) → T (member y (constraint (the-graph regions) i .b)) → ⊥
   pub few : (i y : ℕ) → T (holds (constraint (the-graph regions) i) y) → y < max-edges
   pub numbered : (i y : ℕ) → T (holds (constraint (the-graph regions) i) y) → i < max-constraints
   pub incident-is : (y k : ℕ) → y < max-edges → k < 2 → getD incident (y * 2 + k) 0 ≡ getD (incidence (the-graph regions) y) k no-constraint
   pub thin : (y : ℕ) → length (incidence (the-graph regions) y) ≤ 2
-  pub stands : (p : ℕ) → p < edge-places → getD incident p 0 < no-constraint → StandsOn regions (getD incident p 0) (p / 2) (getD own p 0)
+  pub stands : (p : ℕ) → p < edge-slots → getD incident p 0 < no-constraint → StandsOn regions (getD incident p 0) (p / 2) (getD own p 0)

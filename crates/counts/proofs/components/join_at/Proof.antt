@@ -1,4 +1,4 @@
--- `components::join_at` meets its contract, by what the two places of the edge hold. Assumes nothing.
+-- `components::join_at` meets its contract, by what the two slots of the edge hold. Assumes nothing.
 use mathlib.Core.Path.{refl, sym}
 use native.Mathlib.Omega.{arith}
 use lib.ListN.{getD}

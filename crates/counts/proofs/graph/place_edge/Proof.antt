@@ -1,4 +1,4 @@
--- `place_edge` meets its contract: with two uses already the edge is only counted, and else it gets the place of that number. Assumes nothing.
+-- `place_edge` meets its contract: with two uses already the edge is only counted, and else it gets the slot of that number. Assumes nothing.
 use mathlib.Core.Path.{refl}
 use native.Mathlib.Omega.{arith}
 use borrow.Author.Needs.{needs}

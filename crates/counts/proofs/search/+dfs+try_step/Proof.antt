@@ -5,7 +5,7 @@ use Prim.Native.Nat.{ℕ, _+_, _-_, _*_, _<_}
 use native.Mathlib.Omega.{arith}
 use Rattle.counts.specs.Move.{cost}
 use Rattle.counts.specs.Search.{free}
-use Rattle.counts.proofs.search.Places.{other-same}
+use Rattle.counts.proofs.search.Slots.{other-same}
 use Rattle.counts.proofs.search.Steps.{Walking, may-cross-next, may-step-now, step-back, step-barred, step-crosses, step-shut, step-turned-back, walk-ends, walks-on}
 use borrow.Author.Needs.{needs}
 use borrow.Fn.Kinds.{In}
@@ -22,7 +22,7 @@ use Rattle.counts.proofs.search.end_chain.Reads as end-chain-reads
 use Rattle.counts.proofs.search.entry.Reads as entry-reads
 use Rattle.counts.proofs.search.is_allowed.Reads as is-allowed-reads
 use Rattle.counts.proofs.search.is_used.Reads as is-used-reads
-use Rattle.counts.proofs.search.other_place.Reads as other-place-reads
+use Rattle.counts.proofs.search.other_slot.Reads as other-slot-reads
 use Rattle.counts.proofs.search.partner.Reads as partner-reads
 use Rattle.counts.proofs.search.sides_of.Reads as sides-of-reads
 use Rattle.counts.proofs.search.wide.Reads as wide-reads
@@ -49,17 +49,17 @@ try-step-below t =
     and 8 try-step-kinds.ps (falls 8 try-step-kinds.ps _<_ μ-try-step t) try-step.Pre
 
 abbrev dfs-Inv-loop : dfs-lts.InvT-loop
-dfs-Inv-loop regions incident own costs allowed limit used₀ path₀ best₀ depth place cost home ci last sides total out₀ j₀ used path best out j =
-    Walking regions costs allowed limit used₀ path₀ best₀ depth place cost out₀ ci last total used path best out j
+dfs-Inv-loop regions incident own costs allowed limit used₀ path₀ best₀ depth slot cost home ci last sides total out₀ j₀ used path best out j =
+    Walking regions costs allowed limit used₀ path₀ best₀ depth slot cost out₀ ci last total used path best out j
 
 abbrev dfs-μ-loop : dfs-lts.MeasureT-loop
-dfs-μ-loop regions incident own costs allowed limit used₀ path₀ best₀ depth place cost home ci last sides total out₀ j₀ used path best out j = total - j
+dfs-μ-loop regions incident own costs allowed limit used₀ path₀ best₀ depth slot cost home ci last sides total out₀ j₀ used path best out j = total - j
 
 abbrev dfs-calls : ℕ → dfs-lts.Claims
 dfs-calls t = (entry-reads.Asked, entry-reads.Learnt, close-loop-reads.Asked, close-loop-reads.Learnt, wide-reads.Asked, wide-reads.Learnt, sides-of-reads.Asked, sides-of-reads.Learnt, partner-reads.Asked, partner-reads.Learnt, try-step-below t, try-step.Post)
 
 abbrev try-step-calls : ℕ → try-step-lts.Claims
-try-step-calls t = (is-allowed-reads.Asked, is-allowed-reads.Learnt, other-place-reads.Asked, other-place-reads.Learnt, entry-reads.Asked, entry-reads.Learnt, end-chain-reads.Asked, end-chain-reads.Learnt, is-used-reads.Asked, is-used-reads.Learnt, edge-cost-reads.Asked, edge-cost-reads.Learnt, dfs-below t, dfs.Post)
+try-step-calls t = (is-allowed-reads.Asked, is-allowed-reads.Learnt, other-slot-reads.Asked, other-slot-reads.Learnt, entry-reads.Asked, entry-reads.Learnt, end-chain-reads.Asked, end-chain-reads.Learnt, is-used-reads.Asked, is-used-reads.Learnt, edge-cost-reads.Asked, edge-cost-reads.Learnt, dfs-below t, dfs.Post)
 
 dfs-entry-requires : (t : ℕ) → dfs-lts.Need-entry-requires (dfs-calls t) (dfs-at t) dfs.Post dfs-Inv-loop dfs-μ-loop
 dfs-entry-requires t c κs = search needs
@@ -123,8 +123,8 @@ dfs-returns-2 t c = let s = c .before .before .before .before .before .before .b
 try-step-is-allowed-requires : (t : ℕ) → try-step-lts.Need-is-allowed-requires (try-step-calls t) (try-step-at t) try-step.Post
 try-step-is-allowed-requires t c κs = search needs
 
-try-step-other-place-requires : (t : ℕ) → try-step-lts.Need-other-place-requires (try-step-calls t) (try-step-at t) try-step.Post
-try-step-other-place-requires t c κs = let s = c .before .before .before .before in (s .pre .1 .0, s .pre .1 .1 .0 .through)
+try-step-other-slot-requires : (t : ℕ) → try-step-lts.Need-other-slot-requires (try-step-calls t) (try-step-at t) try-step.Post
+try-step-other-slot-requires t c κs = let s = c .before .before .before .before in (s .pre .1 .0, s .pre .1 .1 .0 .through)
 
 try-step-entry-requires : (t : ℕ) → try-step-lts.Need-entry-requires (try-step-calls t) (try-step-at t) try-step.Post
 try-step-entry-requires t c κs = search needs
@@ -137,15 +137,15 @@ try-step-end-chain-requires t c κs = let s = c .before .before .before .before 
 try-step-returns : (t : ℕ) → try-step-lts.Need-returns (try-step-calls t) (try-step-at t) try-step.Post
 try-step-returns t c = let s = c .before .before .before .before .before .before .before .before .before .before in
     c .end-chain .ensures (s .args .regions .now) (s .args .incident .now) (s .args .own .now) (s .args .allowed .now) (s .args .used .now) (s .args .current) (s .args .ci) (s .pre .1 .0) (s .pre .1 .1 .0)
-    (c .before .before .before .before .before .before .before .before .if1 .taken) (sym (c .before .before .before .before .before .before .before .is-allowed .ensures) ∙ c .before .before .before .before .before .before .if2 .taken) (other-same (sym (c .before .before .before .if3 .taken) ∙ c .before .before .before .before .entry .ensures) (c .before .before .before .before .before .other-place .ensures .3))
+    (c .before .before .before .before .before .before .before .before .if1 .taken) (sym (c .before .before .before .before .before .before .before .is-allowed .ensures) ∙ c .before .before .before .before .before .before .if2 .taken) (other-same (sym (c .before .before .before .if3 .taken) ∙ c .before .before .before .before .entry .ensures) (c .before .before .before .before .before .other-slot .ensures .3))
 
 try-step-is-used-requires : (t : ℕ) → try-step-lts.Need-is-used-requires (try-step-calls t) (try-step-at t) try-step.Post
-try-step-is-used-requires t c κs = let a = c .before .before .entry .ensures in let o = c .before .before .before .other-place .ensures .2 in (omega (arith, a, o), c .before .before .before .before .before .before .before .before .pre .1 .1 .0 .long)
+try-step-is-used-requires t c κs = let a = c .before .before .entry .ensures in let o = c .before .before .before .other-slot .ensures .2 in (omega (arith, a, o), c .before .before .before .before .before .before .before .before .pre .1 .1 .0 .long)
 
 try-step-returns-2 : (t : ℕ) → try-step-lts.Need-returns-2 (try-step-calls t) (try-step-at t) try-step.Post
 try-step-returns-2 t c = let s = c .before .before .before .before .before .before .before .before .before .before in
     let a = c .before .before .before .before .entry .ensures in
-    let o = c .before .before .before .before .before .other-place .ensures in
+    let o = c .before .before .before .before .before .other-slot .ensures in
     let m = o .2 in
     let n = c .before .before .before .if3 .left in
     step-shut _ _ _ _ _ _ _ _ _ _ _ _ _ _ _ (s .pre .1 .1 .0) (c .before .before .before .before .before .before .before .before .if1 .taken) (sym (c .before .before .before .before .before .before .before .is-allowed .ensures) ∙ c .before .before .before .before .before .before .if2 .taken) (omega (arith, a, m, n)) (other-same a (o .3)) (sym (c .before .is-used .ensures) ∙ c .if4 .taken)
@@ -153,7 +153,7 @@ try-step-returns-2 t c = let s = c .before .before .before .before .before .befo
 try-step-returns-3 : (t : ℕ) → try-step-lts.Need-returns-3 (try-step-calls t) (try-step-at t) try-step.Post
 try-step-returns-3 t c = let s = c .before .before .before .before .before .before .before .before .before .before .before .before in
     let a = c .before .before .before .before .before .before .entry .ensures in
-    let o = c .before .before .before .before .before .before .before .other-place .ensures in
+    let o = c .before .before .before .before .before .before .before .other-slot .ensures in
     let m = o .2 in
     let n = c .before .before .before .before .before .if3 .left in
     step-turned-back _ _ _ _ _ _ _ _ _ _ _ _ _ _ _ (s .pre .1 .1 .0) (c .before .before .before .before .before .before .before .before .before .before .if1 .taken) (sym (c .before .before .before .before .before .before .before .before .before .is-allowed .ensures) ∙ c .before .before .before .before .before .before .before .before .if2 .taken) (omega (arith, a, m, n)) (other-same a (o .3)) (sym (c .before .before .before .is-used .ensures) ∙ c .before .before .if4 .left) (c .if5 .taken)
@@ -179,7 +179,7 @@ try-step-add-dfs t c = search needs
 try-step-dfs-requires : (t : ℕ) → try-step-lts.Need-dfs-requires (try-step-calls t) (try-step-at t) try-step.Post
 try-step-dfs-requires t c κs = let s = c .before .before .before .before .before .before .before .before .before .before .before .before .before .before .before .before .before in
     let a = c .before .before .before .before .before .before .before .before .before .before .before .entry .ensures in
-    let o = c .before .before .before .before .before .before .before .before .before .before .before .before .other-place .ensures in
+    let o = c .before .before .before .before .before .before .before .before .before .before .before .before .other-slot .ensures in
     let m = o .2 in
     let n = c .before .before .before .before .before .before .before .before .before .before .if3 .left in
     let h = s .pre .0 in
@@ -189,7 +189,7 @@ try-step-dfs-requires t c κs = let s = c .before .before .before .before .befor
 try-step-returns-4 : (t : ℕ) → try-step-lts.Need-returns-4 (try-step-calls t) (try-step-at t) try-step.Post
 try-step-returns-4 t c = let s = c .before .before .before .before .before .before .before .before .before .before .before .before .before .before .before .before .before .before in
     let a = c .before .before .before .before .before .before .before .before .before .before .before .before .entry .ensures in
-    let o = c .before .before .before .before .before .before .before .before .before .before .before .before .before .other-place .ensures in
+    let o = c .before .before .before .before .before .before .before .before .before .before .before .before .before .other-slot .ensures in
     let m = o .2 in
     let n = c .before .before .before .before .before .before .before .before .before .before .before .if3 .left in
     let h = c .before .before .before .before .before .before .if5 .left in
@@ -228,7 +228,7 @@ pub +dfs+try-step-spec : {M : Type 1} → statement M
     (try-step-at t)
     try-step.Post
     (try-step-is-allowed-requires t)
-    (try-step-other-place-requires t)
+    (try-step-other-slot-requires t)
     (try-step-entry-requires t)
     (try-step-end-chain-requires t)
     (try-step-returns t)

@@ -32,16 +32,16 @@ no-later (inl e) = omega (arith, e)
 no-later (inr e) = omega (arith, e)
 
 abbrev Inv-loop : tie.InvT-loop
-Inv-loop regions incident own place path depth sides total found₀ i edge j₀ found j = (found ≡ found₀) × (j ≤ total) × (member edge (take j (both-sides (constraint (the-graph regions) (getD incident place 0)) (place / 2))) ≡ false)
+Inv-loop regions incident own slot path depth sides total found₀ i edge j₀ found j = (found ≡ found₀) × (j ≤ total) × (member edge (take j (both-sides (constraint (the-graph regions) (getD incident slot 0)) (slot / 2))) ≡ false)
 
 abbrev μ-loop : tie.MeasureT-loop
-μ-loop regions incident own place path depth sides total found₀ i edge j₀ found j = total - j
+μ-loop regions incident own slot path depth sides total found₀ i edge j₀ found j = total - j
 
 abbrev Inv-changes : tie.InvT-changes
-Inv-changes regions incident own place path depth sides total found₀ i₀ found i = (i ≤ depth) × (found ≡ changed-by (others-changed (constraint (the-graph regions) (getD incident place 0)) (place / 2) (path-of i path)))
+Inv-changes regions incident own slot path depth sides total found₀ i₀ found i = (i ≤ depth) × (found ≡ changed-by (others-changed (constraint (the-graph regions) (getD incident slot 0)) (slot / 2) (path-of i path)))
 
 abbrev μ-changes : tie.MeasureT-changes
-μ-changes regions incident own place path depth sides total found₀ i₀ found i = depth - i
+μ-changes regions incident own slot path depth sides total found₀ i₀ found i = depth - i
 
 sides-of-requires : tie.Need-sides-of-requires Inv-loop μ-loop Inv-changes μ-changes
 sides-of-requires c κs = (c .before .pre .0, c .before .pre .1 .0)
@@ -78,7 +78,7 @@ loop-again c = let s = c .before .before .before .before .before .before .before
     let i = c .before .before .before .loop in
     let t = c .before .before .loop-test .taken in
     let q = length-both-sides _ _ _ _ _ _ _ (c .before .before .before .before .before .before .before .before .before .sides-of .ensures) in
-    (i .inv .0, omega (arith, t), missed (both-sides (constraint (the-graph (s .args .regions .now)) (getD (s .args .incident .now) (s .args .place) 0)) (s .args .place / 2)) (c .before .before .before .before .before .wide .result / 2) (i .j) (omega (arith, q, t)) (i .inv .2) (λ r. c .if2 .left (c .before .edge-at .ensures ∙ r)))
+    (i .inv .0, omega (arith, t), missed (both-sides (constraint (the-graph (s .args .regions .now)) (getD (s .args .incident .now) (s .args .slot) 0)) (s .args .slot / 2)) (c .before .before .before .before .before .wide .result / 2) (i .j) (omega (arith, q, t)) (i .inv .2) (λ r. c .if2 .left (c .before .edge-at .ensures ∙ r)))
 
 add-i : tie.Need-add-i Inv-loop μ-loop Inv-changes μ-changes
 add-i c = let a = c .before .before .before .changes-test .taken in let b = c .before .before .before .before .before .before .before .pre .1 .1 .0 in record { fits = omega (arith, a, b) }
@@ -99,11 +99,11 @@ changes-again c = let s = c .before .before .before .before .before .before .bef
     let h : i .i < length l = omega (arith, a, few, long) in (
       omega (arith, a),
       ⊎-elim
-          (λ w. (w .3 ∙ w .1 .inv .0) ∙ scan-miss (constraint (the-graph (s .args .regions .now)) (getD (s .args .incident .now) (s .args .place) 0)) (s .args .place / 2) l (i .i) (i .found) edge h e (i .inv .1) (hit-none (constraint (the-graph (s .args .regions .now)) (getD (s .args .incident .now) (s .args .place) 0)) (s .args .place / 2) edge (w .1 .j) (w .1 .inv .2) (let x = w .2 .left in omega (arith, q, x))))
+          (λ w. (w .3 ∙ w .1 .inv .0) ∙ scan-miss (constraint (the-graph (s .args .regions .now)) (getD (s .args .incident .now) (s .args .slot) 0)) (s .args .slot / 2) l (i .i) (i .found) edge h e (i .inv .1) (hit-none (constraint (the-graph (s .args .regions .now)) (getD (s .args .incident .now) (s .args .slot) 0)) (s .args .slot / 2) edge (w .1 .j) (w .1 .inv .2) (let x = w .2 .left in omega (arith, q, x))))
           (⊎-elim
-          (λ w. w .7 ∙ scan-first (constraint (the-graph (s .args .regions .now)) (getD (s .args .incident .now) (s .args .place) 0)) (s .args .place / 2) l (i .i) (i .found) edge h e (i .inv .1) (sym (w .1 .inv .0) ∙ w .6 .given .1)
-          (hit-yes (constraint (the-graph (s .args .regions .now)) (getD (s .args .incident .now) (s .args .place) 0)) (s .args .place / 2) edge (w .1 .j) (w .0 .taken) (let x = w .2 .taken in omega (arith, q, x)) (sym (w .3 .ensures) ∙ w .4 .taken)))
-          (λ w. w .1 ∙ scan-miss (constraint (the-graph (s .args .regions .now)) (getD (s .args .incident .now) (s .args .place) 0)) (s .args .place / 2) l (i .i) (i .found) edge h e (i .inv .1) (hit-self (constraint (the-graph (s .args .regions .now)) (getD (s .args .incident .now) (s .args .place) 0)) (s .args .place / 2) edge (w .0 .left)))) (c .if1 .came),
+          (λ w. w .7 ∙ scan-first (constraint (the-graph (s .args .regions .now)) (getD (s .args .incident .now) (s .args .slot) 0)) (s .args .slot / 2) l (i .i) (i .found) edge h e (i .inv .1) (sym (w .1 .inv .0) ∙ w .6 .given .1)
+          (hit-yes (constraint (the-graph (s .args .regions .now)) (getD (s .args .incident .now) (s .args .slot) 0)) (s .args .slot / 2) edge (w .1 .j) (w .0 .taken) (let x = w .2 .taken in omega (arith, q, x)) (sym (w .3 .ensures) ∙ w .4 .taken)))
+          (λ w. w .1 ∙ scan-miss (constraint (the-graph (s .args .regions .now)) (getD (s .args .incident .now) (s .args .slot) 0)) (s .args .slot / 2) l (i .i) (i .found) edge h e (i .inv .1) (hit-self (constraint (the-graph (s .args .regions .now)) (getD (s .args .incident .now) (s .args .slot) 0)) (s .args .slot / 2) edge (w .0 .left)))) (c .if1 .came),
     )
 
 returns : tie.Need-returns Inv-loop μ-loop Inv-changes μ-changes
@@ -112,7 +112,7 @@ returns c = let s = c .before .before .before .before in
     let n = c .changes-test .left in
     let m = i .inv .0 in
     let e : i .i ≡ s .args .depth = omega (arith, n, m) in
-    i .inv .1 ∙ ap (λ (k : ℕ). changed-by (others-changed (constraint (the-graph (s .args .regions .now)) (getD (s .args .incident .now) (s .args .place) 0)) (s .args .place / 2) (path-of k (s .args .path .now)))) e
+    i .inv .1 ∙ ap (λ (k : ℕ). changed-by (others-changed (constraint (the-graph (s .args .regions .now)) (getD (s .args .incident .now) (s .args .slot) 0)) (s .args .slot / 2) (path-of k (s .args .path .now)))) e
 
 returns-2 : tie.Need-returns-2 Inv-loop μ-loop Inv-changes μ-changes
 returns-2 c = let s = c .before .before .before .before .before .before .before .before .before .before .before .before in
@@ -121,9 +121,9 @@ returns-2 c = let s = c .before .before .before .before .before .before .before 
     let a = c .before .before .before .before .before .before .before .before .changes-test .taken in
     let q = length-both-sides _ _ _ _ _ _ _ (c .before .before .before .before .before .before .before .before .before .before .sides-of .ensures) in
     let t = c .before .before .before .loop-test .taken in
-    scan-second (constraint (the-graph (s .args .regions .now)) (getD (s .args .incident .now) (s .args .place) 0)) (s .args .place / 2) _ _ _ _ _ a (omega (arith, a, few, long)) (ap (λ (k : ℕ). k / 2) (c .before .before .before .before .before .before .wide .ensures .0)) (c .before .before .before .before .before .before .before .before .before .changes .inv .1)
+    scan-second (constraint (the-graph (s .args .regions .now)) (getD (s .args .incident .now) (s .args .slot) 0)) (s .args .slot / 2) _ _ _ _ _ a (omega (arith, a, few, long)) (ap (λ (k : ℕ). k / 2) (c .before .before .before .before .before .before .wide .ensures .0)) (c .before .before .before .before .before .before .before .before .before .changes .inv .1)
     (λ r. no-later (subst (λ (k : Changed). OneOf (1 ∷ 2 ∷ []) (tagOf the-type k)) (c .before .before .before .before .loop .inv .0 ∙ r) (c .match .keys2)))
-    (hit-yes (constraint (the-graph (s .args .regions .now)) (getD (s .args .incident .now) (s .args .place) 0)) (s .args .place / 2) _ _ (c .before .before .before .before .before .if1 .taken) (omega (arith, q, t)) (sym (c .before .before .edge-at .ensures) ∙ c .before .if2 .taken))
+    (hit-yes (constraint (the-graph (s .args .regions .now)) (getD (s .args .incident .now) (s .args .slot) 0)) (s .args .slot / 2) _ _ (c .before .before .before .before .before .if1 .taken) (omega (arith, q, t)) (sym (c .before .before .edge-at .ensures) ∙ c .before .if2 .taken))
 
 pub changed-in-spec : {M : Type 1} → statement M
 changed-in-spec =

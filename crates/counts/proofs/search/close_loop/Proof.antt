@@ -76,18 +76,18 @@ returns : tie.Need-returns
 unfolding lib.Ieee.ofBits
 returns c = let s = c .before .before .before .before .before .before .before .before .before .before .before .before .before .before .before .before in
     close-kept _ _ _ _ _ _ _ _ _ _ _ _ _ _ _ (s .pre .0) (s .pre .1 .0) (s .pre .1 .1 .0) (balances-same (constraint (the-graph (s .args .regions .now)) (s .args .home)) _ _ _ _ _ _ (c .before .before .before .before .before .before .before .before .before .before .before .before .before .wide .ensures .0) (c .before .before .before .before .before .before .before .before .before .before .before .wide2 .ensures .0) (c .before .before .before .before .before .before .before .before .before .before .balances-with-start .ensures) (c .before .before .before .before .before .before .before .before .before .if1 .taken)) (c .before .before .before .before .before .before .before .if2 .taken)
-    (changed-same (the-graph (s .args .regions .now)) (path-of (s .args .depth) (s .args .path .now)) (s .args .place / 2) _ _ (c .before .before .before .before .before .before .changed-in .ensures) (s .pre .1 .1 .0) ∙ c .before .before .before .before .edge .given .1 ∙ ap One (c .before .before .if3 .taken ∙ ap (λ (k : ℕ). k / 2) (c .before .before .before .before .before .before .before .before .before .before .before .before .before .wide .ensures .0)))
+    (changed-same (the-graph (s .args .regions .now)) (path-of (s .args .depth) (s .args .path .now)) (s .args .slot / 2) _ _ (c .before .before .before .before .before .before .changed-in .ensures) (s .pre .1 .1 .0) ∙ c .before .before .before .before .edge .given .1 ∙ ap One (c .before .before .if3 .taken ∙ ap (λ (k : ℕ). k / 2) (c .before .before .before .before .before .before .before .before .before .before .before .before .before .wide .ensures .0)))
     (c .keep-path .ensures .0) (c .keep-path .ensures .1 ∙ sym (s .pre .1 .1 .1))
 
 returns-2 : tie.Need-returns-2
 returns-2 c = let s = c .before .before .before .before .before .before .before .before .before .before .before .before .before .before in
     close-others _ _ _ _ _ _ _ _ _ _ _ _ _ _ (s .pre .0) (s .pre .1 .0) (s .pre .1 .1 .0)
-    (λ q. c .if3 .left (ap the-edge (sym (c .before .before .edge .given .1) ∙ sym (changed-same (the-graph (s .args .regions .now)) (path-of (s .args .depth) (s .args .path .now)) (s .args .place / 2) _ _ (c .before .before .before .before .changed-in .ensures) (s .pre .1 .1 .0)) ∙ q) ∙ sym (ap (λ (k : ℕ). k / 2) (c .before .before .before .before .before .before .before .before .before .before .before .wide .ensures .0))))
+    (λ q. c .if3 .left (ap the-edge (sym (c .before .before .edge .given .1) ∙ sym (changed-same (the-graph (s .args .regions .now)) (path-of (s .args .depth) (s .args .path .now)) (s .args .slot / 2) _ _ (c .before .before .before .before .changed-in .ensures) (s .pre .1 .1 .0)) ∙ q) ∙ sym (ap (λ (k : ℕ). k / 2) (c .before .before .before .before .before .before .before .before .before .before .before .wide .ensures .0))))
 
 returns-3 : tie.Need-returns-3
 returns-3 c = let s = c .before .before .before .before .before .before .before .before .before .before .before in
     close-others _ _ _ _ _ _ _ _ _ _ _ _ _ _ (s .pre .0) (s .pre .1 .0) (s .pre .1 .1 .0)
-    (λ q. not-one (subst (λ (k : Changed). OneOf (0 ∷ 2 ∷ []) (tagOf the-type k)) (sym (changed-same (the-graph (s .args .regions .now)) (path-of (s .args .depth) (s .args .path .now)) (s .args .place / 2) _ _ (c .before .changed-in .ensures) (s .pre .1 .1 .0)) ∙ q) (c .match .keys2)))
+    (λ q. not-one (subst (λ (k : Changed). OneOf (0 ∷ 2 ∷ []) (tagOf the-type k)) (sym (changed-same (the-graph (s .args .regions .now)) (path-of (s .args .depth) (s .args .path .now)) (s .args .slot / 2) _ _ (c .before .changed-in .ensures) (s .pre .1 .1 .0)) ∙ q) (c .match .keys2)))
 
 returns-4 : tie.Need-returns-4
 unfolding lib.Ieee.ofBits

@@ -1,5 +1,5 @@
 use mathlib.Core.Path.{sym, _∙_}
-use Rattle.counts.proofs.search.Places.{cost-at}
+use Rattle.counts.proofs.search.Slots.{cost-at}
 use Rattle.counts.proofs.search.Start.{crossed-cut, crossed-none, crossed-one, crossed-two, first-crossing, second-crossing}
 use borrow.Author.Needs.{needs}
 use Rattle.counts.proofs.search.cross_start.Statement.{statement}
@@ -13,8 +13,8 @@ use Rattle.counts.proofs.search.entry.Reads as entry-reads
 returns : tie.Need-returns
 returns c = let s = c .before .before in crossed-cut _ _ _ _ _ _ _ (s .pre .0) _ _ _ _ (c .if1 .taken)
 
-mul-place : tie.Need-mul-place
-mul-place c = search needs
+mul-slot : tie.Need-mul-slot
+mul-slot c = search needs
 
 entry-requires : tie.Need-entry-requires
 entry-requires c κs = search needs
@@ -62,7 +62,7 @@ cross-start-spec =
     tie.close
     (tie.spec
     returns
-    mul-place
+    mul-slot
     entry-requires
     returns-2
     add-entry

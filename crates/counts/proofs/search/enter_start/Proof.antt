@@ -1,6 +1,6 @@
 use mathlib.Core.Path.{sym, _∙_}
 use native.Mathlib.Omega.{arith}
-use Rattle.counts.proofs.search.Places.{cost-at}
+use Rattle.counts.proofs.search.Slots.{cost-at}
 use Rattle.counts.proofs.search.Start.{entered-back, entered-free, entered-held, entered-high}
 use borrow.Author.Needs.{needs}
 use Rattle.counts.proofs.search.enter_start.Statement.{statement}

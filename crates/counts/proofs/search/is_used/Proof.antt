@@ -1,6 +1,6 @@
 use mathlib.Core.Bool.{true, false}
 use native.Mathlib.Omega.{arith}
-use Rattle.counts.proofs.search.Places.{getD-default}
+use Rattle.counts.proofs.search.Slots.{getD-default}
 use borrow.Author.Needs.{needs}
 use Rattle.counts.proofs.search.is_used.Statement.{statement}
 use Rattle.counts.proofs.search.is_used.Tie as tie

@@ -3,7 +3,7 @@ use mathlib.Core.Path.{_≡_, refl, subst, _∙_}
 use Prim.Native.Nat.{ℕ, _-_, _≤_}
 use native.Mathlib.Omega.{arith}
 use lib.ListN.{length, take, length-set}
-use Rattle.counts.proofs.search.Places.{copied-next}
+use Rattle.counts.proofs.search.Slots.{copied-next}
 use borrow.Author.Needs.{needs}
 use Rattle.counts.proofs.search.keep_path.Statement.{statement}
 use Rattle.counts.proofs.search.keep_path.Tie as tie

@@ -1,5 +1,5 @@
 use native.Mathlib.Omega.{arith}
-use Rattle.counts.proofs.search.Places.{across-high, across-low}
+use Rattle.counts.proofs.search.Slots.{across-high, across-low}
 use borrow.Author.Needs.{needs}
 use Rattle.counts.proofs.search.opposite.Statement.{statement}
 use Rattle.counts.proofs.search.opposite.Tie as tie

@@ -52,7 +52,7 @@ use denote.Triple.Clauses.{Lasts, ensured, lasts}
 use denote.Triple.Table.{entered, cited}
 use denote.Triple.Walked.{says, Stays, stay-dropped, gave-ref, walkOf, AllGo, Walks, ends-at, walked, walk-meets}
 use denote.Exit.{yes}
-use Rattle.counts.specs.inner.Tables.{Tables, edge-places, changes, marks-size, path-size}
+use Rattle.counts.specs.inner.Tables.{Tables, edge-slots, changes, marks-size, path-size}
 use Rattle.counts.specs.inner.SearchContract.{CrossedAll, Entered, fresh-state, no-marks}
 use Rattle.counts.specs.declared.search.SearchState.{SearchState}
 use Rattle.counts.proofs.search.Start.{searched}
@@ -78,8 +78,8 @@ use Rattle.counts.proofs.search.run.Code as code
 abbrev R : RattleType
 R = T.the-row
 
-abbrev Places : RattleType
-Places = Array u16 edge-places
+abbrev Slots : RattleType
+Slots = Array u16 edge-slots
 
 abbrev Costs : RattleType
 Costs = Array f64 changes
@@ -299,8 +299,8 @@ module _ {M : Type 1} (𝓤 : URA M) (H : Heap 𝓤) (A : Atoms 𝓤) (W : Given
   abbrev Kept : ℕ → ℕ → ℕ → ℕ → GName → GName → GName → Fml
   Kept l ν μ π δ δp δb =
       fsep (ShrSlice (named 0) κ-regions u16 .own regions-ref (slice-vals regions-ref)) (
-      fsep (ShrRef (named 1) κ-incident Places .own incident-ref (ptr-vals incident-ref)) (
-      fsep (ShrRef (named 2) κ-own Places .own own-ref (ptr-vals own-ref)) (
+      fsep (ShrRef (named 1) κ-incident Slots .own incident-ref (ptr-vals incident-ref)) (
+      fsep (ShrRef (named 2) κ-own Slots .own own-ref (ptr-vals own-ref)) (
       fsep (ShrRef (named 3) κ-costs Costs .own costs-ref (ptr-vals costs-ref)) (
       fsep (ShrRef (named 4) κ-allowed Allowed .own allowed-ref (ptr-vals allowed-ref)) (
       fsep (u32 .own limit (uint-vals w32 limit)) (
@@ -333,8 +333,8 @@ module _ {M : Type 1} (𝓤 : URA M) (H : Heap 𝓤) (A : Atoms 𝓤) (W : Given
       move ! (4 ∷ 12 ∷ []) $ use2 W (later (some (λ (δb : GName). ‵ (MutRef (named 0) (π ∷ []) Changes .own (best-at δb (best-ref .now)) (ptr-vals best-ref)) ⊛ ‵ (LentAgain Changes κ-best (π ∷ []) q-best (best-ref .name) (best-ref .ptr .0) (best-ref .ptr .1) δb (best-ref .now))))) (lends-again 𝓤 H A W Changes (named 7) κ-best (π ∷ []) q-best (best-ref .name) (best-ref .ptr .0) (best-ref .ptr .1) (named 0) (best-ref .now)) $ await ! tt $ pick ! (λ δb. split ! $
       -- what can be copied is passed as a copy
       move ! (12 ∷ []) $ use1 W (‵ (ShrSlice (named 0) κ-regions u16 .own regions-ref (slice-vals regions-ref)) ⊛ ‵ (ShrSlice (named 0) κ-regions u16 .own regions-ref (slice-vals regions-ref))) (shr-slice-copy 𝓤 H A W (named 0) κ-regions u16 .twice regions-ref (slice-vals regions-ref)) $ split ! $
-      move ! (13 ∷ []) $ use1 W (‵ (ShrRef (named 1) κ-incident Places .own incident-ref (ptr-vals incident-ref)) ⊛ ‵ (ShrRef (named 1) κ-incident Places .own incident-ref (ptr-vals incident-ref))) (shr-copy 𝓤 H A W (named 1) κ-incident Places .twice incident-ref (ptr-vals incident-ref)) $ split ! $
-      move ! (14 ∷ []) $ use1 W (‵ (ShrRef (named 2) κ-own Places .own own-ref (ptr-vals own-ref)) ⊛ ‵ (ShrRef (named 2) κ-own Places .own own-ref (ptr-vals own-ref))) (shr-copy 𝓤 H A W (named 2) κ-own Places .twice own-ref (ptr-vals own-ref)) $ split ! $
+      move ! (13 ∷ []) $ use1 W (‵ (ShrRef (named 1) κ-incident Slots .own incident-ref (ptr-vals incident-ref)) ⊛ ‵ (ShrRef (named 1) κ-incident Slots .own incident-ref (ptr-vals incident-ref))) (shr-copy 𝓤 H A W (named 1) κ-incident Slots .twice incident-ref (ptr-vals incident-ref)) $ split ! $
+      move ! (14 ∷ []) $ use1 W (‵ (ShrRef (named 2) κ-own Slots .own own-ref (ptr-vals own-ref)) ⊛ ‵ (ShrRef (named 2) κ-own Slots .own own-ref (ptr-vals own-ref))) (shr-copy 𝓤 H A W (named 2) κ-own Slots .twice own-ref (ptr-vals own-ref)) $ split ! $
       move ! (15 ∷ []) $ use1 W (‵ (ShrRef (named 3) κ-costs Costs .own costs-ref (ptr-vals costs-ref)) ⊛ ‵ (ShrRef (named 3) κ-costs Costs .own costs-ref (ptr-vals costs-ref))) (shr-copy 𝓤 H A W (named 3) κ-costs Costs .twice costs-ref (ptr-vals costs-ref)) $ split ! $
       owned ! u32 (Is u32) (uint-makes 𝓤 H A W w32) limit _ (refl, are .1 .1 .1 .1 .1 .0 .1) $ owned ! usize (Is usize) (uint-makes 𝓤 H A W w64) start _ (refl, are .1 .1 .1 .1 .1 .1 .1 .1 .1 .0 .1) $
       nothing ! $

@@ -1,5 +1,5 @@
 use native.Mathlib.Omega.{arith}
-use Rattle.counts.proofs.search.Places.{across-below, stands-same}
+use Rattle.counts.proofs.search.Slots.{across-below, stands-same}
 use Rattle.counts.proofs.search.TwoSides.{sides-at}
 use borrow.Author.Needs.{needs}
 use Rattle.counts.proofs.search.sides_of.Statement.{statement}

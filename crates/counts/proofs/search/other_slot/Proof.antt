@@ -1,10 +1,10 @@
 use mathlib.Core.Path.{sym, _∙_}
 use native.Mathlib.Omega.{arith}
-use Rattle.counts.proofs.search.Places.{other-first, other-second}
-use Rattle.counts.proofs.search.other_place.Statement.{statement}
-use Rattle.counts.proofs.search.other_place.Tie as tie
-use Rattle.counts.proofs.search.other_place.Reads as reads
-use Rattle.counts.proofs.search.other_place.Lts as lts
+use Rattle.counts.proofs.search.Slots.{other-first, other-second}
+use Rattle.counts.proofs.search.other_slot.Statement.{statement}
+use Rattle.counts.proofs.search.other_slot.Tie as tie
+use Rattle.counts.proofs.search.other_slot.Reads as reads
+use Rattle.counts.proofs.search.other_slot.Lts as lts
 use Rattle.counts.proofs.search.entry.Reads as entry-reads
 
 mul-k : tie.Need-mul-k
@@ -22,5 +22,5 @@ returns c = let s = c .before .before .before .pre in other-second _ _ _ _ _ (s 
 returns-2 : tie.Need-returns-2
 returns-2 c = let s = c .before .before .before .pre in other-first _ _ _ _ _ (s .0) (s .1) (λ q. c .if1 .left (c .before .entry .ensures ∙ q))
 
-pub other-place-spec : {M : Type 1} → statement M
-other-place-spec = tie.close (tie.spec mul-k entry-requires add-result returns returns-2)
+pub other-slot-spec : {M : Type 1} → statement M
+other-slot-spec = tie.close (tie.spec mul-k entry-requires add-result returns returns-2)

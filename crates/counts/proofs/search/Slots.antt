@@ -1,6 +1,6 @@
--- Packed changes, and what the tables say of an edge's constraints at its two places. Assumes nothing.
--- `incident-is` lists an edge's constraints in region order. So a constraint that holds the edge stands at one of its two places, the two differ, and
--- the entry at the other place is the edge's other constraint, or none.
+-- Packed changes, and what the tables say of an edge's constraints at its two slots. Assumes nothing.
+-- `incident-is` lists an edge's constraints in region order. So a constraint that holds the edge stands at one of its two slots, the two differ, and
+-- the entry at the other slot is the edge's other constraint, or none.
 use mathlib.Core.Logic.{_≢_, _⊎_, inl, inr}
 use mathlib.Core.Path.{_≡_, refl, sym, ap, subst, _∙_}
 use mathlib.Core.Bool.{Bool, true, false, cond}
@@ -16,7 +16,7 @@ use lib.Ieee.{Float, nan}
 use Rattle.base.specs.Lists.{In}
 use Rattle.regions.specs.Region.{Constraint, constraint, holds, incidence, incidence-from}
 use Rattle.counts.specs.Move.{Change}
-use Rattle.counts.specs.inner.Tables.{Other, StandsOn, Tables, across, after, all-decoded, alone, before, cost-in, decoded, encoded, no-constraint, path-of, the-graph, max-sides, edge-places}
+use Rattle.counts.specs.inner.Tables.{Other, StandsOn, Tables, across, after, all-decoded, alone, before, cost-in, decoded, encoded, no-constraint, path-of, the-graph, max-sides, edge-slots}
 use Rattle.regions.specs.Accept.{max-edges}
 use Rattle.base.proofs.BoolLaws.{T-true, clash, not-T-false}
 use Rattle.regions.proofs.region.Constraints.{holds→incidence, incidence-out, incidence→holds}
@@ -101,24 +101,24 @@ in-or-none (x ∷ l) zero = inl (inl refl)
 in-or-none (x ∷ l) (suc k) = elim (in-or-none l k) [ inl i ↦ inl (inr i) | inr e ↦ inr e ]
 
 module _ (regions incident own : List ℕ) (tables : Tables regions incident own) where
-  entry-is : (p : ℕ) → p < edge-places → getD incident p 0 ≡ getD (incidence (the-graph regions) (p / 2)) (p % 2) no-constraint
+  entry-is : (p : ℕ) → p < edge-slots → getD incident p 0 ≡ getD (incidence (the-graph regions) (p / 2)) (p % 2) no-constraint
   entry-is p h = ap (λ (k : ℕ). getD incident k 0) (let q : p ≡ p / 2 * 2 + p % 2 = omega arith in q) ∙ tables .incident-is (p / 2) (p % 2) (omega (arith, h)) (omega arith)
 
-  pub entry-most : (p : ℕ) → p < edge-places → getD incident p 0 ≤ no-constraint
+  pub entry-most : (p : ℕ) → p < edge-slots → getD incident p 0 ≤ no-constraint
   entry-most p h = subst (λ (k : ℕ). k ≤ no-constraint) (sym (entry-is p h)) (go (in-or-none (incidence (the-graph regions) (p / 2)) (p % 2)))
     where
       go : {i : ℕ} → In i (incidence (the-graph regions) (p / 2)) ⊎ (i ≡ no-constraint) → i ≤ no-constraint
       go {i} (inl m) = let b = tables .numbered i (p / 2) (incidence→holds (the-graph regions) i (p / 2) m) in omega (arith, b)
       go {i} (inr e) = omega (arith, e)
 
-  pub entry-holds : (p : ℕ) → p < edge-places → getD incident p 0 < no-constraint → T (holds (constraint (the-graph regions) (getD incident p 0)) (p / 2))
+  pub entry-holds : (p : ℕ) → p < edge-slots → getD incident p 0 < no-constraint → T (holds (constraint (the-graph regions) (getD incident p 0)) (p / 2))
   entry-holds p h l = incidence→holds (the-graph regions) (getD incident p 0) (p / 2) (subst (λ (k : ℕ). In k (incidence (the-graph regions) (p / 2))) (sym (entry-is p h)) (go (in-or-none (incidence (the-graph regions) (p / 2)) (p % 2))))
     where
       go : In (getD (incidence (the-graph regions) (p / 2)) (p % 2) no-constraint) (incidence (the-graph regions) (p / 2)) ⊎ (getD (incidence (the-graph regions) (p / 2)) (p % 2) no-constraint ≡ no-constraint) → In (getD (incidence (the-graph regions) (p / 2)) (p % 2) no-constraint) (incidence (the-graph regions) (p / 2))
       go (inl m) = m
       go (inr e) = let q = entry-is p h in absurd (omega (arith, e, q, l))
 
-  -- the constraints of an edge, by the entries at its two places
+  -- the constraints of an edge, by the entries at its two slots
   module _ (y : ℕ) (h : y < max-edges) where
     first-is : getD incident (y * 2) 0 ≡ getD (incidence (the-graph regions) y) 0 no-constraint
     first-is = ap (λ (k : ℕ). getD incident k 0) (let q : y * 2 ≡ y * 2 + 0 = omega arith in q) ∙ tables .incident-is y 0 h (omega arith)
@@ -164,14 +164,14 @@ module _ (regions incident own : List ℕ) (tables : Tables regions incident own
             ∙ ap {B = List ℕ} (λ (k : ℕ). getD incident (y * 2) 0 ∷ k ∷ []) (sym (second-is ∙ ap (λ (s : List ℕ). getD s 1 no-constraint) e))
         go (a ∷ b ∷ c ∷ l) e = let q = tables .thin y in let r = ap length e in absurd (omega (arith, q, r))
 
-  -- constraint i of edge y stands at its first place or at its second, and the other one at the other
+  -- constraint i of edge y stands at its first slot or at its second, and the other one at the other
   abbrev TwoPlaces : ℕ → ℕ → Type 0
   TwoPlaces i y =
       ((getD incident (y * 2) 0 ≡ i) × Other (the-graph regions) y i (getD incident (y * 2 + 1) 0))
       ⊎ ((getD incident (y * 2 + 1) 0 ≡ i) × (getD incident (y * 2) 0 ≢ i) × Other (the-graph regions) y i (getD incident (y * 2) 0))
 
-  pub two-places : (i y : ℕ) → T (holds (constraint (the-graph regions) i) y) → TwoPlaces i y
-  two-places i y h = go (incidence (the-graph regions) y) refl (holds→incidence (the-graph regions) i y h)
+  pub two-slots : (i y : ℕ) → T (holds (constraint (the-graph regions) i) y) → TwoPlaces i y
+  two-slots i y h = go (incidence (the-graph regions) y) refl (holds→incidence (the-graph regions) i y h)
     where
       low : y < max-edges
       low = tables .few i y h
@@ -218,32 +218,32 @@ other-differs g y i o (alone e q) l = λ r. omega (arith, e, l, r)
 other-differs g y i o (after h n q) l = λ r. n (sym r)
 other-differs g y i o (before h n q) l = λ r. n (sym r)
 
--- ---- the place of a constraint, and of the other one
+-- ---- the slot of a constraint, and of the other one
 
 module _ (regions incident own : List ℕ) (y i : ℕ) (tables : Tables regions incident own) (h : T (holds (constraint (the-graph regions) i) y)) where
   low : y < max-edges
   low = tables .few i y h
 
   abbrev IsOther : ℕ → Type 0
-  IsOther p = (p < edge-places) × (p / 2 ≡ y) × (getD incident p 0 ≤ no-constraint) × Other (the-graph regions) y i (getD incident p 0)
+  IsOther p = (p < edge-slots) × (p / 2 ≡ y) × (getD incident p 0 ≤ no-constraint) × Other (the-graph regions) y i (getD incident p 0)
 
   abbrev IsPlace : ℕ → Type 0
-  IsPlace p = (p < edge-places) × (p / 2 ≡ y) × (getD incident p 0 ≡ i)
+  IsPlace p = (p < edge-slots) × (p / 2 ≡ y) × (getD incident p 0 ≡ i)
 
   pub other-second : getD incident (y * 2) 0 ≡ i → IsOther (y * 2 + 1)
   other-second e =
       let b = low in
-      (omega (arith, b), omega arith, entry-most regions incident own tables (y * 2 + 1) (omega (arith, b)), elim (two-places regions incident own tables i y h) [ inl w ↦ w .1 | inr w ↦ absurd (w .1 e) ])
+      (omega (arith, b), omega arith, entry-most regions incident own tables (y * 2 + 1) (omega (arith, b)), elim (two-slots regions incident own tables i y h) [ inl w ↦ w .1 | inr w ↦ absurd (w .1 e) ])
 
   pub other-first : getD incident (y * 2) 0 ≢ i → IsOther (y * 2)
   other-first n =
       let b = low in
-      (omega (arith, b), omega arith, entry-most regions incident own tables (y * 2) (omega (arith, b)), elim (two-places regions incident own tables i y h) [ inl w ↦ absurd (n (w .0)) | inr w ↦ w .2 ])
+      (omega (arith, b), omega arith, entry-most regions incident own tables (y * 2) (omega (arith, b)), elim (two-slots regions incident own tables i y h) [ inl w ↦ absurd (n (w .0)) | inr w ↦ w .2 ])
 
-  pub place-first : getD incident (y * 2) 0 ≡ i → IsPlace (y * 2)
-  place-first e = let b = low in (omega (arith, b), omega arith, e)
+  pub slot-first : getD incident (y * 2) 0 ≡ i → IsPlace (y * 2)
+  slot-first e = let b = low in (omega (arith, b), omega arith, e)
 
-  pub place-second : getD incident (y * 2) 0 ≢ i → IsPlace (y * 2 + 1)
-  place-second n =
+  pub slot-second : getD incident (y * 2) 0 ≢ i → IsPlace (y * 2 + 1)
+  slot-second n =
       let b = low in
-      (omega (arith, b), omega arith, elim (two-places regions incident own tables i y h) [ inl w ↦ absurd (n (w .0)) | inr w ↦ w .0 ])
+      (omega (arith, b), omega arith, elim (two-slots regions incident own tables i y h) [ inl w ↦ absurd (n (w .0)) | inr w ↦ w .0 ])
