@@ -1,4 +1,5 @@
--- Laws of specs/Move and of the partners of specs/Search: changes selected by their edge, settled constraints, distinct edges. Assumes nothing.
+-- Laws of specs/Move and of the partners of specs/Search: changes selected by their edge, settled constraints, distinct edges, and
+-- edges that share a constraint. Assumes nothing.
 use mathlib.Core.Logic.{_≢_, inl, inr}
 use mathlib.Core.Path.{_≡_, refl, sym, ap, subst, _∙_}
 use mathlib.Core.Bool.{Bool, true, false, not, _&&_, _||_, cond, Bool·beq}

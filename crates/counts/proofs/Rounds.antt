@@ -1,5 +1,5 @@
 -- Demand 3, the solver's half. A round that passes its tests applies what `find-move` finds: a unit move, which keeps the difference of
--- opposite sides, or nothing. So the difference stays over any list of rounds, and each round is as `Told` says. Assumes nothing.
+-- opposite sides, or nothing. So the difference stays over any list of rounds, and each round is as `RoundClaim` says. Assumes nothing.
 use mathlib.Core.Logic.{_≢_, _↔_}
 use mathlib.Core.Path.{_≡_, refl, sym, ap, subst, _∙_}
 use mathlib.Core.Bool.{Bool, true, false, not}

@@ -6,8 +6,7 @@
 // The definition's `dfs` (specs/Search.antt) enters an edge and visits its unused constraints. The code goes from constraint to constraint, since
 // an edge has two at most:
 //   run, by enter and cross     `run`
-//   dfs                         `visit` of one constraint of the last edge, other than `home`
-//   close_loop                  `visit` of `home`
+//   dfs                         `visit` of one unused constraint of the last edge; close_loop where that is `home`
 //   try_step, end_chain         `try-step`, and with it `dfs` of the edge that is entered; end_chain where no constraint of it is left
 //   changed_in                  `others-changed`
 // Inside the search the state is handed over in fresh structs and not lent: a struct that a call is given as it stands lives in memory from then

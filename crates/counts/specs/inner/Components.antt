@@ -1,4 +1,4 @@
--- The components of the farm: what labels of edges say, how they are made, and what a move touches of the tables (inner contracts of src/parts.rt).
+-- The components of the farm: what labels of edges say, how they are made, and what a move touches of the tables (src/components.rt).
 -- Assumes nothing.
 use mathlib.Core.Logic.{_≢_, _⊎_}
 use mathlib.Core.Path.{_≡_}

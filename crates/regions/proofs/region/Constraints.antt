@@ -1,4 +1,4 @@
--- Laws of the constraints by their numbers: which ones hold an edge, that edges share one, and how the incidences grow. Assumes nothing.
+-- Laws of the constraints by their numbers: which ones hold an edge, and how the incidences grow. Assumes nothing.
 use mathlib.Core.Path.{_≡_, sym, ap, subst, _∙_}
 use mathlib.Core.Bool.{Bool, true, false, cond}
 use mathlib.Core.Logic.{inl, inr}
