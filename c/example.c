@@ -160,8 +160,10 @@ static void refusals(void)
     printf(" %.17g\n", root[0]);
     printf("root of -1: %u,", jp_root(-1, root));
     printf(" %g\n", root[0]);
-    printf("17 edges: %u\n", jp_set_side(regions, 0, regions, 17));
+    printf("17 edges: %u\n", jp_set_side(regions, 0, regions + JP_RECORD, 17));
     printf("side 4: %u\n", jp_set_side(regions, 4, NULL, 0));
+    printf("version fits: %d\n", jp_version_fits());
+    printf("%u: %s\n", jp_root(-1, root), jp_refusal_text(JP_ROOT_UNDEFINED));
 }
 
 /* JP_BAD_BUFFER is answered by the header alone: such a call does not reach the archive. */
@@ -170,8 +172,9 @@ static void borders(void)
     union {
         double values[8];
         uint32_t numbers[16];
-        unsigned char bytes[64];
+        unsigned char bytes[2 * JP_RECORD + 2];
     } shared;
+    uint16_t record[JP_RECORD + 3] = {1, 0};
     uint32_t counts[7] = {9, 9, 9, 9, 9, 9, 9};
     uint32_t answer[3] = {5, 5, 5};
     double sum[1] = {5};
@@ -190,6 +193,11 @@ static void borders(void)
     tell("counts in most", jp_solve_counts_within(NULL, 0, ideals, 7, shared.values, 7, shared.numbers + 13, 3, answer), answer, 3);
     tell("counts after the ideals", jp_solve_counts(NULL, 0, shared.values, 1, shared.numbers + 2, 1, answer), answer, 3);
     printf("answer in the counts: %u\n", jp_solve_counts(NULL, 0, ideals, 7, counts, 7, counts + 4));
+    printf("edges in their own record: %u,", jp_set_side(record, 0, record, 3));
+    printf(" %u %u %u %u\n", record[0], record[1], record[2], record[3]);
+    printf("edges after their record: %u\n", jp_set_side(record, 0, record + JP_RECORD, 3));
+    printf("odd record: %u\n", jp_set_side((uint16_t *)(void *)(shared.bytes + 1), 0, record, 3));
+    printf("NULL record: %u\n", jp_set_side(NULL, 0, record, 3));
     tell("output over a curve", jp_coons_curves(bottom, 4, right, 4, top, 4, shared.values, 4, 1, 1, shared.values, 8, answer), answer, 3);
     tell("one list lent twice to be read", jp_coons_curves(bottom, 4, bottom, 4, bottom, 4, bottom, 4, 1, 1, shared.values, 8, answer), answer,
          3);

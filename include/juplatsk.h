@@ -1,17 +1,18 @@
-/* The field gridder for C and C++ on x86-64: counts of edges, grids between curves, meshes, roots.
+/* The field gridder for C and C++ on x86-64 Linux: counts of edges, grids between curves, meshes, roots.
  *
- * Link the archive that `rt staticlib exports` writes. What each function does is proved; the scope paper (01 below) defines it, and the
- * paper of change requests (02 below) the calls within ranges.
+ * Link the archive libjuplatsk.a, which `rt staticlib juplatsk` writes. What each function of it does is proved; the scope paper (01
+ * below) defines it, and the paper of change requests (02 below) the calls within ranges. docs/REFERENCE.md has the words, with drawings.
  *
  * Two layers
  * ----------
- * jp_NAME        call these. They test what C can get wrong about a buffer, return JP_BAD_BUFFER if something is, and then write
- *                nothing; else they call juplatsk_NAME.
- * juplatsk_NAME  the functions of the archive. Conditions, which nothing tests: no pointer is NULL, not even with length 0; each is
- *                aligned for its type; each list lies within one object, and has less than 2^63 bytes; a list or array that is
- *                written overlaps no other one of the call. They call nothing back, keep no pointer, use no heap and no global
- *                variable, and end. Any values are fine: what is wrong with them is refused. Several threads may call at once, each
- *                with at least 256 KB of stack: the largest inputs were seen to run in a thread of 176 KB, and not in one of 172.
+ * jp_NAME        call these. They test whether the archive is of this header's version, and what C can get wrong about a buffer; if
+ *                something is wrong they return JP_BAD_VERSION or JP_BAD_BUFFER and write nothing; else they call juplatsk_NAME.
+ * juplatsk_NAME  the functions of the archive. Conditions, which nothing tests: the versions fit, that is, jp_version_fits() is 1; no
+ *                pointer is NULL, not even with length 0; each is aligned for its type; each list lies within one object, and has less
+ *                than 2^63 bytes; a list or array that is written overlaps no other one of the call. They call nothing back, keep no
+ *                pointer, use no heap and no global variable, and end. Any values are fine: what is wrong with them is refused. Several
+ *                threads may call at once, each with at least 256 KB of stack: the largest inputs were seen to run in a thread of
+ *                176 KB, and not in one of 172.
  *
  * Lists
  * -----
@@ -22,9 +23,10 @@
  *
  * Answers
  * -------
- * Each function returns 0 (JP_ACCEPTED), or the number of the refusal by 01's table or by 02, the enum below; or JP_BAD_BUFFER.
- * `answer` gets the two places of the refusal, 0 where it names none, and then the values that each function tells; they are 0 when
- * a call is refused. It is written at every call but those with JP_BAD_BUFFER.
+ * Each function returns 0 (JP_ACCEPTED), or the number of the refusal by 01's table or by 02, the enum below; or JP_BAD_BUFFER or
+ * JP_BAD_VERSION. jp_refusal_text gives a sentence for each number. `answer` gets the two places of the refusal, 0 where it names none,
+ * and then the values that each function tells; they are 0 when a call is refused. It is written at every call but those with
+ * JP_BAD_BUFFER or JP_BAD_VERSION.
  * A refusal leaves every list as it was, but for these:
  *   JP_TOO_MANY_MOVES (both solves)                                   the needed counts are 0
  *   JP_LINES_PARALLEL, JP_CROSSING_OUTSIDE, JP_BAD_QUAD_AREA          the needed output is +0.0, point indices are 0
@@ -76,7 +78,7 @@ enum {
     JP_CURVE_TOO_SHORT = 13,    /* curve: it has less than two points */
     JP_POINT_NOT_FINITE = 14,   /* curve */
     JP_BAD_CURVE_LENGTH = 15,   /* curve: its length is 0 or not finite */
-    JP_CURVES_APART = 16,       /* corner, 0 to 4 */
+    JP_CURVES_APART = 16,       /* corner: 0 lower right, 1 upper right, 2 upper left, 4 lower left */
     JP_CORNERS_CLOCKWISE = 17,  /* the area of the corners is at or below 0 */
     JP_SEAM_TOO_SHORT = 18,     /* seam: it has less than two values */
     JP_SEAM_OUT_OF_RANGE = 19,  /* seam, index */
@@ -93,13 +95,26 @@ enum {
 
     /* None of 01's or 02's, and of jp_NAME alone: a pointer is NULL beside a length above 0, or not aligned for its type; a list has 2^63
      * bytes or more, or runs past the last address; or a list or array that is written overlaps another one. Nothing was written. */
-    JP_BAD_BUFFER = 100
+    JP_BAD_BUFFER = 100,
+
+    /* Of jp_NAME alone too: this header and the archive are not of one version. Nothing was written, and the archive was asked for its
+     * version only. */
+    JP_BAD_VERSION = 101
 };
 
 enum { JP_SIDES = 4, JP_PLACES = 16, JP_RECORD = JP_SIDES * (JP_PLACES + 1) };
 
+/* The version of this header, as one number JP_VERSION. A new minor, or a new major from 1 on, may read lists and records in another way
+ * and must not meet a caller of another one; a new patch may. */
+#define JP_VERSION_MAJOR 0
+#define JP_VERSION_MINOR 2
+#define JP_VERSION_PATCH 0
+#define JP_VERSION (10000 * JP_VERSION_MAJOR + 100 * JP_VERSION_MINOR + JP_VERSION_PATCH)
+
 /* ---- the functions of the archive; their conditions stand above, and what each does stands at its jp_NAME below */
 
+/* The version of the archive, as one number like JP_VERSION. It may be called whatever the versions. */
+uint32_t juplatsk_version(void);
 uint32_t juplatsk_solve_counts(const uint16_t *regions, size_t regions_len, const double *ideals, size_t ideals_len, uint32_t *counts,
                                size_t counts_len, uint32_t answer[3]);
 uint32_t juplatsk_round(const uint16_t *regions, size_t regions_len, const double *ideals, size_t ideals_len, uint32_t *counts,
@@ -134,6 +149,104 @@ uint32_t juplatsk_coons_checked(const double *boundary, size_t boundary_len, uin
                                 uint32_t answer[3]);
 uint32_t juplatsk_mesh_tile(const double *boundary, size_t boundary_len, uint32_t n_u, uint32_t n_v, double *points, size_t points_len,
                             uint32_t *cells, size_t cells_len, uint32_t answer[3]);
+
+/* ---- versions */
+
+/* 1 if the archive is of this header's version but for the patch, else 0. Each jp_NAME that calls the archive looks itself. */
+static inline int jp_version_fits(void)
+{
+    return juplatsk_version() / 100 == JP_VERSION / 100;
+}
+
+/* ---- refusals in words */
+
+/* What is wrong and what to do, for a number that one of these functions returned; `first` and `second` in it are the two places. It is never
+ * NULL, and nobody need free it. A call:
+ *     uint32_t number = jp_solve_counts(regions, regions_len, ideals, ideals_len, counts, counts_len, answer);
+ *     if (number != JP_ACCEPTED) {
+ *         fprintf(stderr, "refusal %u, first %u, second %u: %s\n", number, answer[0], answer[1], jp_refusal_text(number));
+ *     }
+ */
+static inline const char *jp_refusal_text(uint32_t number)
+{
+    switch (number) {
+    case JP_ACCEPTED:
+        return "accepted";
+    case JP_MALFORMED:
+        return "a limit is exceeded or a list is broken; give at most 128 regions, 16 edges on a side, 256 ideals, leasts, mosts or counts, "
+               "1,024 points in a curve, 4,096 in a loop, 1,025 values in a seam, 1,024 for n_u, n_v and the sum of a side's counts in lay, "
+               "records of 68 numbers (lay takes one), and an even number of values in curves and loops";
+    case JP_BAD_IDEAL:
+        return "the ideal of edge `first`, or an end of its range, is not finite or not above 0; give finite numbers above 0";
+    case JP_EDGE_OUT_OF_RANGE:
+        return "region `first` names on side `second` an edge that is not below the number of edges; number the edges from 0 up, and give each "
+               "an ideal or a range, and lay a count";
+    case JP_EDGE_REPEATED:
+        return "region `first` lists an edge twice on side `second`; list it once";
+    case JP_EDGE_ON_BOTH_SIDES:
+        return "region `first` lists an edge on side `second` and on the opposite one; give each side edges of its own";
+    case JP_EDGE_OVERUSED:
+        return "edge `first` lies on more than two sides; an edge borders two tiles at most, so give the others edges of their own";
+    case JP_TOO_MANY_MOVES:
+        return "a further move was found after 200,000 moves; lower the ideals or leasts, or make rounds from counts of your own";
+    case JP_LENGTHS_DIFFER:
+        return "lists with an entry for each edge are not equally long; give one of each for every edge";
+    case JP_COUNT_TOO_LARGE:
+        return "the count of edge `first` is above 1,000,000; lower it";
+    case JP_LIMIT_TOO_LARGE:
+        return "the search limit is above 100,000; state 0 to 100,000";
+    case JP_OUTPUT_TOO_SHORT:
+        return "an output is too short; lend as much as the function's comment says";
+    case JP_BAD_LOOP:
+        return "the loop has neither 4 points nor 8 or more in fours, where a last point equal to the first does not count from 5 points up; "
+               "give its four corners, or four curves of equally many points with each corner twice, and the first point once more at the "
+               "end";
+    case JP_CURVE_TOO_SHORT:
+        return "curve `first` has fewer than two points; give at least its two ends";
+    case JP_POINT_NOT_FINITE:
+        return "a point of curve `first` is not finite; mend it or leave it out";
+    case JP_BAD_CURVE_LENGTH:
+        return "the length of curve `first` is 0 or not finite; give at least two points that differ, none of them too far off for a double";
+    case JP_CURVES_APART:
+        return "the curves do not meet at corner `first` (0 lower right, 1 upper right, 2 upper left, 4 lower left); let each curve begin at "
+               "the point where the one before it ends";
+    case JP_CORNERS_CLOCKWISE:
+        return "the corners do not run counter-clockwise around an area above 0; if they run clockwise, turn their order round";
+    case JP_SEAM_TOO_SHORT:
+        return "seam `first` has fewer than two values; give it 0 and 1 at least, and lay a side whose counts add up to 1 or more";
+    case JP_SEAM_OUT_OF_RANGE:
+        return "value `second` of seam `first` is not from 0 to 1; in lay it comes from the side's breaks";
+    case JP_SEAM_FALLING:
+        return "value `second` of seam `first` is below the one before it; in lay it comes from the side's breaks";
+    case JP_SEAM_ENDS:
+        return "seam `first` does not start at 0 or does not end at 1; in lay its ends are the side's first and last break";
+    case JP_SEAMS_UNEQUAL:
+        return "the seams of pair `first` (0 bottom and top, 1 left and right) are not equally long; give both equally many values, and lay "
+               "counts of a solve of this region";
+    case JP_LINES_PARALLEL:
+        return "the two grid lines at column `first`, row `second` are parallel; make the seams of opposite sides more alike";
+    case JP_CROSSING_OUTSIDE:
+        return "the two grid lines at column `first`, row `second` cross outside the tile; make the seams of opposite sides more alike";
+    case JP_BAD_QUAD_AREA:
+        return "the quad at column `first`, row `second` is turned over or has no finite area above 0; straighten the curves, or cut the tile "
+               "in two";
+    case JP_NO_CELLS:
+        return "n_u or n_v is 0; give 1 or more";
+    case JP_BREAKS_MISMATCH:
+        return "the breaks of side `first` are not one more than its edges; give where each edge begins, and 1 as the last";
+    case JP_ROOT_UNDEFINED:
+        return "a NaN or a number below 0 has no root; give a number from 0 up";
+    case JP_RANGE_REVERSED:
+        return "the least of edge `first` is above its most; change their places";
+    case JP_BAD_BUFFER:
+        return "a pointer is NULL beside a length above 0 or not aligned, a list is too long, or one that is written overlaps another; "
+               "nothing was written";
+    case JP_BAD_VERSION:
+        return "the header and the archive are of different versions; compile with the header that came with the archive";
+    default:
+        return "no number of this library";
+    }
+}
 
 /* ---- the tests of buffers */
 
@@ -185,6 +298,15 @@ static inline int jp_lendable(const jp_buffer *buffers, size_t n)
     return 1;
 }
 
+/* What keeps these buffers from the archive, JP_ACCEPTED if nothing does. */
+static inline uint32_t jp_kept_back(const jp_buffer *buffers, size_t n)
+{
+    if (!jp_version_fits()) {
+        return JP_BAD_VERSION;
+    }
+    return jp_lendable(buffers, n) ? JP_ACCEPTED : JP_BAD_BUFFER;
+}
+
 /* For an empty list without an address, one that the archive may be given: nothing is read or written there. */
 static inline const uint16_t *jp_u16(const uint16_t *p)
 {
@@ -219,15 +341,20 @@ static inline double *jp_f64_out(double *p)
 #define JP_READ(list) {list, list##_len, sizeof *(list), 0}
 #define JP_WRITTEN(list) {list, list##_len, sizeof *(list), 1}
 #define JP_ARRAY(array, n) {array, n, sizeof *(array), 1}
-#define JP_LENDABLE(buffers) jp_lendable(buffers, sizeof(buffers) / sizeof(buffers)[0])
+#define JP_COUNT(buffers) (sizeof(buffers) / sizeof(buffers)[0])
 
 /* ---- regions */
 
-/* Fills in a side of a record of 68 numbers. JP_MALFORMED for a side above 3 or more than 16 edges, and then the record is as it was. */
+/* Fills in a side of a record of 68 numbers; the places past the edges stay as they were. It calls nothing of the archive.
+ * Reads   edges, at most 16.
+ * Writes  record.
+ * Refuses JP_BAD_BUFFER, as all others do: the list of edges may not overlap the record; then JP_MALFORMED for a side above 3 or more than 16
+ *         edges. The record is then as it was. */
 static inline uint32_t jp_set_side(uint16_t record[JP_RECORD], unsigned side, const uint16_t *edges, size_t edges_len)
 {
+    const jp_buffer lent[] = {JP_ARRAY(record, JP_RECORD), JP_READ(edges)};
     size_t i;
-    if (record == NULL || (edges == NULL && edges_len != 0)) {
+    if (!jp_lendable(lent, JP_COUNT(lent))) {
         return JP_BAD_BUFFER;
     }
     if (side >= JP_SIDES || edges_len > JP_PLACES) {
@@ -250,8 +377,9 @@ static inline uint32_t jp_solve_counts(const uint16_t *regions, size_t regions_l
                                        uint32_t *counts, size_t counts_len, uint32_t answer[3])
 {
     const jp_buffer lent[] = {JP_READ(regions), JP_READ(ideals), JP_WRITTEN(counts), JP_ARRAY(answer, 3)};
-    if (!JP_LENDABLE(lent)) {
-        return JP_BAD_BUFFER;
+    const uint32_t kept_back = jp_kept_back(lent, JP_COUNT(lent));
+    if (kept_back) {
+        return kept_back;
     }
     return juplatsk_solve_counts(jp_u16(regions), regions_len, jp_f64(ideals), ideals_len, jp_u32_out(counts), counts_len, answer);
 }
@@ -266,8 +394,9 @@ static inline uint32_t jp_round(const uint16_t *regions, size_t regions_len, con
                                 size_t counts_len, uint32_t limit, uint32_t answer[4], double cost[1])
 {
     const jp_buffer lent[] = {JP_READ(regions), JP_READ(ideals), JP_WRITTEN(counts), JP_ARRAY(answer, 4), JP_ARRAY(cost, 1)};
-    if (!JP_LENDABLE(lent)) {
-        return JP_BAD_BUFFER;
+    const uint32_t kept_back = jp_kept_back(lent, JP_COUNT(lent));
+    if (kept_back) {
+        return kept_back;
     }
     return juplatsk_round(jp_u16(regions), regions_len, jp_f64(ideals), ideals_len, jp_u32_out(counts), counts_len, limit, answer, cost);
 }
@@ -288,8 +417,9 @@ static inline uint32_t jp_solve_counts_within(const uint16_t *regions, size_t re
                                               uint32_t answer[3])
 {
     const jp_buffer lent[] = {JP_READ(regions), JP_READ(least), JP_READ(most), JP_WRITTEN(counts), JP_ARRAY(answer, 3)};
-    if (!JP_LENDABLE(lent)) {
-        return JP_BAD_BUFFER;
+    const uint32_t kept_back = jp_kept_back(lent, JP_COUNT(lent));
+    if (kept_back) {
+        return kept_back;
     }
     return juplatsk_solve_counts_within(jp_u16(regions), regions_len, jp_f64(least), least_len, jp_f64(most), most_len,
                                         jp_u32_out(counts), counts_len, answer);
@@ -312,8 +442,9 @@ static inline uint32_t jp_round_within(const uint16_t *regions, size_t regions_l
 {
     const jp_buffer lent[] = {JP_READ(regions),   JP_READ(least),      JP_READ(most),
                               JP_WRITTEN(counts), JP_ARRAY(answer, 4), JP_ARRAY(cost, 1)};
-    if (!JP_LENDABLE(lent)) {
-        return JP_BAD_BUFFER;
+    const uint32_t kept_back = jp_kept_back(lent, JP_COUNT(lent));
+    if (kept_back) {
+        return kept_back;
     }
     return juplatsk_round_within(jp_u16(regions), regions_len, jp_f64(least), least_len, jp_f64(most), most_len, jp_u32_out(counts),
                                  counts_len, limit, answer, cost);
@@ -327,8 +458,9 @@ static inline uint32_t jp_energy(const uint32_t *counts, size_t counts_len, cons
                                  double sum[1])
 {
     const jp_buffer lent[] = {JP_READ(counts), JP_READ(ideals), JP_ARRAY(answer, 2), JP_ARRAY(sum, 1)};
-    if (!JP_LENDABLE(lent)) {
-        return JP_BAD_BUFFER;
+    const uint32_t kept_back = jp_kept_back(lent, JP_COUNT(lent));
+    if (kept_back) {
+        return kept_back;
     }
     return juplatsk_energy(jp_u32(counts), counts_len, jp_f64(ideals), ideals_len, answer, sum);
 }
@@ -341,8 +473,9 @@ static inline uint32_t jp_constraints_hold(const uint16_t *regions, size_t regio
                                            uint32_t answer[3])
 {
     const jp_buffer lent[] = {JP_READ(regions), JP_READ(counts), JP_ARRAY(answer, 3)};
-    if (!JP_LENDABLE(lent)) {
-        return JP_BAD_BUFFER;
+    const uint32_t kept_back = jp_kept_back(lent, JP_COUNT(lent));
+    if (kept_back) {
+        return kept_back;
     }
     return juplatsk_constraints_hold(jp_u16(regions), regions_len, jp_u32(counts), counts_len, answer);
 }
@@ -355,8 +488,9 @@ static inline uint32_t jp_constraints_hold(const uint16_t *regions, size_t regio
 static inline uint32_t jp_root(double x, double root[1])
 {
     const jp_buffer lent[] = {JP_ARRAY(root, 1)};
-    if (!JP_LENDABLE(lent)) {
-        return JP_BAD_BUFFER;
+    const uint32_t kept_back = jp_kept_back(lent, JP_COUNT(lent));
+    if (kept_back) {
+        return kept_back;
     }
     return juplatsk_root(x, root);
 }
@@ -375,8 +509,9 @@ static inline uint32_t jp_coons_from_parameters(const double *bottom, size_t bot
 {
     const jp_buffer lent[] = {JP_READ(bottom), JP_READ(right),  JP_READ(top),     JP_READ(left),   JP_READ(bottom_u),
                               JP_READ(top_u),  JP_READ(left_v), JP_READ(right_v), JP_WRITTEN(out), JP_ARRAY(answer, 3)};
-    if (!JP_LENDABLE(lent)) {
-        return JP_BAD_BUFFER;
+    const uint32_t kept_back = jp_kept_back(lent, JP_COUNT(lent));
+    if (kept_back) {
+        return kept_back;
     }
     return juplatsk_coons_from_parameters(jp_f64(bottom), bottom_len, jp_f64(right), right_len, jp_f64(top), top_len, jp_f64(left),
                                           left_len, jp_f64(bottom_u), bottom_u_len, jp_f64(top_u), top_u_len, jp_f64(left_v),
@@ -392,8 +527,9 @@ static inline uint32_t jp_coons_curves(const double *bottom, size_t bottom_len, 
                                        uint32_t n_v, double *out, size_t out_len, uint32_t answer[3])
 {
     const jp_buffer lent[] = {JP_READ(bottom), JP_READ(right), JP_READ(top), JP_READ(left), JP_WRITTEN(out), JP_ARRAY(answer, 3)};
-    if (!JP_LENDABLE(lent)) {
-        return JP_BAD_BUFFER;
+    const uint32_t kept_back = jp_kept_back(lent, JP_COUNT(lent));
+    if (kept_back) {
+        return kept_back;
     }
     return juplatsk_coons_curves(jp_f64(bottom), bottom_len, jp_f64(right), right_len, jp_f64(top), top_len, jp_f64(left), left_len,
                                  n_u, n_v, jp_f64_out(out), out_len, answer);
@@ -414,8 +550,9 @@ static inline uint32_t jp_lay_region(const uint16_t *region, size_t region_len, 
     const jp_buffer lent[] = {JP_READ(region),  JP_READ(counts), JP_READ(breaks0), JP_READ(breaks1), JP_READ(breaks2), JP_READ(breaks3),
                               JP_READ(bottom),  JP_READ(right),  JP_READ(top),     JP_READ(left),    JP_WRITTEN(out),
                               JP_ARRAY(answer, 3)};
-    if (!JP_LENDABLE(lent)) {
-        return JP_BAD_BUFFER;
+    const uint32_t kept_back = jp_kept_back(lent, JP_COUNT(lent));
+    if (kept_back) {
+        return kept_back;
     }
     return juplatsk_lay_region(jp_u16(region), region_len, jp_u32(counts), counts_len, jp_f64(breaks0), breaks0_len, jp_f64(breaks1),
                                breaks1_len, jp_f64(breaks2), breaks2_len, jp_f64(breaks3), breaks3_len, jp_f64(bottom), bottom_len,
@@ -428,13 +565,14 @@ static inline uint32_t jp_lay_region(const uint16_t *region, size_t region_len, 
  *         (bottom, right, top, left; curves share no points, each corner is in it twice); at most 4,096 points. A last point equal to the
  *         first is dropped, from 5 points up. n_u, n_v: 1 to 1,024.
  * Writes  out: 8 * n_u * n_v values; answer: place, place, number of quads.
- * Refuses 1, 12, 26, then as jp_coons_curves. */
+ * Refuses 1, 12, 26, 14 to 17, 11, 25, which sets the needed output to +0.0. */
 static inline uint32_t jp_coons_checked(const double *boundary, size_t boundary_len, uint32_t n_u, uint32_t n_v, double *out,
                                         size_t out_len, uint32_t answer[3])
 {
     const jp_buffer lent[] = {JP_READ(boundary), JP_WRITTEN(out), JP_ARRAY(answer, 3)};
-    if (!JP_LENDABLE(lent)) {
-        return JP_BAD_BUFFER;
+    const uint32_t kept_back = jp_kept_back(lent, JP_COUNT(lent));
+    if (kept_back) {
+        return kept_back;
     }
     return juplatsk_coons_checked(jp_f64(boundary), boundary_len, n_u, n_v, jp_f64_out(out), out_len, answer);
 }
@@ -445,7 +583,7 @@ static inline uint32_t jp_coons_checked(const double *boundary, size_t boundary_
  * Reads   as jp_coons_curves.
  * Writes  points: x, y, +0.0 for each of (n_u + 1) * (n_v + 1) points, rows from the bottom; cells: 4 * n_u * n_v point numbers;
  *         answer: place, place, number of quads.
- * Refuses as jp_coons_curves; 11 if either output is too short. */
+ * Refuses as jp_coons_curves; 11 if either output is too short; 25 sets the needed points to +0.0 and the needed cells to 0. */
 static inline uint32_t jp_mesh_tile_curves(const double *bottom, size_t bottom_len, const double *right, size_t right_len,
                                            const double *top, size_t top_len, const double *left, size_t left_len, uint32_t n_u,
                                            uint32_t n_v, double *points, size_t points_len, uint32_t *cells, size_t cells_len,
@@ -453,20 +591,25 @@ static inline uint32_t jp_mesh_tile_curves(const double *bottom, size_t bottom_l
 {
     const jp_buffer lent[] = {JP_READ(bottom),    JP_READ(right),    JP_READ(top),       JP_READ(left),
                               JP_WRITTEN(points), JP_WRITTEN(cells), JP_ARRAY(answer, 3)};
-    if (!JP_LENDABLE(lent)) {
-        return JP_BAD_BUFFER;
+    const uint32_t kept_back = jp_kept_back(lent, JP_COUNT(lent));
+    if (kept_back) {
+        return kept_back;
     }
     return juplatsk_mesh_tile_curves(jp_f64(bottom), bottom_len, jp_f64(right), right_len, jp_f64(top), top_len, jp_f64(left), left_len,
                                      n_u, n_v, jp_f64_out(points), points_len, jp_u32_out(cells), cells_len, answer);
 }
 
-/* The mesh of a tile given by a closed loop of points, as jp_coons_checked reads it; written and refused as by the two above. */
+/* The mesh of a tile given by a closed loop of points.
+ * Reads   as jp_coons_checked.
+ * Writes  as jp_mesh_tile_curves.
+ * Refuses as jp_coons_checked; 11 if either output is too short; 25 sets the needed points to +0.0 and the needed cells to 0. */
 static inline uint32_t jp_mesh_tile(const double *boundary, size_t boundary_len, uint32_t n_u, uint32_t n_v, double *points,
                                     size_t points_len, uint32_t *cells, size_t cells_len, uint32_t answer[3])
 {
     const jp_buffer lent[] = {JP_READ(boundary), JP_WRITTEN(points), JP_WRITTEN(cells), JP_ARRAY(answer, 3)};
-    if (!JP_LENDABLE(lent)) {
-        return JP_BAD_BUFFER;
+    const uint32_t kept_back = jp_kept_back(lent, JP_COUNT(lent));
+    if (kept_back) {
+        return kept_back;
     }
     return juplatsk_mesh_tile(jp_f64(boundary), boundary_len, n_u, n_v, jp_f64_out(points), points_len, jp_u32_out(cells), cells_len,
                               answer);
@@ -475,7 +618,7 @@ static inline uint32_t jp_mesh_tile(const double *boundary, size_t boundary_len,
 #undef JP_READ
 #undef JP_WRITTEN
 #undef JP_ARRAY
-#undef JP_LENDABLE
+#undef JP_COUNT
 
 #ifdef __cplusplus
 }

@@ -1,4 +1,4 @@
-//! Links the archive `libexports.a`: from the folder that JUPLATSK_LIB names, else as `rt staticlib exports` makes it, which proves the
+//! Links the archive `libjuplatsk.a`: from the folder that JUPLATSK_LIB names, else as `rt staticlib juplatsk` makes it, which proves the
 //! library first and takes some minutes the first time.
 
 use std::path::{Path, PathBuf};
@@ -27,13 +27,13 @@ fn link() -> Result<(), String> {
         Ok(folder) => package.join(folder),
         Err(_) => staticlib(&package.join(".."))?,
     };
-    let archive = folder.join("libexports.a");
+    let archive = folder.join("libjuplatsk.a");
     if !archive.is_file() {
         return Err(format!("juplatsk: there is no {}", archive.display()));
     }
     println!("cargo:rerun-if-changed={}", archive.display());
     println!("cargo:rustc-link-search=native={}", folder.display());
-    println!("cargo:rustc-link-lib=static=exports");
+    println!("cargo:rustc-link-lib=static=juplatsk");
     Ok(())
 }
 
@@ -42,11 +42,11 @@ fn staticlib(repository: &Path) -> Result<PathBuf, String> {
     for part in ["crates", "crates.txt"] {
         println!("cargo:rerun-if-changed={}", repository.join(part).display());
     }
-    let run = Command::new("rt").args(["staticlib", "exports"]).current_dir(repository).output();
-    let output = run.map_err(|e| format!("juplatsk: rt staticlib exports: {e}\nor name the archive's folder in {FOLDER}"))?;
+    let run = Command::new("rt").args(["staticlib", "juplatsk"]).current_dir(repository).output();
+    let output = run.map_err(|e| format!("juplatsk: rt staticlib juplatsk: {e}\nor name the archive's folder in {FOLDER}"))?;
     if !output.status.success() {
         let said = String::from_utf8_lossy(&output.stdout) + String::from_utf8_lossy(&output.stderr);
-        return Err(format!("juplatsk: rt staticlib exports does not end well:\n{said}"));
+        return Err(format!("juplatsk: rt staticlib juplatsk does not end well:\n{said}"));
     }
     Ok(repository.join("target/staticlib"))
 }

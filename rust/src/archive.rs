@@ -5,6 +5,7 @@
 //! The tools of `compare` call the archive by this file too.
 
 extern "C" {
+    fn juplatsk_version() -> u32;
     fn juplatsk_solve_counts(
         regions: *const u16,
         regions_len: usize,
@@ -166,6 +167,10 @@ extern "C" {
 }
 
 pub type Answer<'a> = &'a mut [u32; 3];
+
+pub fn version() -> u32 {
+    unsafe { juplatsk_version() }
+}
 
 /// Four lists by side: bottom, right, top, left.
 pub type BySide<'a> = [&'a [f64]; 4];

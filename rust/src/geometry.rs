@@ -1,6 +1,7 @@
 //! Curves around a tile, and the grids and meshes between them.
 
 use crate::archive::BySide;
+use crate::limit::{self, MAX_CELLS};
 use crate::raw;
 use crate::refusal::{Refusal, BAD_LOOP, MALFORMED};
 use crate::solver::{wide, wide_counts, Region};
@@ -40,12 +41,25 @@ impl BoundaryCurves {
     /// The four curves of a closed loop: its four corners, or four curves of equally many points, two or more each, one after the other.
     /// A last point equal to the first is dropped, from 5 points up.
     ///
+    /// From 8 points on the curves share no points: each corner stands in the loop twice, as the end of a curve and as the start of the next.
+    /// So the last curve ends where the first begins, and that point would be dropped: the first point stands once more behind it.
+    ///
+    /// ```
+    /// use juplatsk::{BoundaryCurves, Point};
+    ///
+    /// let mut square: Vec<Point> = vec![[0.0, 0.0], [1.0, 0.0], [1.0, 0.0], [1.0, 1.0], [1.0, 1.0], [0.0, 1.0], [0.0, 1.0], [0.0, 0.0]];
+    /// assert_eq!(BoundaryCurves::from_loop(&square).unwrap_err().number, 12);
+    /// square.push([0.0, 0.0]);
+    /// assert_eq!(BoundaryCurves::from_loop(&square)?.left, [[0.0, 1.0], [0.0, 0.0]]);
+    /// # Ok::<(), juplatsk::Refusal>(())
+    /// ```
+    ///
     /// [`coons_checked`] and [`mesh_tile`] read a loop by themselves; this is for those who want the curves. It is plain Rust.
     ///
     /// Refused by 1 (more than 4,096 points) and 12.
     pub fn from_loop(points: &[Point]) -> Result<BoundaryCurves, Refusal> {
-        if points.len() > MAX_LOOP {
-            return Err(MALFORMED);
+        if let limit @ Some(_) = limit::of_loop(points.len()) {
+            return Err(Refusal::new(MALFORMED, 0, 0).naming(|| limit));
         }
         let used = match points {
             [first, rest @ .., last] if rest.len() >= 3 && first == last => &points[..points.len() - 1],
@@ -55,7 +69,7 @@ impl BoundaryCurves {
             return Ok(BoundaryCurves::from_corners([a, b, c, d]));
         }
         if used.len() < 8 || used.len() % 4 != 0 {
-            return Err(BAD_LOOP);
+            return Err(Refusal::new(BAD_LOOP, 0, 0));
         }
         let (lower, upper) = used.split_at(used.len() / 2);
         let (bottom, right) = lower.split_at(lower.len() / 2);
@@ -67,9 +81,6 @@ impl BoundaryCurves {
         [self.bottom.as_flattened(), self.right.as_flattened(), self.top.as_flattened(), self.left.as_flattened()]
     }
 }
-
-const MAX_LOOP: usize = 4096;
-const MAX_CELLS: usize = 1024;
 
 /// Room for what a grid of so many cells writes. Where one number is above its limit the call is refused before it asks for room.
 fn cells(n_u: usize, n_v: usize) -> usize {
@@ -109,7 +120,9 @@ pub fn coons_from_parameters(
     right_v: &[f64],
 ) -> Result<Vec<Quad>, Refusal> {
     let room = cells(bottom_u.len().saturating_sub(1), left_v.len().saturating_sub(1));
-    quads(room, |out| raw::coons_from_parameters(curves.lists(), [bottom_u, right_v, top_u, left_v], out))
+    let seams = [bottom_u, right_v, top_u, left_v];
+    let made = quads(room, |out| raw::coons_from_parameters(curves.lists(), seams, out));
+    made.map_err(|refusal| refusal.naming(|| limit::of_curves(curves.lists()).or_else(|| limit::of_seams(seams))))
 }
 
 /// The `n_u` by `n_v` quads between four curves, by even seams; each number at most 1,024.
@@ -126,7 +139,8 @@ pub fn coons_from_parameters(
 ///
 /// Refused by 1, 26, 13 to 17, 25.
 pub fn coons_curves(curves: &BoundaryCurves, n_u: usize, n_v: usize) -> Result<Vec<Quad>, Refusal> {
-    quads(cells(n_u, n_v), |out| raw::coons_curves(curves.lists(), [wide(n_u), wide(n_v)], out))
+    let made = quads(cells(n_u, n_v), |out| raw::coons_curves(curves.lists(), [wide(n_u), wide(n_v)], out));
+    made.map_err(|refusal| refusal.naming(|| limit::of_curves(curves.lists()).or_else(|| limit::of_cells(n_u, n_v))))
 }
 
 /// [`coons_curves`] of a tile given by a closed loop of points, at most 4,096; [`BoundaryCurves::from_loop`] says which.
@@ -140,9 +154,10 @@ pub fn coons_curves(curves: &BoundaryCurves, n_u: usize, n_v: usize) -> Result<V
 /// # Ok::<(), juplatsk::Refusal>(())
 /// ```
 ///
-/// Refused by 1, 12, 26, 13 to 17, 25.
+/// Refused by 1, 12, 26, 14 to 17, 25.
 pub fn coons_checked(points: &[Point], n_u: usize, n_v: usize) -> Result<Vec<Quad>, Refusal> {
-    quads(cells(n_u, n_v), |out| raw::coons_checked(points.as_flattened(), [wide(n_u), wide(n_v)], out))
+    let made = quads(cells(n_u, n_v), |out| raw::coons_checked(points.as_flattened(), [wide(n_u), wide(n_v)], out));
+    made.map_err(|refusal| refusal.naming(|| limit::of_cells(n_u, n_v).or_else(|| limit::of_loop(points.len()))))
 }
 
 /// The quads of one region by the counts of its edges, as a solve finds them. Edge `i` of a side has the part of the side's curve from
@@ -166,7 +181,8 @@ pub fn coons_checked(points: &[Point], n_u: usize, n_v: usize) -> Result<Vec<Qua
 pub fn lay_region(region: &Region, counts: &[usize], breaks: [&[f64]; 4], curves: &BoundaryCurves) -> Result<Vec<Quad>, Refusal> {
     let counts = wide_counts(counts);
     let pieces = |side| region.pieces(side, &counts).and_then(|n| usize::try_from(n).ok()).unwrap_or(0);
-    quads(cells(pieces(0), pieces(3)), |out| raw::lay_region(&region.record(), &counts, breaks, curves.lists(), out))
+    let made = quads(cells(pieces(0), pieces(3)), |out| raw::lay_region(&region.record(), &counts, breaks, curves.lists(), out));
+    made.map_err(|refusal| refusal.naming(|| limit::of_lay(region, &counts, curves.lists())))
 }
 
 /// A cell of a mesh. All are quads.
@@ -208,7 +224,8 @@ fn mesh(n_u: usize, n_v: usize, fill: impl FnOnce(&mut [f64], &mut [u32]) -> Res
 ///
 /// Refused as [`coons_curves`].
 pub fn mesh_tile_curves(curves: &BoundaryCurves, n_u: usize, n_v: usize) -> Result<Mesh, Refusal> {
-    mesh(n_u, n_v, |points, cells| raw::mesh_tile_curves(curves.lists(), [wide(n_u), wide(n_v)], points, cells))
+    let made = mesh(n_u, n_v, |points, cells| raw::mesh_tile_curves(curves.lists(), [wide(n_u), wide(n_v)], points, cells));
+    made.map_err(|refusal| refusal.naming(|| limit::of_curves(curves.lists()).or_else(|| limit::of_cells(n_u, n_v))))
 }
 
 /// [`mesh_tile_curves`] of a tile given by a closed loop of points, as [`coons_checked`] reads it.
@@ -222,7 +239,8 @@ pub fn mesh_tile_curves(curves: &BoundaryCurves, n_u: usize, n_v: usize) -> Resu
 /// Refused as [`coons_checked`].
 pub fn mesh_tile(points: &[Point], n_u: usize, n_v: usize) -> Result<Mesh, Refusal> {
     let boundary = points.as_flattened();
-    mesh(n_u, n_v, |points, cells| raw::mesh_tile(boundary, [wide(n_u), wide(n_v)], points, cells))
+    let made = mesh(n_u, n_v, |points, cells| raw::mesh_tile(boundary, [wide(n_u), wide(n_v)], points, cells));
+    made.map_err(|refusal| refusal.naming(|| limit::of_cells(n_u, n_v).or_else(|| limit::of_loop(points.len()))))
 }
 
 /// The signed area of a quad, above 0 if it runs counter-clockwise. It is plain Rust.

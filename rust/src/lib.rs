@@ -1,6 +1,6 @@
 //! The field gridder: how many pieces each edge of each tile is cut into, and where the pegs of a tile stand.
 //!
-//! Every function here calls a proved one of the archive that `rt staticlib exports` makes, and adds only what Rust asks for: `Vec`, `usize`,
+//! Every function here calls a proved one of the archive that `rt staticlib juplatsk` makes, and adds only what Rust asks for: `Vec`, `usize`,
 //! `Result`. Lists are lent, numbers are turned, and nothing else is computed; the two functions that are plain Rust say so.
 //! [`Refusal`] is the one error.
 //!
@@ -37,25 +37,29 @@
 //!
 //! # Linking
 //!
-//! The build script calls `rt staticlib exports` in the folder above this package, which needs the Rattle toolchain, and proves the library
+//! The build script calls `rt staticlib juplatsk` in the folder above this package, which needs the Rattle toolchain, and proves the library
 //! the first time; or it takes the archive from the folder that the variable `JUPLATSK_LIB` names. The archive is for x86-64 Linux.
 
 #![warn(missing_docs)]
 
 mod archive;
 mod geometry;
+mod limit;
 mod raw;
 mod refusal;
 mod solver;
+mod version;
 
 pub use geometry::{
     coons_checked, coons_curves, coons_from_parameters, lay_region, mesh_tile, mesh_tile_curves, signed_area, BoundaryCurves, Cell, Mesh,
     Point, Quad,
 };
+pub use limit::{Limit, Limited};
 pub use refusal::Refusal;
 pub use solver::{
     constraints_hold, energy, round, round_within, solve, solve_counts, solve_counts_within, solve_within, Region, Round, Solved,
 };
+pub use version::{archive_version, VERSION};
 
 /// The square root, correctly rounded; of -0 it is -0.
 ///

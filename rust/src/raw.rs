@@ -2,13 +2,21 @@
 
 use crate::archive::{self, Answer, BySide, Ends};
 use crate::refusal::Refusal;
+use crate::version;
+
+/// What a call stores, or the refusal. `places` picks the two places out of what it stores.
+fn called<T>(mut stored: T, call: impl FnOnce(&mut T) -> u32, places: impl FnOnce(&T) -> [u32; 2]) -> Result<T, Refusal> {
+    version::check()?;
+    let number = call(&mut stored);
+    let [first, second] = places(&stored);
+    Refusal::unless_accepted(number, first, second)?;
+    Ok(stored)
+}
 
 /// The third of the numbers told, or the refusal.
 fn told(call: impl FnOnce(Answer) -> u32) -> Result<u32, Refusal> {
-    let mut answer = [0; 3];
-    let number = call(&mut answer);
-    Refusal::unless_accepted(number, answer[0], answer[1])?;
-    Ok(answer[2])
+    let [_, _, value] = called([0; 3], call, |answer| [answer[0], answer[1]])?;
+    Ok(value)
 }
 
 /// The number of moves.
@@ -24,10 +32,9 @@ pub fn solve_counts_within(regions: &[u16], ends: Ends, counts: &mut [u32]) -> R
 pub type Made = (Option<f64>, bool);
 
 fn made(call: impl FnOnce(&mut [u32; 4], &mut [f64; 1]) -> u32) -> Result<Made, Refusal> {
-    let (mut answer, mut cost) = ([0; 4], [0.0]);
-    let number = call(&mut answer, &mut cost);
-    Refusal::unless_accepted(number, answer[0], answer[1])?;
-    Ok(((answer[2] == 1).then_some(cost[0]), answer[3] == 1))
+    let stored = called(([0; 4], [0.0]), |(answer, cost)| call(answer, cost), |(answer, _)| [answer[0], answer[1]])?;
+    let ([_, _, moved, cut], [cost]) = stored;
+    Ok(((moved == 1).then_some(cost), cut == 1))
 }
 
 pub fn round(regions: &[u16], ideals: &[f64], counts: &mut [u32], limit: u32) -> Result<Made, Refusal> {
@@ -39,10 +46,9 @@ pub fn round_within(regions: &[u16], ends: Ends, counts: &mut [u32], limit: u32)
 }
 
 pub fn energy(counts: &[u32], ideals: &[f64]) -> Result<f64, Refusal> {
-    let (mut answer, mut sum) = ([0; 2], [0.0]);
-    let number = archive::energy(counts, ideals, &mut answer, &mut sum);
-    Refusal::unless_accepted(number, answer[0], answer[1])?;
-    Ok(sum[0])
+    let call = |(answer, sum): &mut ([u32; 2], [f64; 1])| archive::energy(counts, ideals, answer, sum);
+    let (_, [sum]) = called(([0; 2], [0.0]), call, |(answer, _)| *answer)?;
+    Ok(sum)
 }
 
 pub fn constraints_hold(regions: &[u16], counts: &[u32]) -> Result<bool, Refusal> {
@@ -50,9 +56,8 @@ pub fn constraints_hold(regions: &[u16], counts: &[u32]) -> Result<bool, Refusal
 }
 
 pub fn root(x: f64) -> Result<f64, Refusal> {
-    let mut root = [0.0];
-    Refusal::unless_accepted(archive::root(x, &mut root), 0, 0)?;
-    Ok(root[0])
+    let [root] = called([0.0], |root| archive::root(x, root), |_| [0, 0])?;
+    Ok(root)
 }
 
 /// The number of quads, as of all below.

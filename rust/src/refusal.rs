@@ -1,19 +1,30 @@
 //! The one error of the package.
 
+use crate::limit::{side, Limit};
 use std::error::Error;
 use std::fmt;
 
-/// Why a call was turned away: the number and the two places, by the scope paper's table or by the change request that added the number,
-/// and as `Display` a plain sentence.
+/// Why a call was turned away: the number and the two places, by the scope paper's table or by the change request that added the number.
+/// Both `Display` and `Debug` print the number, the places and a sentence that says what is wrong and what to do.
 ///
 /// A place is 0 where the number names none. Sides, curves and seams are numbered bottom 0, right 1, top 2, left 3.
 ///
 /// ```
-/// use juplatsk::{solve_counts, Refusal};
+/// let refusal = juplatsk::solve_counts(&[], &[4.0, -1.0]).unwrap_err();
+/// assert_eq!((refusal.number, refusal.first, refusal.second), (2, 1, 0));
+/// assert_eq!(
+///     refusal.to_string(),
+///     "refusal 2 at edge 1: its ideal count, or an end of its range, is not finite or not above 0; give finite numbers above 0"
+/// );
+/// ```
 ///
-/// let refusal = solve_counts(&[], &[4.0, -1.0]).unwrap_err();
-/// assert_eq!(refusal, Refusal { number: 2, first: 1, second: 0 });
-/// assert_eq!(refusal.to_string(), "edge 1: its ideal count, or an end of its range, is not finite or not above 0 (refusal 2)");
+/// Number 1 says which limit is exceeded:
+///
+/// ```
+/// let refusal = juplatsk::solve_counts(&[], &[1.0; 300]).unwrap_err();
+/// let limit = refusal.limit.unwrap();
+/// assert_eq!((refusal.number, limit.given, limit.most), (1, 300, 256));
+/// assert!(refusal.to_string().starts_with("refusal 1: there are 300 edges (ideals, ranges or counts), and 256 is the most; "));
 /// ```
 ///
 /// It turns into a `String`, so that `?` works in a function that answers `Result<_, String>`:
@@ -26,46 +37,111 @@ use std::fmt;
 /// assert_eq!(pieces(3.2), Ok(3));
 /// assert!(pieces(f64::NAN).is_err());
 /// ```
-#[derive(Clone, Copy, Debug, PartialEq, Eq, Hash)]
+#[derive(Clone, Copy, PartialEq, Eq, Hash)]
+#[non_exhaustive]
 pub struct Refusal {
-    /// 1 to 28, by the table, or 35: a range whose least is above its most.
+    /// 1 to 28, by the table; 35: a range whose least is above its most; 101: the archive is of another version than the package, and was not
+    /// called.
     pub number: u32,
-    /// The first place: a region, an edge, a curve, a corner, a seam, a pair, a side or a column, as the number has it.
+    /// The first place: a region, an edge, a curve, a corner, a seam, a pair, a side or a column, as the number has it. Of 101: the version
+    /// of the archive, 10,000 times its first part, 100 times its second and its third.
     pub first: u32,
-    /// The second place: a side, an index or a row.
+    /// The second place: a side, an index or a row. Of 101: the version of the package.
     pub second: u32,
+    /// Of number 1: the limit that is exceeded. None for all others.
+    pub limit: Option<Limit>,
 }
 
-/// A number that does not fit into the 32 bits of a count is a limit exceeded.
-pub(crate) const MALFORMED: Refusal = Refusal { number: 1, first: 0, second: 0 };
-
-pub(crate) const BAD_LOOP: Refusal = Refusal { number: 12, first: 0, second: 0 };
+pub(crate) const MALFORMED: u32 = 1;
+pub(crate) const BAD_LOOP: u32 = 12;
+pub(crate) const BAD_VERSION: u32 = 101;
 
 impl Refusal {
+    pub(crate) fn new(number: u32, first: u32, second: u32) -> Refusal {
+        Refusal { number, first, second, limit: None }
+    }
+
     pub(crate) fn unless_accepted(number: u32, first: u32, second: u32) -> Result<(), Refusal> {
         match number {
             0 => Ok(()),
-            _ => Err(Refusal { number, first, second }),
+            _ => Err(Refusal::new(number, first, second)),
+        }
+    }
+
+    /// The refusal with its limit, if it is number 1.
+    pub(crate) fn naming(self, limit: impl FnOnce() -> Option<Limit>) -> Refusal {
+        match self.number {
+            MALFORMED => Refusal { limit: limit(), ..self },
+            _ => self,
+        }
+    }
+
+    /// The places that the number names, with " at " before them.
+    fn places(&self) -> String {
+        let (first, second) = (self.first, self.second);
+        match self.number {
+            2 | 6 | 9 | 35 => format!(" at edge {first}"),
+            3 | 4 => format!(" at region {first}, side {second} ({})", side(second)),
+            5 => format!(" at region {first}, sides {second} and {} ({} and {})", second + 2, side(second), side(second + 2)),
+            13..=15 => format!(" at curve {first} ({})", side(first)),
+            16 => format!(" at corner {first} ({})", corner(first)),
+            18 | 21 => format!(" at seam {first} ({})", side(first)),
+            19 | 20 => format!(" at seam {first} ({}), value {second}", side(first)),
+            22 => format!(" at pair {first} ({})", pair(first)),
+            23..=25 => format!(" at column {first}, row {second}"),
+            27 => format!(" at side {first} ({})", side(first)),
+            _ => String::new(),
+        }
+    }
+
+    /// What is wrong, and what to do.
+    fn sentence(&self) -> &'static str {
+        match self.number {
+            1 => "a limit is exceeded; give less",
+            2 => "its ideal count, or an end of its range, is not finite or not above 0; give finite numbers above 0",
+            3 => "an edge number is not below the number of edges; number the edges from 0 up, and give each an ideal or a range, and lay a count",
+            4 => "an edge is listed twice on this side; list it once",
+            5 => "an edge lies on both of these opposite sides; give each side edges of its own",
+            6 => "it lies on more than two sides; an edge borders two tiles at most, so give the others edges of their own",
+            7 => "a further move was found after 200,000 moves; lower the ideals or leasts, or make rounds from counts of your own",
+            8 => "there are not as many counts as ideals or ranges; give one of each for every edge",
+            9 => "its count is above 1,000,000; lower it",
+            10 => "the search limit is above 100,000; state 0 to 100,000",
+            11 => "the output is too short; lend more",
+            12 => LOOP,
+            13 => "the curve has fewer than two points; give at least its two ends",
+            14 => "a point of the curve is not finite; mend it or leave it out",
+            15 => "the curve's length is 0 or not finite; give at least two points that differ, none of them too far off for an f64",
+            16 => "the curves do not meet there; let each curve begin at the point where the one before it ends",
+            17 => "the corners do not run counter-clockwise around an area above 0; if they run clockwise, turn their order round",
+            18 => "the seam has fewer than two values; give it 0 and 1 at least, and lay a side whose counts add up to 1 or more",
+            19 => "the value is not from 0 to 1; in lay it comes from the side's breaks",
+            20 => "the value is below the one before it; in lay it comes from the side's breaks",
+            21 => "the seam does not start at 0 or does not end at 1; in lay its ends are the side's first and last break",
+            22 => "the opposite seams are not equally long; give both equally many values, and lay counts of a solve of this region",
+            23 => "the two grid lines there are parallel; make the seams of opposite sides more alike",
+            24 => "the two grid lines there cross outside the tile; make the seams of opposite sides more alike",
+            25 => "the quad there is turned over or has no finite area above 0; straighten the curves, or cut the tile in two",
+            26 => "n_u or n_v is 0; give 1 or more",
+            27 => "the side's breaks are not one more than its edges; give where each edge begins, and 1 as the last",
+            28 => "a NaN or a number below 0 has no root; give a number from 0 up",
+            35 => "the least of its range is above the most; change their places",
+            BAD_VERSION => "the archive is of another version than this package; link the one that was made with it",
+            _ => "turned away",
         }
     }
 }
 
-fn side(number: u32) -> &'static str {
-    match number {
-        0 => "bottom",
-        1 => "right",
-        2 => "top",
-        _ => "left",
-    }
-}
+const LOOP: &str = "the loop has neither 4 points nor 8 or more in fours, where a last point equal to the first does not count from 5 points up; \
+                    give its four corners, or four curves of equally many points with each corner twice, and the first point once more at the end";
 
-/// Corner 3, where the left curve's first point meets itself, is refused only where the tolerance is no number.
+/// 3 is never answered: there the left curve's first point is held against itself.
 fn corner(number: u32) -> &'static str {
     match number {
         0 => "lower right",
         1 => "upper right",
-        4 => "lower left",
-        _ => "upper left",
+        2 => "upper left",
+        _ => "lower left",
     }
 }
 
@@ -78,40 +154,18 @@ fn pair(number: u32) -> &'static str {
 
 impl fmt::Display for Refusal {
     fn fmt(&self, f: &mut fmt::Formatter<'_>) -> fmt::Result {
-        let (first, second) = (self.first, self.second);
-        match self.number {
-            1 => write!(f, "a limit is exceeded, or a list is broken")?,
-            2 => write!(f, "edge {first}: its ideal count, or an end of its range, is not finite or not above 0")?,
-            3 => write!(f, "region {first}, {} side: an edge number is not below the number of edges", side(second))?,
-            4 => write!(f, "region {first}, {} side: an edge is listed twice", side(second))?,
-            5 => write!(f, "region {first}: an edge lies on the {} side and on the one opposite", side(second))?,
-            6 => write!(f, "edge {first}: it lies on more than two sides")?,
-            7 => write!(f, "a further move was found after 200,000 moves")?,
-            8 => write!(f, "there are not as many counts as ideal counts or ranges")?,
-            9 => write!(f, "edge {first}: its count is above 1,000,000")?,
-            10 => write!(f, "the search limit is above 100,000")?,
-            11 => write!(f, "the output is too short")?,
-            12 => write!(f, "a boundary loop must have 4 points, or 8 or more in fours")?,
-            13 => write!(f, "{} curve: it needs at least two points", side(first))?,
-            14 => write!(f, "{} curve: a point is not finite", side(first))?,
-            15 => write!(f, "{} curve: its length is 0 or not finite", side(first))?,
-            16 => write!(f, "the curves do not meet at the {} corner", corner(first))?,
-            17 => write!(f, "the corners do not run counter-clockwise around an area")?,
-            18 => write!(f, "{} seam: it needs at least two values", side(first))?,
-            19 => write!(f, "{} seam: value {second} is not from 0 to 1", side(first))?,
-            20 => write!(f, "{} seam: value {second} is below the one before it", side(first))?,
-            21 => write!(f, "{} seam: it must start at 0 and end at 1", side(first))?,
-            22 => write!(f, "the {} seams are not equally long", pair(first))?,
-            23 => write!(f, "the grid lines at column {first}, row {second} are parallel")?,
-            24 => write!(f, "the grid lines at column {first}, row {second} cross outside the tile")?,
-            25 => write!(f, "the quad at column {first}, row {second} is turned over or has no finite area above 0")?,
-            26 => write!(f, "n_u and n_v must be at least 1")?,
-            27 => write!(f, "{} side: its breaks must be one more than its edges", side(first))?,
-            28 => write!(f, "a NaN or a number below 0 has no root")?,
-            35 => write!(f, "edge {first}: the least of its range is above the most")?,
-            _ => write!(f, "turned away")?,
+        write!(f, "refusal {}{}: ", self.number, self.places())?;
+        match self.limit {
+            Some(limit) => write!(f, "{limit}; {}", limit.of.remedy()),
+            None => f.write_str(self.sentence()),
         }
-        write!(f, " (refusal {})", self.number)
+    }
+}
+
+/// As `Display`: it is what an `unwrap` shows.
+impl fmt::Debug for Refusal {
+    fn fmt(&self, f: &mut fmt::Formatter<'_>) -> fmt::Result {
+        fmt::Display::fmt(self, f)
     }
 }
 

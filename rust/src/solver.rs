@@ -1,5 +1,6 @@
 //! Regions, and how many pieces each edge is cut into.
 
+use crate::limit::{self, PLACES};
 use crate::raw::{self, Made};
 use crate::refusal::{Refusal, MALFORMED};
 use std::ops::RangeInclusive;
@@ -15,7 +16,6 @@ pub struct Region {
 }
 
 const SIDES: usize = 4;
-const PLACES: usize = 16;
 const RECORD: usize = SIDES * (PLACES + 1);
 
 impl Region {
@@ -123,7 +123,8 @@ pub fn solve_counts(regions: &[Region], edge_ideal: &[f64]) -> Result<Vec<usize>
 /// # Ok::<(), juplatsk::Refusal>(())
 /// ```
 pub fn solve(regions: &[Region], edge_ideal: &[f64]) -> Result<Solved, Refusal> {
-    solved(edge_ideal.len(), |counts| raw::solve_counts(&records(regions), edge_ideal, counts))
+    let solved = solved(edge_ideal.len(), |counts| raw::solve_counts(&records(regions), edge_ideal, counts));
+    solved.map_err(|refusal| refusal.naming(|| limit::of_regions(regions, &[edge_ideal.len()])))
 }
 
 /// [`solve_counts`] with a range for each edge in place of an ideal count.
@@ -161,7 +162,8 @@ pub fn solve_counts_within(regions: &[Region], ranges: &[RangeInclusive<f64>]) -
 /// ```
 pub fn solve_within(regions: &[Region], ranges: &[RangeInclusive<f64>]) -> Result<Solved, Refusal> {
     let (least, most) = ends(ranges);
-    solved(ranges.len(), |counts| raw::solve_counts_within(&records(regions), [&least, &most], counts))
+    let solved = solved(ranges.len(), |counts| raw::solve_counts_within(&records(regions), [&least, &most], counts));
+    solved.map_err(|refusal| refusal.naming(|| limit::of_regions(regions, &[ranges.len()])))
 }
 
 /// What a round did.
@@ -199,7 +201,9 @@ fn round_on(counts: &mut [usize], call: impl FnOnce(&mut [u32]) -> Result<Made, 
 ///
 /// Refused by 1, 10, 8, 2, 9, 3 to 6, and then the counts are as they were.
 pub fn round(regions: &[Region], edge_ideal: &[f64], counts: &mut [usize], limit: usize) -> Result<Round, Refusal> {
-    round_on(counts, |counts| raw::round(&records(regions), edge_ideal, counts, wide(limit)))
+    let edges = [edge_ideal.len(), counts.len()];
+    let made = round_on(counts, |counts| raw::round(&records(regions), edge_ideal, counts, wide(limit)));
+    made.map_err(|refusal| refusal.naming(|| limit::of_regions(regions, &edges)))
 }
 
 /// [`round`] with a range for each edge in place of an ideal count; [`solve_counts_within`] says what a range means.
@@ -221,7 +225,9 @@ pub fn round(regions: &[Region], edge_ideal: &[f64], counts: &mut [usize], limit
 /// order, and then the counts are as they were. 2 is tested for all edges, then 35, then 9, and each names the lowest edge.
 pub fn round_within(regions: &[Region], ranges: &[RangeInclusive<f64>], counts: &mut [usize], limit: usize) -> Result<Round, Refusal> {
     let (least, most) = ends(ranges);
-    round_on(counts, |counts| raw::round_within(&records(regions), [&least, &most], counts, wide(limit)))
+    let edges = [ranges.len(), counts.len()];
+    let made = round_on(counts, |counts| raw::round_within(&records(regions), [&least, &most], counts, wide(limit)));
+    made.map_err(|refusal| refusal.naming(|| limit::of_regions(regions, &edges)))
 }
 
 /// The energy of counts: the sum of (count / ideal - 1)² over the edges.
@@ -232,7 +238,8 @@ pub fn round_within(regions: &[Region], ranges: &[RangeInclusive<f64>], counts: 
 ///
 /// Refused by 1, 8, 2, 9.
 pub fn energy(counts: &[usize], edge_ideal: &[f64]) -> Result<f64, Refusal> {
-    raw::energy(&wide_counts(counts), edge_ideal)
+    let edges = [edge_ideal.len(), counts.len()];
+    raw::energy(&wide_counts(counts), edge_ideal).map_err(|refusal| refusal.naming(|| limit::of_regions(&[], &edges)))
 }
 
 /// Whether opposite sides of every region add up to the same. An edge without a count makes it false.
@@ -247,8 +254,10 @@ pub fn energy(counts: &[usize], edge_ideal: &[f64]) -> Result<f64, Refusal> {
 ///
 /// Refused by 1 alone.
 pub fn constraints_hold(regions: &[Region], counts: &[usize]) -> Result<bool, Refusal> {
-    if counts.iter().any(|&n| u32::try_from(n).is_err()) {
-        return Err(MALFORMED);
-    }
-    raw::constraints_hold(&records(regions), &wide_counts(counts))
+    let limits = || limit::of_regions(regions, &[counts.len()]).or_else(|| limit::of_counts(counts));
+    let held = match limit::of_counts(counts) {
+        Some(_) => Err(Refusal::new(MALFORMED, 0, 0)),
+        None => raw::constraints_hold(&records(regions), &wide_counts(counts)),
+    };
+    held.map_err(|refusal| refusal.naming(limits))
 }

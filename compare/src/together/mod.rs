@@ -1,4 +1,4 @@
-//! The oracle and this library in one process (feature `library`: it links the archive of the crate `exports`).
+//! The oracle and this library in one process (feature `library`: it links the archive of the crate `juplatsk`).
 //!
 //! - `library`: the exported functions, by the users' package's file.
 //! - `call`: a call with all that it is lent, and its effect.

@@ -203,7 +203,7 @@ impl Choice {
     }
 }
 
-// The first start of the lowest cost, the starts in their order.
+// The start whose cost is kept, the starts weighed in their order.
 fn choose(kept: &[f64; CHANGES], cut: &[bool; CHANGES], n: usize) -> Choice
     requires { ⌜ n ≤ max-edges ⌝ }
     ensures { λ r. ⌜ (r ≡ chosen (now (kept .entry)) (now (cut .entry)) (n * 2)) × (r .winner ≤ changes) ⌝ }
@@ -222,7 +222,7 @@ fn choose(kept: &[f64; CHANGES], cut: &[bool; CHANGES], n: usize) -> Choice
     out
 }
 
-// The best move over all starts of n edges, its changes in `best`. The winner is searched once more, for its changes.
+// The move kept over all starts of n edges, its changes in `best`. Its start is searched once more, for the changes.
 pub(crate) fn find_augmentation(
     regions: &[u16],
     incident: &[u16; EDGE_SLOTS],

@@ -1,4 +1,4 @@
-// What a change of one edge costs, for every edge of a round, and the energy that the costs are the changes of.
+// What a change of one edge costs, for every edge of a round; and the energy of counts.
 use crate::limits::CHANGES;
 ghost use mathlib.Core.Path.{_≡_};
 ghost use mathlib.Core.Bool.{true, false};

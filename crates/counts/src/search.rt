@@ -1,4 +1,5 @@
-// The search for the cheapest unit move from one start: `AugmentSearch` of 000, over tables that are made once.
+// The search from one start for a unit move of low cost: `AugmentSearch` of 000, over tables that are made once. A complete reading takes the
+// place of the kept one only if it costs less by more than E.
 // A change is packed in one number, 2 * edge + 1 for +1 and 2 * edge for -1. A slot is 2 * edge + k: constraint k (0 or 1) of the edge;
 // `incident` has the constraint's number there, or NO_CONSTRAINT if there is none, and `own` the number of the side on which the edge stands.
 // `used` marks the constraints already crossed (NO_CONSTRAINT always), `path` has the changes so far, `best` the kept reading.

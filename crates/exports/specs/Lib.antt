@@ -1,3 +1,0 @@
--- The definitions of the crate. Assumes nothing.
-pub mod Stored
-pub mod inner

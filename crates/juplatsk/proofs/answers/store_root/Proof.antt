@@ -1,0 +1,24 @@
+-- `store_root` meets its contract: in each arm the answer equals the pattern. Assumes nothing.
+use Rattle.juplatsk.proofs.Laws.{root-accepted, root-refused}
+use borrow.Author.Needs.{needs}
+use Rattle.juplatsk.proofs.answers.store_root.Statement.{statement}
+use Rattle.juplatsk.proofs.answers.store_root.Tie as tie
+
+enum-known-taken : tie.Need-enum-known-taken
+enum-known-taken c = search needs
+
+enum-known-taken-2 : tie.Need-enum-known-taken-2
+enum-known-taken-2 c = search needs
+
+verdict-of-requires : tie.Need-verdict-of-requires
+verdict-of-requires c κs = search needs
+
+returns : tie.Need-returns
+returns c = root-accepted (c .before .before .taken .given .1)
+
+returns-2 : tie.Need-returns-2
+returns-2 c = root-refused (c .before .before .before .taken2 .given .1) (c .verdict-of .ensures)
+
+pub store-root-spec : {M : Type 1} → statement M
+store-root-spec =
+    tie.close (tie.spec enum-known-taken enum-known-taken-2 verdict-of-requires returns returns-2)

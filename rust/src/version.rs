@@ -1,0 +1,54 @@
+//! The version of the package, held against the archive's before each call.
+
+use crate::archive;
+use crate::refusal::{Refusal, BAD_VERSION};
+
+/// The version of this package as one number: 10,000 times its first part, 100 times its second and its third. 0.2.0 is 200.
+pub const VERSION: u32 = 10_000 * number(env!("CARGO_PKG_VERSION_MAJOR"))
+    + 100 * number(env!("CARGO_PKG_VERSION_MINOR"))
+    + number(env!("CARGO_PKG_VERSION_PATCH"));
+
+const fn number(digits: &str) -> u32 {
+    let (digits, mut value, mut i) = (digits.as_bytes(), 0, 0);
+    while i < digits.len() {
+        value = 10 * value + (digits[i] - b'0') as u32;
+        i += 1;
+    }
+    value
+}
+
+/// Whether lists and answers mean the same in both: the third part alone may differ.
+const fn fits(archive: u32, package: u32) -> bool {
+    archive / 100 == package / 100
+}
+
+/// The version of the archive that is linked, as one number, like [`VERSION`].
+///
+/// Every call of this package first looks whether it fits: if the first or the second part differs, the call is refused by 101, and nothing
+/// of the archive is called.
+///
+/// ```
+/// assert_eq!(juplatsk::archive_version() / 100, juplatsk::VERSION / 100);
+/// ```
+pub fn archive_version() -> u32 {
+    archive::version()
+}
+
+pub(crate) fn check() -> Result<(), Refusal> {
+    match archive_version() {
+        archive if fits(archive, VERSION) => Ok(()),
+        archive => Err(Refusal::new(BAD_VERSION, archive, VERSION)),
+    }
+}
+
+#[cfg(test)]
+mod tests {
+    use super::*;
+
+    #[test]
+    fn parts() {
+        assert_eq!((number("0"), number("10"), number("207")), (0, 10, 207));
+        assert!(fits(200, 200) && fits(207, 200) && fits(10_000, 10_099));
+        assert!(!fits(199, 200) && !fits(300, 200) && !fits(10_200, 200));
+    }
+}
