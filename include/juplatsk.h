@@ -49,6 +49,25 @@
  * ------
  * A curve is a list x, y, x, y, .. of 2 to 1,024 points. bottom runs from left to right, right from bottom to top, top from right to
  * left, left from top to bottom: counter-clockwise around the tile.
+ *
+ * Before pegs are set
+ * -------------------
+ * docs/DIFFERENCES.md has these facts in full; rust/tests/facts.rs shows each.
+ *   A count of 0 is an answer. Lay then sets no peg where that edge begins, at its left or lower end, and refuses with 21 if it is the
+ *     first of its side. A tile of 12 by 9 m, its top an edge of 9 m and a gateway of 3 m, ideals length / 9: count 0 for the gateway,
+ *     no peg at 9 m. Look for counts of 0 after a solve. With a range from 1 for that edge a count of 1 costs nothing and 0 costs 1,
+ *     and that is all: the count may still be 0.
+ *   jp_coons_curves, jp_coons_checked and both meshes space the points of each side evenly and know nothing of edges: with solved counts
+ *     the number of points agrees with the neighbours', and not where they stand. A side of 19 m whose neighbours meet at 14 m, one
+ *     piece each: the mesh has its middle point at 9.5 m. Use jp_lay_region where a side has more than one edge.
+ *   Two tiles work out the pegs of their common edge each for itself, and the last bits may differ; a peg at half a millimetre may then be
+ *     rounded up in one and down in the other. Tiles of 31.502 by 9 m above each other, four pieces: 7.875499999999998 and 7.8755.
+ *     Take the pegs of a common edge from one of its tiles.
+ *   On wide farms the searches of a solve are cut, edges that want many pieces may be left at 0, and the solve does not tell: 16 strips of
+ *     45 by 9 m side by side, each border between two cut into 9, 9 and 27 m, leave all 15 edges of 27 m at 0. After a solve make one
+ *     jp_round with limit 100,000 on the counts and look at its cut mark.
+ *   A loop of 8 points or more has each corner twice. Its last point then equals its first and is dropped: a b b c c d d a is refused with
+ *     12. Put the first point once more at the end.
  */
 #ifndef JUPLATSK_H
 #define JUPLATSK_H
@@ -160,8 +179,8 @@ static inline int jp_version_fits(void)
 
 /* ---- refusals in words */
 
-/* What is wrong and what to do, for a number that one of these functions returned; `first` and `second` in it are the two places. It is never
- * NULL, and nobody need free it. A call:
+/* What is wrong and what to do, for a number that one of these functions returned; `first` and `second` in it are the two places. It is
+ * never NULL, and nobody need free it. A call:
  *     uint32_t number = jp_solve_counts(regions, regions_len, ideals, ideals_len, counts, counts_len, answer);
  *     if (number != JP_ACCEPTED) {
  *         fprintf(stderr, "refusal %u, first %u, second %u: %s\n", number, answer[0], answer[1], jp_refusal_text(number));
@@ -173,14 +192,14 @@ static inline const char *jp_refusal_text(uint32_t number)
     case JP_ACCEPTED:
         return "accepted";
     case JP_MALFORMED:
-        return "a limit is exceeded or a list is broken; give at most 128 regions, 16 edges on a side, 256 ideals, leasts, mosts or counts, "
-               "1,024 points in a curve, 4,096 in a loop, 1,025 values in a seam, 1,024 for n_u, n_v and the sum of a side's counts in lay, "
-               "records of 68 numbers (lay takes one), and an even number of values in curves and loops";
+        return "a limit is exceeded or a list is broken; give at most 128 regions, 16 edges on a side, 256 ideals, leasts, mosts or "
+               "counts, 1,024 points in a curve, 4,096 in a loop, 1,025 values in a seam, 1,024 for n_u, n_v and the sum of a side's "
+               "counts in lay, whole records of 68 numbers (lay takes one), and an even number of values in curves and loops";
     case JP_BAD_IDEAL:
         return "the ideal of edge `first`, or an end of its range, is not finite or not above 0; give finite numbers above 0";
     case JP_EDGE_OUT_OF_RANGE:
-        return "region `first` names on side `second` an edge that is not below the number of edges; number the edges from 0 up, and give each "
-               "an ideal or a range, and lay a count";
+        return "region `first` names on side `second` an edge that is not below the number of edges; number the edges from 0 up, and give "
+               "each an ideal or a range, and lay a count";
     case JP_EDGE_REPEATED:
         return "region `first` lists an edge twice on side `second`; list it once";
     case JP_EDGE_ON_BOTH_SIDES:
@@ -198,18 +217,19 @@ static inline const char *jp_refusal_text(uint32_t number)
     case JP_OUTPUT_TOO_SHORT:
         return "an output is too short; lend as much as the function's comment says";
     case JP_BAD_LOOP:
-        return "the loop has neither 4 points nor 8 or more in fours, where a last point equal to the first does not count from 5 points up; "
-               "give its four corners, or four curves of equally many points with each corner twice, and the first point once more at the "
-               "end";
+        return "the loop has neither 4 points nor 8 or more in fours, where a last point equal to the first does not count from 5 points "
+               "up; give its four corners, or four curves of equally many points with each corner twice, and the first point once more "
+               "at the end";
     case JP_CURVE_TOO_SHORT:
         return "curve `first` has fewer than two points; give at least its two ends";
     case JP_POINT_NOT_FINITE:
         return "a point of curve `first` is not finite; mend it or leave it out";
     case JP_BAD_CURVE_LENGTH:
-        return "the length of curve `first` is 0 or not finite; give at least two points that differ, none of them too far off for a double";
+        return "the length of curve `first` is 0 or not finite; give at least two points that differ, none of them too far off for a "
+               "double";
     case JP_CURVES_APART:
-        return "the curves do not meet at corner `first` (0 lower right, 1 upper right, 2 upper left, 4 lower left); let each curve begin at "
-               "the point where the one before it ends";
+        return "the curves do not meet at corner `first` (0 lower right, 1 upper right, 2 upper left, 4 lower left); let each curve begin "
+               "at the point where the one before it ends";
     case JP_CORNERS_CLOCKWISE:
         return "the corners do not run counter-clockwise around an area above 0; if they run clockwise, turn their order round";
     case JP_SEAM_TOO_SHORT:
@@ -221,15 +241,15 @@ static inline const char *jp_refusal_text(uint32_t number)
     case JP_SEAM_ENDS:
         return "seam `first` does not start at 0 or does not end at 1; in lay its ends are the side's first and last break";
     case JP_SEAMS_UNEQUAL:
-        return "the seams of pair `first` (0 bottom and top, 1 left and right) are not equally long; give both equally many values, and lay "
-               "counts of a solve of this region";
+        return "the seams of pair `first` (0 bottom and top, 1 left and right) are not equally long; give both equally many values, and "
+               "lay counts of a solve of this region";
     case JP_LINES_PARALLEL:
         return "the two grid lines at column `first`, row `second` are parallel; make the seams of opposite sides more alike";
     case JP_CROSSING_OUTSIDE:
         return "the two grid lines at column `first`, row `second` cross outside the tile; make the seams of opposite sides more alike";
     case JP_BAD_QUAD_AREA:
-        return "the quad at column `first`, row `second` is turned over or has no finite area above 0; straighten the curves, or cut the tile "
-               "in two";
+        return "the quad at column `first`, row `second` is turned over or has no finite area above 0; straighten the curves, or cut the "
+               "tile in two";
     case JP_NO_CELLS:
         return "n_u or n_v is 0; give 1 or more";
     case JP_BREAKS_MISMATCH:
@@ -348,8 +368,8 @@ static inline double *jp_f64_out(double *p)
 /* Fills in a side of a record of 68 numbers; the places past the edges stay as they were. It calls nothing of the archive.
  * Reads   edges, at most 16.
  * Writes  record.
- * Refuses JP_BAD_BUFFER, as all others do: the list of edges may not overlap the record; then JP_MALFORMED for a side above 3 or more than 16
- *         edges. The record is then as it was. */
+ * Refuses JP_BAD_BUFFER, as all others do: the list of edges may not overlap the record; then JP_MALFORMED for a side above 3 or more
+ *         than 16 edges. The record is then as it was. */
 static inline uint32_t jp_set_side(uint16_t record[JP_RECORD], unsigned side, const uint16_t *edges, size_t edges_len)
 {
     const jp_buffer lent[] = {JP_ARRAY(record, JP_RECORD), JP_READ(edges)};
@@ -369,7 +389,16 @@ static inline uint32_t jp_set_side(uint16_t record[JP_RECORD], unsigned side, co
 
 /* ---- counts */
 
-/* The counts of every edge: from zeros, round after round with limit 100,000, until one finds no move.
+/* The counts of every edge: from zeros, round after round with limit 100,000, until one finds no move. A count may be 0, and where searches
+ * were cut there may be a better answer ("Before pegs are set", above). A long solve can be made by hand, with progress and a way to stop:
+ *     memset(counts, 0, edges * sizeof *counts);
+ *     for (moves = 0; moves < 200000 && go_on(moves, counts); moves++) {
+ *         number = jp_round(regions, regions_len, ideals, edges, counts, edges, 100000, answer, cost);
+ *         if (number != JP_ACCEPTED || answer[2] == 0) {
+ *             break;
+ *         }
+ *     }
+ * makes the same moves, and after every round opposite sides add up to the same. It takes longer: each round searches anew.
  * Reads   regions, ideals (one for each edge).
  * Writes  counts: as many as there are ideals; answer: place, place, number of moves.
  * Refuses 1, 11, 2, 3 to 6, 7; 7 sets the needed counts to 0. */
@@ -518,7 +547,7 @@ static inline uint32_t jp_coons_from_parameters(const double *bottom, size_t bot
                                           left_v_len, jp_f64(right_v), right_v_len, jp_f64_out(out), out_len, answer);
 }
 
-/* The n_u by n_v quads between four curves, by even seams.
+/* The n_u by n_v quads between four curves, by even seams: it knows nothing of edges, so at a T-junction use jp_lay_region.
  * Reads   curves; n_u, n_v: 1 to 1,024.
  * Writes  out: 8 * n_u * n_v values; answer: place, place, number of quads.
  * Refuses 1, 26, 13 to 17, 11, 25, which sets the needed output to +0.0. */
@@ -563,7 +592,8 @@ static inline uint32_t jp_lay_region(const uint16_t *region, size_t region_len, 
 /* The n_u by n_v quads of a tile given by a closed loop of points, counter-clockwise.
  * Reads   boundary: x, y in turn: the four corners from the lower left, or four curves of equally many points, two or more each
  *         (bottom, right, top, left; curves share no points, each corner is in it twice); at most 4,096 points. A last point equal to the
- *         first is dropped, from 5 points up. n_u, n_v: 1 to 1,024.
+ *         first is dropped, from 5 points up, so four curves that end just where they began are followed by the first point once more.
+ *         n_u, n_v: 1 to 1,024.
  * Writes  out: 8 * n_u * n_v values; answer: place, place, number of quads.
  * Refuses 1, 12, 26, 14 to 17, 11, 25, which sets the needed output to +0.0. */
 static inline uint32_t jp_coons_checked(const double *boundary, size_t boundary_len, uint32_t n_u, uint32_t n_v, double *out,
@@ -579,7 +609,7 @@ static inline uint32_t jp_coons_checked(const double *boundary, size_t boundary_
 
 /* ---- meshes: the points of a grid, and for each quad the numbers of its four points, counter-clockwise from its lower left */
 
-/* The mesh of the n_u by n_v grid between four curves.
+/* The mesh of the n_u by n_v grid between four curves, by even seams as jp_coons_curves.
  * Reads   as jp_coons_curves.
  * Writes  points: x, y, +0.0 for each of (n_u + 1) * (n_v + 1) points, rows from the bottom; cells: 4 * n_u * n_v point numbers;
  *         answer: place, place, number of quads.

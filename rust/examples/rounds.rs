@@ -4,7 +4,7 @@
 //!
 //! The farm is a wall of bricks: ROWS rows of TILES tiles, each row shifted by half a tile against the one below. It stops after SECONDS, and could
 //! as well stop when somebody presses a key: whenever it does, opposite sides of every tile add up to the same, since they did at the start
-//! and every round keeps that. Rounds with limit 100,000 make the moves that `solve` makes.
+//! and every round keeps that. Rounds with limit 100,000 make the moves that `solve` makes; as each searches anew, they take longer.
 
 use juplatsk::{constraints_hold, energy, round, Refusal, Region};
 use std::env;

@@ -1,8 +1,8 @@
 //! The field gridder: how many pieces each edge of each tile is cut into, and where the pegs of a tile stand.
 //!
-//! Every function here calls a proved one of the archive that `rt staticlib juplatsk` makes, and adds only what Rust asks for: `Vec`, `usize`,
-//! `Result`. Lists are lent, numbers are turned, and nothing else is computed; the two functions that are plain Rust say so.
-//! [`Refusal`] is the one error.
+//! The answers are those of proved functions, which lie in the archive that `rt staticlib juplatsk` makes. What stands around them here is plain
+//! Rust, and tested: it lends lists, turns numbers, and puts refusals into words. [`BoundaryCurves::from_corners`],
+//! [`BoundaryCurves::from_loop`] and [`signed_area`] are plain Rust altogether. [`Refusal`] is the one error.
 //!
 //! ```
 //! use juplatsk::{energy, lay_region, solve_counts, BoundaryCurves, Region};
@@ -31,14 +31,70 @@
 //! | `constraints_hold(..)` is a `bool` | it is a `Result`: there are limits; `constraints_hold(..) == Ok(true)` |
 //! | `coons(..)` hides errors | `coons_checked(..).unwrap_or_default()` |
 //! | `mesh.cells[i].nodes` is a `Vec`, beside a `kind` | an array of four, all cells are quads |
-//! | no limits | at most 128 regions, 16 edges a side, 256 edges, counts to 1,000,000; curves of 1,024 points, loops of 4,096, 1,024 cells along a side |
+//! | no limits | at most 128 regions, 16 edges a side, 256 edges; counts up to 1,000,000 in a round and in `energy`; curves of 1,024 points, loops of 4,096, seams of 1,025 values, 1,024 cells along a side |
 //! | | new: [`round`], [`solve`] (with the number of moves), [`lay_region`], [`root`] |
 //! | | new: a range for each edge, as `2.0..=5.0`, in place of an ideal count: [`solve_counts_within`], [`solve_within`], [`round_within`] |
 //!
+//! # Before pegs are set
+//!
+//! Facts that decide whether pegs meet. `tests/facts.rs` shows each; docs/DIFFERENCES.md of the repository has them in full.
+//!
+//! - **A count of 0 is an answer.** Lay then sets no peg where that edge begins, at its left or lower end, and is refused by 21 if it is the first of
+//!   its side. Look for counts of 0 after a solve. With a range from 1 for that edge a count of 1 costs nothing and 0 costs 1, and that is all: the
+//!   count may still be 0.
+//!
+//!   ```
+//!   use juplatsk::{solve_counts, solve_counts_within, Region};
+//!
+//!   // 12 m by 9 m, a peg about every 9 m; the top is a fence of 9 m and a gateway of 3 m
+//!   let tile = [Region::new([vec![0], vec![1], vec![3, 4], vec![2]])];
+//!   let ideals = [12.0 / 9.0, 1.0, 1.0, 1.0, 3.0 / 9.0];
+//!   assert_eq!(solve_counts(&tile, &ideals)?, [1, 1, 1, 1, 0]);
+//!
+//!   let mut ranges = ideals.map(|ideal| ideal..=ideal);
+//!   ranges[0] = 1.0..=2.0;
+//!   ranges[4] = 1.0..=1.0;
+//!   assert_eq!(solve_counts_within(&tile, &ranges)?, [2, 1, 1, 1, 1]);
+//!   # Ok::<(), juplatsk::Refusal>(())
+//!   ```
+//! - **Even seams know nothing of T-junctions.** [`coons_curves`], [`coons_checked`] and the meshes space the points of a side evenly: with solved
+//!   counts the number of points agrees with the neighbours', and not where they stand. A side of 19 m whose neighbours meet at 14 m, one piece
+//!   each, gets its middle point at 9.5 m. Use [`lay_region`] where a side has more than one edge.
+//! - **A peg on a common edge has two versions**, one of each tile, and their last bits may differ. Two tiles of 31.502 m by 9 m, one above the other,
+//!   in four pieces: 7.875499999999998 and 7.8755 m, which round to 7,875 and 7,876 mm. Take the pegs of a common edge from one of its tiles, as
+//!   `examples/farm` does.
+//! - **A solve may be cut, and does not tell.** On wide farms its searches are turned back at the limit, and edges that want many pieces may be left
+//!   at 0. After a solve make one [`round`] with limit 100,000 on the counts, and look at [`Round::cut`].
+//! - **A loop of 8 points or more has each corner twice** and, if it ends just where it began, its first point once more behind that:
+//!   [`BoundaryCurves::from_loop`].
+//!
+//! # A long solve
+//!
+//! A solve tells nothing before it ends, which on wide farms takes seconds or minutes. [`round`] makes the same moves one by one, each with a search
+//! anew, so that it takes longer in all: show how far it is, and stop when you like, or at 200,000 moves as a solve does. Opposite sides agree after
+//! every round, since they do at the start. `examples/rounds.rs` is a program that does so.
+//!
+//! ```
+//! use juplatsk::{constraints_hold, round, solve, Region};
+//!
+//! let regions = [Region::new([vec![0], vec![1], vec![2, 3], vec![4]])];
+//! let ideals = [4.0, 1.0, 2.0, 2.0, 1.0];
+//! let (mut counts, mut moves) = (vec![0; ideals.len()], 0);
+//! while moves < 200_000 && round(&regions, &ideals, &mut counts, 100_000)?.cost.is_some() {
+//!     moves += 1; // show it, or leave the loop
+//!     assert_eq!(constraints_hold(&regions, &counts), Ok(true));
+//! }
+//! let solved = solve(&regions, &ideals)?;
+//! assert_eq!((counts, moves), (solved.counts, solved.moves));
+//! # Ok::<(), juplatsk::Refusal>(())
+//! ```
+//!
 //! # Linking
 //!
-//! The build script calls `rt staticlib juplatsk` in the folder above this package, which needs the Rattle toolchain, and proves the library
-//! the first time; or it takes the archive from the folder that the variable `JUPLATSK_LIB` names. The archive is for x86-64 Linux.
+//! The build script takes the archive `libjuplatsk.a` from the folder that the variable `JUPLATSK_LIB` names (a relative path starts at this
+//! package), or else calls `rt staticlib juplatsk` in the folder above this package, which needs the Rattle kit, and proves the library the first
+//! time: some minutes. The archive is for x86-64 Linux. It has a version; every call of it is refused by 101 if that is not the package's
+//! ([`check_version`]).
 
 #![warn(missing_docs)]
 
@@ -59,7 +115,7 @@ pub use refusal::Refusal;
 pub use solver::{
     constraints_hold, energy, round, round_within, solve, solve_counts, solve_counts_within, solve_within, Region, Round, Solved,
 };
-pub use version::{archive_version, VERSION};
+pub use version::{archive_version, check_version, VERSION};
 
 /// The square root, correctly rounded; of -0 it is -0.
 ///

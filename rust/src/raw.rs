@@ -2,11 +2,11 @@
 
 use crate::archive::{self, Answer, BySide, Ends};
 use crate::refusal::Refusal;
-use crate::version;
+use crate::version::check_version;
 
 /// What a call stores, or the refusal. `places` picks the two places out of what it stores.
 fn called<T>(mut stored: T, call: impl FnOnce(&mut T) -> u32, places: impl FnOnce(&T) -> [u32; 2]) -> Result<T, Refusal> {
-    version::check()?;
+    check_version()?;
     let number = call(&mut stored);
     let [first, second] = places(&stored);
     Refusal::unless_accepted(number, first, second)?;

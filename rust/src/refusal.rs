@@ -76,7 +76,7 @@ impl Refusal {
         }
     }
 
-    /// The places that the number names, with " at " before them.
+    /// The places that the number names, as they stand behind it.
     fn places(&self) -> String {
         let (first, second) = (self.first, self.second);
         match self.number {
@@ -90,6 +90,7 @@ impl Refusal {
             22 => format!(" at pair {first} ({})", pair(first)),
             23..=25 => format!(" at column {first}, row {second}"),
             27 => format!(" at side {first} ({})", side(first)),
+            BAD_VERSION => format!(" (archive {}, package {})", parts(first), parts(second)),
             _ => String::new(),
         }
     }
@@ -143,6 +144,11 @@ fn corner(number: u32) -> &'static str {
         2 => "upper left",
         _ => "lower left",
     }
+}
+
+/// A version as it is written.
+fn parts(version: u32) -> String {
+    format!("{}.{}.{}", version / 10_000, version / 100 % 100, version % 100)
 }
 
 fn pair(number: u32) -> &'static str {

@@ -23,18 +23,20 @@ const fn fits(archive: u32, package: u32) -> bool {
 }
 
 /// The version of the archive that is linked, as one number, like [`VERSION`].
-///
-/// Every call of this package first looks whether it fits: if the first or the second part differs, the call is refused by 101, and nothing
-/// of the archive is called.
-///
-/// ```
-/// assert_eq!(juplatsk::archive_version() / 100, juplatsk::VERSION / 100);
-/// ```
 pub fn archive_version() -> u32 {
     archive::version()
 }
 
-pub(crate) fn check() -> Result<(), Refusal> {
+/// Refused by 101 if the archive that is linked is of another version than this package, but for the third part.
+///
+/// Every function that calls the archive looks itself, and is then refused so; this one tells at once.
+///
+/// ```
+/// juplatsk::check_version()?;
+/// assert_eq!(juplatsk::archive_version() / 100, juplatsk::VERSION / 100);
+/// # Ok::<(), juplatsk::Refusal>(())
+/// ```
+pub fn check_version() -> Result<(), Refusal> {
     match archive_version() {
         archive if fits(archive, VERSION) => Ok(()),
         archive => Err(Refusal::new(BAD_VERSION, archive, VERSION)),

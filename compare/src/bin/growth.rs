@@ -1,8 +1,8 @@
 //! growth FOLDER: times solves and grids of growing size through the Rust and through this library, and writes three plots to the folder:
 //! growth-edges.svg, growth-moves.svg, growth-cells.svg.
 
-use compare::together::growth;
 use compare::together::plot::Plot;
+use compare::together::{check_version, growth};
 use compare::tool::ended;
 use std::path::Path;
 use std::process::ExitCode;
@@ -13,6 +13,7 @@ fn main() -> ExitCode {
 }
 
 fn run() -> Result<(), String> {
+    check_version()?;
     let words: Vec<String> = env::args().skip(1).collect();
     let [folder] = &words[..] else {
         return Err("usage: growth FOLDER".to_string());

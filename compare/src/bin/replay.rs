@@ -1,8 +1,8 @@
 //! replay FILES..: runs the vectors of the files through this library's exported functions; prints each that differs. Exit status 0 only
 //! if none does.
 
-use compare::together::call;
 use compare::together::line::{self, Passed};
+use compare::together::{call, check_version};
 use compare::tool::ended;
 use std::process::ExitCode;
 use std::{env, fs};
@@ -12,6 +12,7 @@ fn main() -> ExitCode {
 }
 
 fn run() -> Result<(), String> {
+    check_version()?;
     let files: Vec<String> = env::args().skip(1).collect();
     if files.is_empty() {
         return Err("usage: replay FILES..    (files in the format of the vectors; README.md says more)".to_string());

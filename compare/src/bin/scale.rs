@@ -1,7 +1,7 @@
 //! scale SEED COUNT: all short inputs of some kinds, 01's limits, and COUNT random calls through the oracle and through this library, every
 //! result and buffer compared. Exit status 0 only if none differs.
 
-use compare::together::scale;
+use compare::together::{check_version, scale};
 use std::env;
 use std::process::ExitCode;
 
@@ -18,6 +18,7 @@ fn main() -> ExitCode {
 
 /// The number of cases that differ.
 fn run() -> Result<u64, String> {
+    check_version()?;
     let words: Vec<String> = env::args().skip(1).collect();
     let [seed, count] = &words[..] else {
         return Err("usage: scale SEED COUNT".to_string());

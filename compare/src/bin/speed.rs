@@ -1,7 +1,7 @@
 //! speed [all] [FARMS]: the speed list through the Rust and through this library, as tables of ratios, and rounds and solves within ranges
 //! beside those by ideals. `all`: also the whole solves that take the Rust minutes.
 
-use compare::together::{farms, speed, speed_ranges};
+use compare::together::{check_version, farms, speed, speed_ranges};
 use compare::tool::ended;
 use std::env;
 use std::process::ExitCode;
@@ -13,6 +13,7 @@ fn main() -> ExitCode {
 }
 
 fn run() -> Result<(), String> {
+    check_version()?;
     let words: Vec<String> = env::args().skip(1).collect();
     let words: Vec<&str> = words.iter().map(String::as_str).collect();
     let (all, path) = match words[..] {

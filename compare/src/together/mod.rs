@@ -7,9 +7,6 @@
 //! - `clock`, `farms`, `speed`, `growth`, `plot`: both timed in turn; `speed_ranges`: within ranges beside by ideals, and beside the model.
 //! - `scale`: both on many calls; `random`: numbers from a seed.
 
-// Links the archive.
-use juplatsk as _;
-
 pub mod call;
 pub mod clock;
 pub mod expected;
@@ -23,3 +20,8 @@ pub mod random;
 pub mod scale;
 pub mod speed;
 pub mod speed_ranges;
+
+/// These tools call the archive past the package, so they look themselves whether it is of the package's version.
+pub fn check_version() -> Result<(), String> {
+    juplatsk::check_version().map_err(String::from)
+}
