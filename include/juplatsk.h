@@ -123,8 +123,8 @@ enum {
 
 enum { JP_SIDES = 4, JP_PLACES = 16, JP_RECORD = JP_SIDES * (JP_PLACES + 1) };
 
-/* The version of this header, as one number JP_VERSION. A new minor, or a new major from 1 on, may read lists and records in another way
- * and must not meet a caller of another one; a new patch may. */
+/* The version of this header, as one number JP_VERSION. A new major or minor may read lists, records or answers in another way, and is not
+ * called by a header of another one; a new patch reads them as before. */
 #define JP_VERSION_MAJOR 0
 #define JP_VERSION_MINOR 2
 #define JP_VERSION_PATCH 0
@@ -235,11 +235,12 @@ static inline const char *jp_refusal_text(uint32_t number)
     case JP_SEAM_TOO_SHORT:
         return "seam `first` has fewer than two values; give it 0 and 1 at least, and lay a side whose counts add up to 1 or more";
     case JP_SEAM_OUT_OF_RANGE:
-        return "value `second` of seam `first` is not from 0 to 1; in lay it comes from the side's breaks";
+        return "value `second` of seam `first` is not from 0 to 1; mend the seam, or in lay the side's breaks";
     case JP_SEAM_FALLING:
-        return "value `second` of seam `first` is below the one before it; in lay it comes from the side's breaks";
+        return "value `second` of seam `first` is below the one before it; mend the seam, or in lay the side's breaks";
     case JP_SEAM_ENDS:
-        return "seam `first` does not start at 0 or does not end at 1; in lay its ends are the side's first and last break";
+        return "seam `first` does not start at 0 or does not end at 1; in lay give breaks from 0 to 1, and the side's first edge a count "
+               "above 0";
     case JP_SEAMS_UNEQUAL:
         return "the seams of pair `first` (0 bottom and top, 1 left and right) are not equally long; give both equally many values, and "
                "lay counts of a solve of this region";
@@ -568,7 +569,8 @@ static inline uint32_t jp_coons_curves(const double *bottom, size_t bottom_len, 
  * Reads   region: one record; counts, of all edges; breaks0 to breaks3, of sides 0 to 3: one more than the side has edges, from 0 up
  *         to 1, sides 0 and 2 from left to right, 1 and 3 from bottom to top; curves.
  * Writes  out: 8 values a quad, as many as the counts of sides 0 and 3 add up to, multiplied; answer: place, place, number of quads.
- * Refuses 1, 3, 27, then as jp_coons_from_parameters. */
+ * Refuses 1, 3, 27, 1 (the counts of a side add up to over 1,024), then as jp_coons_from_parameters from 13 on. Among these 18 stands for a
+ *         side whose counts add up to 0, and 21 also for a side whose first edge has count 0. */
 static inline uint32_t jp_lay_region(const uint16_t *region, size_t region_len, const uint32_t *counts, size_t counts_len,
                                      const double *breaks0, size_t breaks0_len, const double *breaks1, size_t breaks1_len,
                                      const double *breaks2, size_t breaks2_len, const double *breaks3, size_t breaks3_len,

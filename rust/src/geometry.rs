@@ -177,7 +177,8 @@ pub fn coons_checked(points: &[Point], n_u: usize, n_v: usize) -> Result<Vec<Qua
 /// # Ok::<(), juplatsk::Refusal>(())
 /// ```
 ///
-/// Refused by 1, 3, 27, 13 to 25. With counts that a solve found for a list of regions, no region of the list is refused by 22.
+/// Refused by 1, 3, 27, 13 to 25: by 18 where the counts of a side add up to 0, and by 21 also where the first edge of a side has count 0. With
+/// counts that a solve found for a list of regions, no region of the list is refused by 22.
 pub fn lay_region(region: &Region, counts: &[usize], breaks: [&[f64]; 4], curves: &BoundaryCurves) -> Result<Vec<Quad>, Refusal> {
     let counts = wide_counts(counts);
     let pieces = |side| region.pieces(side, &counts).and_then(|n| usize::try_from(n).ok()).unwrap_or(0);

@@ -64,7 +64,8 @@
 //!   in four pieces: 7.875499999999998 and 7.8755 m, which round to 7,875 and 7,876 mm. Take the pegs of a common edge from one of its tiles, as
 //!   `examples/farm` does.
 //! - **A solve may be cut, and does not tell.** On wide farms its searches are turned back at the limit, and edges that want many pieces may be left
-//!   at 0. After a solve make one [`round`] with limit 100,000 on the counts, and look at [`Round::cut`].
+//!   at 0: of 16 strips of 45 m by 9 m side by side, each border between two cut into edges of 9, 9 and 27 m, all 15 edges of 27 m are. After a solve
+//!   make one [`round`] with limit 100,000 on the counts, and look at [`Round::cut`].
 //! - **A loop of 8 points or more has each corner twice** and, if it ends just where it began, its first point once more behind that:
 //!   [`BoundaryCurves::from_loop`].
 //!

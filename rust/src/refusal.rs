@@ -82,7 +82,10 @@ impl Refusal {
         match self.number {
             2 | 6 | 9 | 35 => format!(" at edge {first}"),
             3 | 4 => format!(" at region {first}, side {second} ({})", side(second)),
-            5 => format!(" at region {first}, sides {second} and {} ({} and {})", second + 2, side(second), side(second + 2)),
+            5 => {
+                let opposite = second.saturating_add(2);
+                format!(" at region {first}, sides {second} and {opposite} ({} and {})", side(second), side(opposite))
+            }
             13..=15 => format!(" at curve {first} ({})", side(first)),
             16 => format!(" at corner {first} ({})", corner(first)),
             18 | 21 => format!(" at seam {first} ({})", side(first)),
@@ -116,9 +119,9 @@ impl Refusal {
             16 => "the curves do not meet there; let each curve begin at the point where the one before it ends",
             17 => "the corners do not run counter-clockwise around an area above 0; if they run clockwise, turn their order round",
             18 => "the seam has fewer than two values; give it 0 and 1 at least, and lay a side whose counts add up to 1 or more",
-            19 => "the value is not from 0 to 1; in lay it comes from the side's breaks",
-            20 => "the value is below the one before it; in lay it comes from the side's breaks",
-            21 => "the seam does not start at 0 or does not end at 1; in lay its ends are the side's first and last break",
+            19 => "the value is not from 0 to 1; mend the seam, or in lay the side's breaks",
+            20 => "the value is below the one before it; mend the seam, or in lay the side's breaks",
+            21 => "the seam does not start at 0 or does not end at 1; in lay give breaks from 0 to 1, and the side's first edge a count above 0",
             22 => "the opposite seams are not equally long; give both equally many values, and lay counts of a solve of this region",
             23 => "the two grid lines there are parallel; make the seams of opposite sides more alike",
             24 => "the two grid lines there cross outside the tile; make the seams of opposite sides more alike",

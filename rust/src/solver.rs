@@ -95,7 +95,8 @@ fn ends(ranges: &[RangeInclusive<f64>]) -> (Vec<f64>, Vec<f64>) {
 }
 
 /// The counts of every edge: from zeros, round after round with limit 100,000, until one finds no move. `edge_ideal` has an ideal count
-/// for each edge.
+/// for each edge. Opposite sides of every region then add up to the same. A count may be 0, and where searches were cut there may be a better
+/// answer: see [Before pegs are set](crate#before-pegs-are-set).
 ///
 /// ```
 /// use juplatsk::{solve_counts, Region};

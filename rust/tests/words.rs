@@ -33,7 +33,7 @@ fn sentences() {
     );
     assert_eq!(
         words(coons_from_parameters(&square(), &[0.0, 0.5, 0.25, 1.0], &[0.0, 1.0], &[0.0, 1.0], &[0.0, 1.0])),
-        "refusal 20 at seam 0 (bottom), value 2: the value is below the one before it; in lay it comes from the side's breaks"
+        "refusal 20 at seam 0 (bottom), value 2: the value is below the one before it; mend the seam, or in lay the side's breaks"
     );
     assert_eq!(words(root(-1.0)), "refusal 28: a NaN or a number below 0 has no root; give a number from 0 up");
     assert_eq!(
