@@ -27,7 +27,12 @@ pub struct BoundaryCurves {
 }
 
 impl BoundaryCurves {
-    /// Straight sides between four corners, counter-clockwise from the lower left.
+    /// Straight sides between four corners, counter-clockwise from the lower left. It is plain Rust.
+    ///
+    /// ```
+    /// let field = juplatsk::BoundaryCurves::from_corners([[0.0, 0.0], [4.0, 0.0], [3.0, 2.0], [1.0, 2.0]]);
+    /// assert_eq!(field.top, [[3.0, 2.0], [1.0, 2.0]]);
+    /// ```
     pub fn from_corners(corners: [Point; 4]) -> BoundaryCurves {
         let [lower_left, lower_right, upper_right, upper_left] = corners;
         BoundaryCurves {
@@ -245,6 +250,10 @@ pub fn mesh_tile(points: &[Point], n_u: usize, n_v: usize) -> Result<Mesh, Refus
 }
 
 /// The signed area of a quad, above 0 if it runs counter-clockwise. It is plain Rust.
+///
+/// ```
+/// assert_eq!(juplatsk::signed_area(&[[0.0, 0.0], [2.0, 0.0], [2.0, 1.0], [0.0, 1.0]]), 2.0);
+/// ```
 pub fn signed_area(quad: &Quad) -> f64 {
     let mut twice = 0.0;
     for i in 0..4 {

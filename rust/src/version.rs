@@ -23,6 +23,10 @@ const fn fits(archive: u32, package: u32) -> bool {
 }
 
 /// The version of the archive that is linked, as one number, like [`VERSION`].
+///
+/// ```
+/// println!("archive {}, package {}", juplatsk::archive_version(), juplatsk::VERSION);
+/// ```
 pub fn archive_version() -> u32 {
     archive::version()
 }
