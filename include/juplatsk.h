@@ -1,18 +1,17 @@
 /* The field gridder for C and C++ on x86-64 Linux: counts of edges, grids between curves, meshes, roots.
  *
- * Link the archive libjuplatsk.a, which `rt staticlib juplatsk` writes. What each function of it does is proved; the scope paper (01
- * below) defines it, and the paper of change requests (02 below) the calls within ranges. docs/REFERENCE.md has the words, with drawings.
+ * Link the archive libjuplatsk.a, which `rt staticlib juplatsk` writes. What each function of it does is proved. docs/REFERENCE.md has the
+ * words, with drawings, and the table of refusals.
  *
  * Two layers
  * ----------
- * jp_NAME        call these. They test whether the archive is of this header's version, and what C can get wrong about a buffer; if
+ * jp_NAME        call these. They test whether the archive's version fits this header's, and what C can get wrong about a buffer; if
  *                something is wrong they return JP_BAD_VERSION or JP_BAD_BUFFER and write nothing; else they call juplatsk_NAME.
  * juplatsk_NAME  the functions of the archive. Conditions, which nothing tests: the versions fit, that is, jp_version_fits() is 1; no
  *                pointer is NULL, not even with length 0; each is aligned for its type; each list lies within one object, and has less
  *                than 2^63 bytes; a list or array that is written overlaps no other one of the call. They call nothing back, keep no
  *                pointer, use no heap and no global variable, and end. Any values are fine: what is wrong with them is refused. Several
- *                threads may call at once, each with at least 256 KB of stack: the largest inputs were seen to run in a thread of
- *                176 KB, and not in one of 172.
+ *                threads may call at once, each with at least 256 KB of stack (rust/tests/stack.rs makes the largest calls in that).
  *
  * Lists
  * -----
@@ -23,10 +22,10 @@
  *
  * Answers
  * -------
- * Each function returns 0 (JP_ACCEPTED), or the number of the refusal by 01's table or by 02, the enum below; or JP_BAD_BUFFER or
- * JP_BAD_VERSION. jp_refusal_text gives a sentence for each number. `answer` gets the two places of the refusal, 0 where it names none,
- * and then the values that each function tells; they are 0 when a call is refused. It is written at every call but those with
- * JP_BAD_BUFFER or JP_BAD_VERSION.
+ * Each function returns 0 (JP_ACCEPTED), or the number of the refusal, the enum below; or JP_BAD_BUFFER or JP_BAD_VERSION.
+ * jp_refusal_text gives a sentence for each number. `answer` gets the two places of the refusal, 0 where it names none, and then the
+ * values that each function tells; they are 0 when a call is refused. It is written at every call but those with JP_BAD_BUFFER or
+ * JP_BAD_VERSION.
  * A refusal leaves every list as it was, but for these:
  *   JP_TOO_MANY_MOVES (both solves)                                   the needed counts are 0
  *   JP_LINES_PARALLEL, JP_CROSSING_OUTSIDE, JP_BAD_QUAD_AREA          the needed output is +0.0, point indices are 0
@@ -53,10 +52,10 @@
  * Before pegs are set
  * -------------------
  * docs/DIFFERENCES.md has these facts in full; rust/tests/facts.rs shows each.
- *   A count of 0 is an answer. Lay then sets no peg where that edge begins, at its left or lower end, and refuses with 21 if it is the
- *     first of its side. A tile of 12 by 9 m, its top an edge of 9 m and a gateway of 3 m, ideals length / 9: count 0 for the gateway,
- *     no peg at 9 m. Look for counts of 0 after a solve. With a range from 1 for that edge a count of 1 costs nothing and 0 costs 1,
- *     and that is all: the count may still be 0.
+ *   A count of 0 is an answer. Lay then sets no peg of that edge where it begins, at its left or lower end. If it is the first of its
+ *     side and has a length, lay refuses with 21; if the side has no piece at all, with 18. A tile of 12 by 9 m, its top an edge of 9 m and
+ *     a gateway of 3 m, ideals length / 9: count 0 for the gateway, no peg at 9 m. Look for counts of 0 after a solve. With a range from
+ *     1 for that edge a count of 1 costs nothing and 0 costs 1, and that is all: the count may still be 0.
  *   jp_coons_curves, jp_coons_checked and both meshes space the points of each side evenly and know nothing of edges: with solved counts
  *     the number of points agrees with the neighbours', and not where they stand. A side of 19 m whose neighbours meet at 14 m, one
  *     piece each: the mesh has its middle point at 9.5 m. Use jp_lay_region where a side has more than one edge.
@@ -65,9 +64,11 @@
  *     Take the pegs of a common edge from one of its tiles.
  *   On wide farms the searches of a solve are cut, edges that want many pieces may be left at 0, and the solve does not tell: 16 strips of
  *     45 by 9 m side by side, each border between two cut into 9, 9 and 27 m, leave all 15 edges of 27 m at 0. After a solve make one
- *     jp_round with limit 100,000 on the counts and look at its cut mark.
- *   A loop of 8 points or more has each corner twice. Its last point then equals its first and is dropped: a b b c c d d a is refused with
- *     12. Put the first point once more at the end.
+ *     jp_round with limit 100,000 on the counts (jp_round_within after a solve within ranges) and look at its cut mark.
+ *   A loop of 8 points or more has each corner twice. If it ends just where it began, its last point is dropped: a b b c c d d a is refused
+ *     with 12. Put the first point once more at the end; it counts for the limit of 4,096, so each curve then has at most 1,023 points.
+ *   Far from the origin areas drown in rounding: a square of 1 m at (1e8, 1e8) is refused with 17, one of 9 m at (1e9, 1e9) cut into 10
+ *     by 10 with 25. Move the origin near the tile.
  */
 #ifndef JUPLATSK_H
 #define JUPLATSK_H
@@ -79,7 +80,7 @@
 extern "C" {
 #endif
 
-/* The refusals by their numbers, 35 of 02 and the others of 01, each with the places that it names. */
+/* The refusals by their numbers, each with the places that it names. */
 enum {
     JP_ACCEPTED = 0,
     JP_MALFORMED = 1,           /* a limit exceeded, or a broken record or list */
@@ -112,12 +113,12 @@ enum {
     JP_ROOT_UNDEFINED = 28,     /* root of a NaN or of a number below 0 */
     JP_RANGE_REVERSED = 35,     /* edge: its least is above its most */
 
-    /* None of 01's or 02's, and of jp_NAME alone: a pointer is NULL beside a length above 0, or not aligned for its type; a list has 2^63
+    /* Of jp_NAME alone, and without places: a pointer is NULL beside a length above 0, or not aligned for its type; a list has 2^63
      * bytes or more, or runs past the last address; or a list or array that is written overlaps another one. Nothing was written. */
     JP_BAD_BUFFER = 100,
 
-    /* Of jp_NAME alone too: this header and the archive are not of one version. Nothing was written, and the archive was asked for its
-     * version only. */
+    /* Of jp_NAME alone, and without places: the versions of this header and of the archive differ, and not in the third part alone. Nothing
+     * was written, and the archive was asked for its version only. */
     JP_BAD_VERSION = 101
 };
 
@@ -181,6 +182,7 @@ static inline int jp_version_fits(void)
 
 /* What is wrong and what to do, for a number that one of these functions returned; `first` and `second` in it are the two places. It is
  * never NULL, and nobody need free it. A call:
+ *     uint32_t answer[3] = {0};
  *     uint32_t number = jp_solve_counts(regions, regions_len, ideals, ideals_len, counts, counts_len, answer);
  *     if (number != JP_ACCEPTED) {
  *         fprintf(stderr, "refusal %u, first %u, second %u: %s\n", number, answer[0], answer[1], jp_refusal_text(number));
@@ -194,12 +196,13 @@ static inline const char *jp_refusal_text(uint32_t number)
     case JP_MALFORMED:
         return "a limit is exceeded or a list is broken; give at most 128 regions, 16 edges on a side, 256 ideals, leasts, mosts or "
                "counts, 1,024 points in a curve, 4,096 in a loop, 1,025 values in a seam, 1,024 for n_u, n_v and the sum of a side's "
-               "counts in lay, whole records of 68 numbers (lay takes one), and an even number of values in curves and loops";
+               "counts in lay, whole records of 68 numbers (lay takes one), an even number of values in curves and loops, and a side "
+               "from 0 to 3 in jp_set_side";
     case JP_BAD_IDEAL:
         return "the ideal of edge `first`, or an end of its range, is not finite or not above 0; give finite numbers above 0";
     case JP_EDGE_OUT_OF_RANGE:
         return "region `first` names on side `second` an edge that is not below the number of edges; number the edges from 0 up, and give "
-               "each an ideal or a range, and lay a count";
+               "an ideal or a range for each (to jp_lay_region a count)";
     case JP_EDGE_REPEATED:
         return "region `first` lists an edge twice on side `second`; list it once";
     case JP_EDGE_ON_BOTH_SIDES:
@@ -211,7 +214,7 @@ static inline const char *jp_refusal_text(uint32_t number)
     case JP_LENGTHS_DIFFER:
         return "lists with an entry for each edge are not equally long; give one of each for every edge";
     case JP_COUNT_TOO_LARGE:
-        return "the count of edge `first` is above 1,000,000; lower it";
+        return "the count of edge `first` is above 1,000,000; lower it, and the opposite side with it";
     case JP_LIMIT_TOO_LARGE:
         return "the search limit is above 100,000; state 0 to 100,000";
     case JP_OUTPUT_TOO_SHORT:
@@ -219,38 +222,40 @@ static inline const char *jp_refusal_text(uint32_t number)
     case JP_BAD_LOOP:
         return "the loop has neither 4 points nor 8 or more in fours, where a last point equal to the first does not count from 5 points "
                "up; give its four corners, or four curves of equally many points with each corner twice, and the first point once more "
-               "at the end";
+               "if the loop ends just there";
     case JP_CURVE_TOO_SHORT:
         return "curve `first` has fewer than two points; give at least its two ends";
     case JP_POINT_NOT_FINITE:
         return "a point of curve `first` is not finite; mend it or leave it out";
     case JP_BAD_CURVE_LENGTH:
-        return "the length of curve `first` is 0 or not finite; give at least two points that differ, none of them too far off for a "
-               "double";
+        return "the length of curve `first`, as it is worked out, is 0 or not finite; give at least two points that differ, neither too "
+               "near nor too far for the square of their distance";
     case JP_CURVES_APART:
         return "the curves do not meet at corner `first` (0 lower right, 1 upper right, 2 upper left, 4 lower left); let each curve begin "
                "at the point where the one before it ends";
     case JP_CORNERS_CLOCKWISE:
-        return "the corners do not run counter-clockwise around an area above 0; if they run clockwise, turn their order round";
+        return "the area of the corners, as it is worked out, is at or below 0; if they run clockwise, turn their order round; far from "
+               "the origin, move it near the tile";
     case JP_SEAM_TOO_SHORT:
-        return "seam `first` has fewer than two values; give it 0 and 1 at least, and lay a side whose counts add up to 1 or more";
+        return "seam `first` has fewer than two values; give it 0 and 1 at least (to jp_lay_region a side with edges, whose counts add up "
+               "to 1 or more)";
     case JP_SEAM_OUT_OF_RANGE:
-        return "value `second` of seam `first` is not from 0 to 1; mend the seam, or in lay the side's breaks";
+        return "value `second` of seam `first` is not from 0 to 1; mend the seam, or in jp_lay_region the side's breaks";
     case JP_SEAM_FALLING:
-        return "value `second` of seam `first` is below the one before it; mend the seam, or in lay the side's breaks";
+        return "value `second` of seam `first` is below the one before it; mend the seam, or in jp_lay_region the side's breaks";
     case JP_SEAM_ENDS:
-        return "seam `first` does not start at 0 or does not end at 1; in lay give breaks from 0 to 1, and the side's first edge a count "
-               "above 0";
+        return "seam `first` does not start at 0 or does not end at 1; to jp_lay_region give breaks from 0 to 1, and where the side's "
+               "first edge has count 0, solve again with a range from 1 for it";
     case JP_SEAMS_UNEQUAL:
-        return "the seams of pair `first` (0 bottom and top, 1 left and right) are not equally long; give both equally many values, and "
-               "lay counts of a solve of this region";
+        return "the seams of pair `first` (0 bottom and top, 1 left and right) are not equally long; give both equally many values (to "
+               "jp_lay_region counts of a solve of this region)";
     case JP_LINES_PARALLEL:
         return "the two grid lines at column `first`, row `second` are parallel; make the seams of opposite sides more alike";
     case JP_CROSSING_OUTSIDE:
         return "the two grid lines at column `first`, row `second` cross outside the tile; make the seams of opposite sides more alike";
     case JP_BAD_QUAD_AREA:
-        return "the quad at column `first`, row `second` is turned over or has no finite area above 0; straighten the curves, or cut the "
-               "tile in two";
+        return "the area of the quad at column `first`, row `second`, as it is worked out, is not finite or not above 0; let no two seam "
+               "values (or breaks) in a row be equal, straighten the curves, or, far from the origin, move it near the tile";
     case JP_NO_CELLS:
         return "n_u or n_v is 0; give 1 or more";
     case JP_BREAKS_MISMATCH:
@@ -263,7 +268,7 @@ static inline const char *jp_refusal_text(uint32_t number)
         return "a pointer is NULL beside a length above 0 or not aligned, a list is too long, or one that is written overlaps another; "
                "nothing was written";
     case JP_BAD_VERSION:
-        return "the header and the archive are of different versions; compile with the header that came with the archive";
+        return "the versions of header and archive do not fit; compile with the header that came with the archive";
     default:
         return "no number of this library";
     }
@@ -570,7 +575,7 @@ static inline uint32_t jp_coons_curves(const double *bottom, size_t bottom_len, 
  *         to 1, sides 0 and 2 from left to right, 1 and 3 from bottom to top; curves.
  * Writes  out: 8 values a quad, as many as the counts of sides 0 and 3 add up to, multiplied; answer: place, place, number of quads.
  * Refuses 1, 3, 27, 1 (the counts of a side add up to over 1,024), then as jp_coons_from_parameters from 13 on. Among these 18 stands for a
- *         side whose counts add up to 0, and 21 also for a side whose first edge has count 0. */
+ *         side without a piece, and 21 also for a side that begins with an edge of count 0 that has a length. */
 static inline uint32_t jp_lay_region(const uint16_t *region, size_t region_len, const uint32_t *counts, size_t counts_len,
                                      const double *breaks0, size_t breaks0_len, const double *breaks1, size_t breaks1_len,
                                      const double *breaks2, size_t breaks2_len, const double *breaks3, size_t breaks3_len,
@@ -593,9 +598,9 @@ static inline uint32_t jp_lay_region(const uint16_t *region, size_t region_len, 
 
 /* The n_u by n_v quads of a tile given by a closed loop of points, counter-clockwise.
  * Reads   boundary: x, y in turn: the four corners from the lower left, or four curves of equally many points, two or more each
- *         (bottom, right, top, left; curves share no points, each corner is in it twice); at most 4,096 points. A last point equal to the
- *         first is dropped, from 5 points up, so four curves that end just where they began are followed by the first point once more.
- *         n_u, n_v: 1 to 1,024.
+ *         (bottom, right, top, left; curves share no points, each corner is in it twice); at most 4,096 points in all. A last point
+ *         equal to the first is dropped, from 5 points up, so behind four curves that end just where they began the first point stands
+ *         once more. n_u, n_v: 1 to 1,024.
  * Writes  out: 8 * n_u * n_v values; answer: place, place, number of quads.
  * Refuses 1, 12, 26, 14 to 17, 11, 25, which sets the needed output to +0.0. */
 static inline uint32_t jp_coons_checked(const double *boundary, size_t boundary_len, uint32_t n_u, uint32_t n_v, double *out,

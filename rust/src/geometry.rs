@@ -47,7 +47,8 @@ impl BoundaryCurves {
     /// A last point equal to the first is dropped, from 5 points up.
     ///
     /// From 8 points on the curves share no points: each corner stands in the loop twice, as the end of a curve and as the start of the next.
-    /// So the last curve ends where the first begins, and that point would be dropped: the first point stands once more behind it.
+    /// If the last curve ends just where the first begins, that point would be dropped, so the first point stands once more behind it. It counts
+    /// for the limit of 4,096 points.
     ///
     /// ```
     /// use juplatsk::{BoundaryCurves, Point};
@@ -182,13 +183,12 @@ pub fn coons_checked(points: &[Point], n_u: usize, n_v: usize) -> Result<Vec<Qua
 /// # Ok::<(), juplatsk::Refusal>(())
 /// ```
 ///
-/// Refused by 1, 3, 27, 13 to 25: by 18 where the counts of a side add up to 0, and by 21 also where the first edge of a side has count 0. With
-/// counts that a solve found for a list of regions, no region of the list is refused by 22.
+/// Refused by 1, 3, 27, 13 to 25: by 18 where a side has no piece, and by 21 also where a side begins with an edge of count 0 that has a
+/// length. With counts that a solve found for a list of regions, no region of the list is refused by 22.
 pub fn lay_region(region: &Region, counts: &[usize], breaks: [&[f64]; 4], curves: &BoundaryCurves) -> Result<Vec<Quad>, Refusal> {
-    let counts = wide_counts(counts);
-    let pieces = |side| region.pieces(side, &counts).and_then(|n| usize::try_from(n).ok()).unwrap_or(0);
-    let made = quads(cells(pieces(0), pieces(3)), |out| raw::lay_region(&region.record(), &counts, breaks, curves.lists(), out));
-    made.map_err(|refusal| refusal.naming(|| limit::of_lay(region, &counts, curves.lists())))
+    let room = cells(region.pieces(0, counts), region.pieces(3, counts));
+    let made = quads(room, |out| raw::lay_region(&region.record(), &wide_counts(counts), breaks, curves.lists(), out));
+    made.map_err(|refusal| refusal.naming(|| limit::of_lay(region, counts, curves.lists())))
 }
 
 /// A cell of a mesh. All are quads.

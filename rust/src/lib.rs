@@ -39,8 +39,8 @@
 //!
 //! Facts that decide whether pegs meet. `tests/facts.rs` shows each; docs/DIFFERENCES.md of the repository has them in full.
 //!
-//! - **A count of 0 is an answer.** Lay then sets no peg where that edge begins, at its left or lower end, and is refused by 21 if it is the first of
-//!   its side. Look for counts of 0 after a solve. With a range from 1 for that edge a count of 1 costs nothing and 0 costs 1, and that is all: the
+//! - **A count of 0 is an answer.** Lay then sets no peg of that edge where it begins, at its left or lower end; it is refused by 21 if the edge is the
+//!   first of its side and has a length, by 18 if the side has no piece at all. Look for counts of 0 after a solve. With a range from 1 for that edge a count of 1 costs nothing and 0 costs 1, and that is all: the
 //!   count may still be 0.
 //!
 //!   ```
@@ -65,15 +65,17 @@
 //!   `examples/farm` does.
 //! - **A solve may be cut, and does not tell.** On wide farms its searches are turned back at the limit, and edges that want many pieces may be left
 //!   at 0: of 16 strips of 45 m by 9 m side by side, each border between two cut into edges of 9, 9 and 27 m, all 15 edges of 27 m are. After a solve
-//!   make one [`round`] with limit 100,000 on the counts, and look at [`Round::cut`].
+//!   make one [`round`] with limit 100,000 on the counts ([`round_within`] after a solve within ranges), and look at [`Round::cut`].
 //! - **A loop of 8 points or more has each corner twice** and, if it ends just where it began, its first point once more behind that:
 //!   [`BoundaryCurves::from_loop`].
+//! - **Far from the origin areas drown in rounding**, and good tiles are refused by 17 or 25: a square of 1 m at (1e8, 1e8), one of 9 m at (1e9, 1e9) cut
+//!   into 10 by 10. Move the origin near the tile.
 //!
 //! # A long solve
 //!
-//! A solve tells nothing before it ends, which on wide farms takes seconds or minutes. [`round`] makes the same moves one by one, each with a search
-//! anew, so that it takes longer in all: show how far it is, and stop when you like, or at 200,000 moves as a solve does. Opposite sides agree after
-//! every round, since they do at the start. `examples/rounds.rs` is a program that does so.
+//! A solve tells nothing before it ends, which on wide farms takes seconds or minutes. [`round`] from zeros with limit 100,000 makes the same moves one by
+//! one, each with a search anew, so that it takes longer in all: show how far it is, and stop when you like, or at 200,000 moves as a solve does (which
+//! is then refused by 7). Opposite sides agree after every round, since they do at the start. `examples/rounds.rs` is a program that does so.
 //!
 //! ```
 //! use juplatsk::{constraints_hold, round, solve, Region};
@@ -94,8 +96,8 @@
 //!
 //! The build script takes the archive `libjuplatsk.a` from the folder that the variable `JUPLATSK_LIB` names (a relative path starts at this
 //! package), or else calls `rt staticlib juplatsk` in the folder above this package, which needs the Rattle kit, and proves the library the first
-//! time: some minutes. The archive is for x86-64 Linux. It has a version; every call of it is refused by 101 if that is not the package's
-//! ([`check_version`]).
+//! time: some minutes. The archive is for x86-64 Linux. It has a version, which is held against the package's before each call of
+//! it ([`check_version`]).
 
 #![warn(missing_docs)]
 

@@ -22,7 +22,7 @@ const MAX_COUNT: usize = u32::MAX as usize;
 pub struct Limit {
     /// What there was too much of.
     pub of: Limited,
-    /// How much the call had.
+    /// How much the call had; of what is counted together at most `usize::MAX`.
     pub given: u64,
     /// How much it may have.
     pub most: u64,
@@ -151,10 +151,9 @@ pub(crate) fn of_loop(points: usize) -> Option<Limit> {
 }
 
 /// Lay's own: its region, its counts, and what these come to on each side.
-pub(crate) fn of_lay(tile: &Region, counts: &[u32], curves: BySide) -> Option<Limit> {
-    let pieces = |side: u32| tile.pieces(side as usize, counts).map_or(0, |n| usize::try_from(n).unwrap_or(usize::MAX));
+pub(crate) fn of_lay(tile: &Region, counts: &[usize], curves: BySide) -> Option<Limit> {
     region(tile, 0)
         .or_else(|| over(Limited::Edges, counts.len(), MAX_EDGES))
         .or_else(|| of_curves(curves))
-        .or_else(|| (0..4).find_map(|side| over(Limited::Pieces { side }, pieces(side), MAX_CELLS)))
+        .or_else(|| (0..4).find_map(|side| over(Limited::Pieces { side }, tile.pieces(side as usize, counts), MAX_CELLS)))
 }

@@ -40,8 +40,8 @@ use std::fmt;
 #[derive(Clone, Copy, PartialEq, Eq, Hash)]
 #[non_exhaustive]
 pub struct Refusal {
-    /// 1 to 28, by the table; 35: a range whose least is above its most; 101: the archive is of another version than the package, and was not
-    /// called.
+    /// 1 to 28, by the table; 35: a range whose least is above its most; 101: the versions of the archive and of the package do not fit, and the
+    /// archive was not called.
     pub number: u32,
     /// The first place: a region, an edge, a curve, a corner, a seam, a pair, a side or a column, as the number has it. Of 101: the version
     /// of the archive, 10,000 times its first part, 100 times its second and its third.
@@ -103,41 +103,54 @@ impl Refusal {
         match self.number {
             1 => "a limit is exceeded; give less",
             2 => "its ideal count, or an end of its range, is not finite or not above 0; give finite numbers above 0",
-            3 => "an edge number is not below the number of edges; number the edges from 0 up, and give each an ideal or a range, and lay a count",
+            3 => "an edge number is not below the number of edges; number them from 0 up, and give an ideal or a range for each (to lay_region a count)",
             4 => "an edge is listed twice on this side; list it once",
             5 => "an edge lies on both of these opposite sides; give each side edges of its own",
             6 => "it lies on more than two sides; an edge borders two tiles at most, so give the others edges of their own",
             7 => "a further move was found after 200,000 moves; lower the ideals or leasts, or make rounds from counts of your own",
             8 => "there are not as many counts as ideals or ranges; give one of each for every edge",
-            9 => "its count is above 1,000,000; lower it",
+            9 => "its count is above 1,000,000; lower it, and the opposite side with it",
             10 => "the search limit is above 100,000; state 0 to 100,000",
             11 => "the output is too short; lend more",
             12 => LOOP,
             13 => "the curve has fewer than two points; give at least its two ends",
             14 => "a point of the curve is not finite; mend it or leave it out",
-            15 => "the curve's length is 0 or not finite; give at least two points that differ, none of them too far off for an f64",
+            15 => BAD_LENGTH,
             16 => "the curves do not meet there; let each curve begin at the point where the one before it ends",
-            17 => "the corners do not run counter-clockwise around an area above 0; if they run clockwise, turn their order round",
-            18 => "the seam has fewer than two values; give it 0 and 1 at least, and lay a side whose counts add up to 1 or more",
-            19 => "the value is not from 0 to 1; mend the seam, or in lay the side's breaks",
-            20 => "the value is below the one before it; mend the seam, or in lay the side's breaks",
-            21 => "the seam does not start at 0 or does not end at 1; in lay give breaks from 0 to 1, and the side's first edge a count above 0",
-            22 => "the opposite seams are not equally long; give both equally many values, and lay counts of a solve of this region",
+            17 => CLOCKWISE,
+            18 => "the seam has fewer than two values; give it 0 and 1 at least (to lay_region a side with edges, whose counts add up to 1 or more)",
+            19 => "the value is not from 0 to 1; mend the seam, or in lay_region the side's breaks",
+            20 => "the value is below the one before it; mend the seam, or in lay_region the side's breaks",
+            21 => SEAM_ENDS,
+            22 => "the opposite seams are not equally long; give both equally many values (to lay_region counts of a solve of this region)",
             23 => "the two grid lines there are parallel; make the seams of opposite sides more alike",
             24 => "the two grid lines there cross outside the tile; make the seams of opposite sides more alike",
-            25 => "the quad there is turned over or has no finite area above 0; straighten the curves, or cut the tile in two",
+            25 => BAD_AREA,
             26 => "n_u or n_v is 0; give 1 or more",
             27 => "the side's breaks are not one more than its edges; give where each edge begins, and 1 as the last",
             28 => "a NaN or a number below 0 has no root; give a number from 0 up",
             35 => "the least of its range is above the most; change their places",
-            BAD_VERSION => "the archive is of another version than this package; link the one that was made with it",
+            BAD_VERSION => "the versions of archive and package do not fit; link the archive that was made with this package",
             _ => "turned away",
         }
     }
 }
 
 const LOOP: &str = "the loop has neither 4 points nor 8 or more in fours, where a last point equal to the first does not count from 5 points up; \
-                    give its four corners, or four curves of equally many points with each corner twice, and the first point once more at the end";
+                    give its four corners, or four curves of equally many points with each corner twice, and the first point once more if the \
+                    loop ends just there";
+const BAD_LENGTH: &str =
+    "the curve's length, as it is worked out, is 0 or not finite; give at least two points that differ, neither too near nor \
+                          too far for the square of their distance";
+const CLOCKWISE: &str =
+    "the area of the corners, as it is worked out, is at or below 0; if they run clockwise, turn their order round; far from \
+                         the origin, move it near the tile";
+const SEAM_ENDS: &str =
+    "the seam does not start at 0 or does not end at 1; to lay_region give breaks from 0 to 1, and where the side's first edge \
+                         has count 0, solve again with a range from 1 for it";
+const BAD_AREA: &str =
+    "the quad's area, as it is worked out, is not finite or not above 0; let no two seam values (or breaks) in a row be equal, \
+                        straighten the curves, or, far from the origin, move it near the tile";
 
 /// 3 is never answered: there the left curve's first point is held against itself.
 fn corner(number: u32) -> &'static str {

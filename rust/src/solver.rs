@@ -41,9 +41,10 @@ impl Region {
         record
     }
 
-    /// What the counts of a side add up to; None where an edge has no count.
-    pub(crate) fn pieces(&self, side: usize, counts: &[u32]) -> Option<u64> {
-        self.sides[side].iter().map(|&edge| counts.get(edge).map(|&n| u64::from(n))).sum()
+    /// What the counts of a side add up to, where an edge without a count has none.
+    pub(crate) fn pieces(&self, side: usize, counts: &[usize]) -> usize {
+        let count = |&edge: &usize| counts.get(edge).copied().unwrap_or(0);
+        self.sides[side].iter().map(count).fold(0, usize::saturating_add)
     }
 }
 

@@ -1,4 +1,4 @@
-//! The version of the package, held against the archive's before each call.
+//! The version of the package, held against the archive's before the archive is called.
 
 use crate::archive;
 use crate::refusal::{Refusal, BAD_VERSION};
@@ -33,7 +33,7 @@ pub fn archive_version() -> u32 {
 
 /// Refused by 101 if the archive that is linked is of another version than this package, but for the third part.
 ///
-/// Every function that calls the archive looks itself, and is then refused so; this one tells at once.
+/// Every function looks itself before it calls the archive; this one tells at once.
 ///
 /// ```
 /// juplatsk::check_version()?;

@@ -135,9 +135,9 @@ fn rounds(tiles: &[Region], ideals: &[f64], limit: usize) -> (Solved, bool) {
     }
 }
 
-/// A count of 0 is an answer. A short edge may get it; lay then sets no peg where the edge begins, at its left or lower end, and is
-/// refused if it is the first of its side (21) or if no edge of the side has a piece (18). Look for counts of 0 after a solve, or give
-/// short edges a range from 1.
+/// A count of 0 is an answer. A short edge may get it; lay then sets no peg of that edge where it begins, at its left or lower end, and is
+/// refused if it is the first of its side and has a length (21) or if no edge of the side has a piece (18). Look for counts of 0 after a
+/// solve; a range from 1 for a short edge may help.
 #[test]
 fn count_of_zero_leaves_out_a_peg() {
     // a fence of 9 m, then a gateway of 3 m: no peg at 9
@@ -302,8 +302,8 @@ fn cut_solve_leaves_edges_at_zero() {
     assert_eq!(rounds(&split, &[1.0, 1.0, 6.0], LIMIT), (Solved { counts: vec![1, 1, 0], moves: 1 }, false));
 }
 
-/// From 8 points on a loop is four curves, so each corner stands twice, and the last point equals the first. It is dropped as a closing
-/// point, and the loop refused by 12: append the first point once more.
+/// From 8 points on a loop is four curves, so each corner stands twice. If it ends just where it began, the last point is dropped as a
+/// closing one, and the loop refused by 12: append the first point once more. It counts for the limit of 4,096 points.
 #[test]
 fn loop_with_corners_twice() {
     let [a, b, c, d] = [[0.0, 0.0], [1.0, 0.0], [1.0, 1.0], [0.0, 1.0]];
@@ -313,9 +313,30 @@ fn loop_with_corners_twice() {
     assert_eq!(mesh.points, [[0.0, 0.0, 0.0], [1.0, 0.0, 0.0], [0.0, 1.0, 0.0], [1.0, 1.0, 0.0]]);
     // corners once, with the middles of the sides between them: the curves do not meet
     assert_eq!(meshed(&[a, [0.5, 0.0], b, [1.0, 0.5], c, [0.5, 1.0], d, [0.0, 0.5]]), Err(16));
+    // a loop that ends within the tolerance of its start, and not just there, has no closing point
+    assert!(meshed(&[a, b, b, c, c, d, d, [1e-12, 0.0]]).is_ok());
     // four corners stand once, closed or not
     assert_eq!(meshed(&[a, b, c, d]), Ok(mesh.clone()));
     assert_eq!(meshed(&[a, b, c, d, a]), Ok(mesh));
+}
+
+/// An ideal may be so large that its first piece wins less than 1e-12, and then the count is 0 too, without a refusal.
+#[test]
+fn huge_ideal_gets_no_piece() {
+    assert_eq!(solve_counts(&[], &[3e12]), Ok(vec![0]));
+    assert_eq!(solve_counts(&[], &[1e12]).map_err(|refusal| refusal.number), Err(7));
+}
+
+/// Far from the origin areas drown in rounding, and a good tile is refused: 17 for its corners, or 25 for a quad. Move the origin near the
+/// tile, by whole metres.
+#[test]
+fn areas_drown_far_from_the_origin() {
+    let square = |at: f64, side: f64| [[at, at], [at + side, at], [at + side, at + side], [at, at + side]];
+    let number =
+        |at, side, cells| coons_checked(&square(at, side), cells, cells).map(|quads| quads.len()).map_err(|refusal| refusal.number);
+    assert_eq!(number(1e8, 1.0, 1), Err(17));
+    assert_eq!(number(1e9, 9.0, 10), Err(25));
+    assert_eq!([number(0.0, 1.0, 1), number(0.0, 9.0, 10)], [Ok(1), Ok(100)]);
 }
 
 /// A solve tells nothing before its end. Rounds from zeros with limit 100,000 come to the same counts by as many moves, so a program can

@@ -33,7 +33,7 @@ fn sentences() {
     );
     assert_eq!(
         words(coons_from_parameters(&square(), &[0.0, 0.5, 0.25, 1.0], &[0.0, 1.0], &[0.0, 1.0], &[0.0, 1.0])),
-        "refusal 20 at seam 0 (bottom), value 2: the value is below the one before it; mend the seam, or in lay the side's breaks"
+        "refusal 20 at seam 0 (bottom), value 2: the value is below the one before it; mend the seam, or in lay_region the side's breaks"
     );
     assert_eq!(words(root(-1.0)), "refusal 28: a NaN or a number below 0 has no root; give a number from 0 up");
     assert_eq!(
@@ -71,6 +71,7 @@ fn limits_of_the_geometry() {
     assert_eq!(limit(mesh_tile(&[], 1025, 1)), (Limited::Cells, 1025, 1024));
     assert_eq!(limit(BoundaryCurves::from_loop(&vec![[0.0; 2]; 5000])), (Limited::LoopPoints, 5000, 4096));
     assert_eq!(limit(lay_region(&tile(), &[1, 1025, 1, 1025], unit, &square())), (Limited::Pieces { side: 1 }, 1025, 1024));
+    assert_eq!(limit(lay_region(&tile(), &[1 << 40, 1, 1 << 40, 1], unit, &square())), (Limited::Pieces { side: 0 }, 1 << 40, 1024));
     assert_eq!(limit(lay_region(&tile(), &[0; 257], unit, &square())), (Limited::Edges, 257, 256));
     assert_eq!(limit(lay_region(&tile(), &[1; 4], unit, &long)), (Limited::CurvePoints { curve: 3 }, 1025, 1024));
 }

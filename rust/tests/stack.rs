@@ -1,0 +1,52 @@
+//! The largest calls in a thread with 256 KB of stack, as much as the header asks for.
+
+use juplatsk::*;
+use std::thread;
+
+const STACK: usize = 256 * 1024;
+
+fn in_a_small_thread(call: impl FnOnce() + Send + 'static) {
+    thread::Builder::new().stack_size(STACK).spawn(call).unwrap().join().unwrap();
+}
+
+/// A square with 1,024 points on each side.
+fn square() -> BoundaryCurves {
+    let along = |k: usize| k as f64 / 1023.0;
+    let side = |point: fn(f64) -> Point| (0..1024).map(|k| point(along(k))).collect();
+    BoundaryCurves { bottom: side(|t| [t, 0.0]), right: side(|t| [1.0, t]), top: side(|t| [1.0 - t, 1.0]), left: side(|t| [0.0, 1.0 - t]) }
+}
+
+/// 128 regions with 256 edges in one chain, so that a search may go through all of them.
+fn chain() -> Vec<Region> {
+    (0..128).map(|k| Region::new([vec![2 * k, 2 * k + 1], vec![], vec![(2 * k + 2) % 256, (2 * k + 3) % 256], vec![]])).collect()
+}
+
+#[test]
+fn solver() {
+    in_a_small_thread(|| {
+        let ideals = [2.0; 256];
+        let mut counts = [0; 256];
+        assert!(round(&chain(), &ideals, &mut counts, 1000).unwrap().cost.is_some());
+        assert!(round_within(&chain(), &vec![2.0..=3.0; 256], &mut counts, 1000).is_ok());
+        assert_eq!(solve_counts(&[], &ideals), Ok(vec![2; 256]));
+        assert_eq!(constraints_hold(&chain(), &counts), Ok(true));
+    });
+}
+
+#[test]
+fn geometry() {
+    in_a_small_thread(|| {
+        let even: Vec<f64> = (0..=1024).map(|k| f64::from(k) / 1024.0).collect();
+        let slanted: Vec<f64> = even.iter().map(|t| t * (0.9 + 0.1 * t)).collect();
+        assert_eq!(coons_from_parameters(&square(), &even, &slanted, &even, &slanted).unwrap().len(), 1024 * 1024);
+        assert_eq!(mesh_tile_curves(&square(), 1024, 1024).unwrap().cells.len(), 1024 * 1024);
+        let tile = Region::new([0, 16, 32, 48].map(|first| (first..first + 16).collect()));
+        let breaks: Vec<f64> = (0..=16).map(|k| f64::from(k) / 16.0).collect();
+        assert_eq!(lay_region(&tile, &[64; 64], [&breaks; 4], &square()).unwrap().len(), 1024 * 1024);
+        let curves = square();
+        let mut boundary = [curves.bottom, curves.right, curves.top, curves.left].concat();
+        // not just where the loop began, so that it stays
+        boundary[4095] = [0.0, 1e-12];
+        assert_eq!(mesh_tile(&boundary, 1024, 1024).unwrap().points.len(), 1025 * 1025);
+    });
+}
