@@ -3,7 +3,7 @@
 use crate::archive::BySide;
 use crate::limit::{self, MAX_CELLS};
 use crate::raw;
-use crate::refusal::{Refusal, BAD_LOOP, MALFORMED};
+use crate::refusal::{naming, Refusal, BAD_LOOP, MALFORMED};
 use crate::solver::{wide, wide_counts, Region};
 
 /// A point: x and y.
@@ -65,7 +65,7 @@ impl BoundaryCurves {
     /// Refused by 1 (more than 4,096 points) and 12.
     pub fn from_loop(points: &[Point]) -> Result<BoundaryCurves, Refusal> {
         if let limit @ Some(_) = limit::of_loop(points.len()) {
-            return Err(Refusal::new(MALFORMED, 0, 0).naming(|| limit));
+            return naming(|| limit, Err(Refusal::new(MALFORMED, 0, 0)));
         }
         let used = match points {
             [first, rest @ .., last] if rest.len() >= 3 && first == last => &points[..points.len() - 1],
@@ -127,8 +127,8 @@ pub fn coons_from_parameters(
 ) -> Result<Vec<Quad>, Refusal> {
     let room = cells(bottom_u.len().saturating_sub(1), left_v.len().saturating_sub(1));
     let seams = [bottom_u, right_v, top_u, left_v];
-    let made = quads(room, |out| raw::coons_from_parameters(curves.lists(), seams, out));
-    made.map_err(|refusal| refusal.naming(|| limit::of_curves(curves.lists()).or_else(|| limit::of_seams(seams))))
+    let exceeded = || limit::of_curves(curves.lists()).or_else(|| limit::of_seams(seams));
+    naming(exceeded, quads(room, |out| raw::coons_from_parameters(curves.lists(), seams, out)))
 }
 
 /// The `n_u` by `n_v` quads between four curves, by even seams; each number at most 1,024.
@@ -145,8 +145,8 @@ pub fn coons_from_parameters(
 ///
 /// Refused by 1, 26, 13 to 17, 25.
 pub fn coons_curves(curves: &BoundaryCurves, n_u: usize, n_v: usize) -> Result<Vec<Quad>, Refusal> {
-    let made = quads(cells(n_u, n_v), |out| raw::coons_curves(curves.lists(), [wide(n_u), wide(n_v)], out));
-    made.map_err(|refusal| refusal.naming(|| limit::of_curves(curves.lists()).or_else(|| limit::of_cells(n_u, n_v))))
+    let exceeded = || limit::of_curves(curves.lists()).or_else(|| limit::of_cells(n_u, n_v));
+    naming(exceeded, quads(cells(n_u, n_v), |out| raw::coons_curves(curves.lists(), [wide(n_u), wide(n_v)], out)))
 }
 
 /// [`coons_curves`] of a tile given by a closed loop of points, at most 4,096; [`BoundaryCurves::from_loop`] says which.
@@ -162,8 +162,8 @@ pub fn coons_curves(curves: &BoundaryCurves, n_u: usize, n_v: usize) -> Result<V
 ///
 /// Refused by 1, 12, 26, 14 to 17, 25.
 pub fn coons_checked(points: &[Point], n_u: usize, n_v: usize) -> Result<Vec<Quad>, Refusal> {
-    let made = quads(cells(n_u, n_v), |out| raw::coons_checked(points.as_flattened(), [wide(n_u), wide(n_v)], out));
-    made.map_err(|refusal| refusal.naming(|| limit::of_cells(n_u, n_v).or_else(|| limit::of_loop(points.len()))))
+    let exceeded = || limit::of_cells(n_u, n_v).or_else(|| limit::of_loop(points.len()));
+    naming(exceeded, quads(cells(n_u, n_v), |out| raw::coons_checked(points.as_flattened(), [wide(n_u), wide(n_v)], out)))
 }
 
 /// The quads of one region by the counts of its edges, as a solve finds them. Edge `i` of a side has the part of the side's curve from
@@ -187,8 +187,8 @@ pub fn coons_checked(points: &[Point], n_u: usize, n_v: usize) -> Result<Vec<Qua
 /// length. With counts that a solve found for a list of regions, no region of the list is refused by 22.
 pub fn lay_region(region: &Region, counts: &[usize], breaks: [&[f64]; 4], curves: &BoundaryCurves) -> Result<Vec<Quad>, Refusal> {
     let room = cells(region.pieces(0, counts), region.pieces(3, counts));
-    let made = quads(room, |out| raw::lay_region(&region.record(), &wide_counts(counts), breaks, curves.lists(), out));
-    made.map_err(|refusal| refusal.naming(|| limit::of_lay(region, counts, curves.lists())))
+    let exceeded = || limit::of_lay(region, counts, curves.lists());
+    naming(exceeded, quads(room, |out| raw::lay_region(&region.record(), &wide_counts(counts), breaks, curves.lists(), out)))
 }
 
 /// A cell of a mesh. All are quads.
@@ -230,8 +230,8 @@ fn mesh(n_u: usize, n_v: usize, fill: impl FnOnce(&mut [f64], &mut [u32]) -> Res
 ///
 /// Refused as [`coons_curves`].
 pub fn mesh_tile_curves(curves: &BoundaryCurves, n_u: usize, n_v: usize) -> Result<Mesh, Refusal> {
-    let made = mesh(n_u, n_v, |points, cells| raw::mesh_tile_curves(curves.lists(), [wide(n_u), wide(n_v)], points, cells));
-    made.map_err(|refusal| refusal.naming(|| limit::of_curves(curves.lists()).or_else(|| limit::of_cells(n_u, n_v))))
+    let exceeded = || limit::of_curves(curves.lists()).or_else(|| limit::of_cells(n_u, n_v));
+    naming(exceeded, mesh(n_u, n_v, |points, cells| raw::mesh_tile_curves(curves.lists(), [wide(n_u), wide(n_v)], points, cells)))
 }
 
 /// [`mesh_tile_curves`] of a tile given by a closed loop of points, as [`coons_checked`] reads it.
@@ -245,8 +245,8 @@ pub fn mesh_tile_curves(curves: &BoundaryCurves, n_u: usize, n_v: usize) -> Resu
 /// Refused as [`coons_checked`].
 pub fn mesh_tile(points: &[Point], n_u: usize, n_v: usize) -> Result<Mesh, Refusal> {
     let boundary = points.as_flattened();
-    let made = mesh(n_u, n_v, |points, cells| raw::mesh_tile(boundary, [wide(n_u), wide(n_v)], points, cells));
-    made.map_err(|refusal| refusal.naming(|| limit::of_cells(n_u, n_v).or_else(|| limit::of_loop(points.len()))))
+    let exceeded = || limit::of_cells(n_u, n_v).or_else(|| limit::of_loop(points.len()));
+    naming(exceeded, mesh(n_u, n_v, |points, cells| raw::mesh_tile(boundary, [wide(n_u), wide(n_v)], points, cells)))
 }
 
 /// The signed area of a quad, above 0 if it runs counter-clockwise. It is plain Rust.

@@ -68,14 +68,6 @@ impl Refusal {
         }
     }
 
-    /// The refusal with its limit, if it is number 1.
-    pub(crate) fn naming(self, limit: impl FnOnce() -> Option<Limit>) -> Refusal {
-        match self.number {
-            MALFORMED => Refusal { limit: limit(), ..self },
-            _ => self,
-        }
-    }
-
     /// The places that the number names, as they stand behind it.
     fn places(&self) -> String {
         let (first, second) = (self.first, self.second);
@@ -151,6 +143,14 @@ const SEAM_ENDS: &str =
 const BAD_AREA: &str =
     "the quad's area, as it is worked out, is not finite or not above 0; let no two seam values (or breaks) in a row be equal, \
                         straighten the curves, or, far from the origin, move it near the tile";
+
+/// The answer; a refusal by number 1 names the limit that is exceeded.
+pub(crate) fn naming<T>(exceeded: impl FnOnce() -> Option<Limit>, answer: Result<T, Refusal>) -> Result<T, Refusal> {
+    answer.map_err(|refusal| match refusal.number {
+        MALFORMED => Refusal { limit: exceeded(), ..refusal },
+        _ => refusal,
+    })
+}
 
 /// 3 is never answered: there the left curve's first point is held against itself.
 fn corner(number: u32) -> &'static str {

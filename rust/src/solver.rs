@@ -2,7 +2,7 @@
 
 use crate::limit::{self, PLACES};
 use crate::raw::{self, Made};
-use crate::refusal::{Refusal, MALFORMED};
+use crate::refusal::{naming, Refusal, MALFORMED};
 use std::ops::RangeInclusive;
 
 /// One tile: its four sides counter-clockwise (bottom, right, top, left), each a list of edge numbers.
@@ -125,8 +125,8 @@ pub fn solve_counts(regions: &[Region], edge_ideal: &[f64]) -> Result<Vec<usize>
 /// # Ok::<(), juplatsk::Refusal>(())
 /// ```
 pub fn solve(regions: &[Region], edge_ideal: &[f64]) -> Result<Solved, Refusal> {
-    let solved = solved(edge_ideal.len(), |counts| raw::solve_counts(&records(regions), edge_ideal, counts));
-    solved.map_err(|refusal| refusal.naming(|| limit::of_regions(regions, &[edge_ideal.len()])))
+    let exceeded = || limit::of_regions(regions, &[edge_ideal.len()]);
+    naming(exceeded, solved(edge_ideal.len(), |counts| raw::solve_counts(&records(regions), edge_ideal, counts)))
 }
 
 /// [`solve_counts`] with a range for each edge in place of an ideal count.
@@ -164,8 +164,8 @@ pub fn solve_counts_within(regions: &[Region], ranges: &[RangeInclusive<f64>]) -
 /// ```
 pub fn solve_within(regions: &[Region], ranges: &[RangeInclusive<f64>]) -> Result<Solved, Refusal> {
     let (least, most) = ends(ranges);
-    let solved = solved(ranges.len(), |counts| raw::solve_counts_within(&records(regions), [&least, &most], counts));
-    solved.map_err(|refusal| refusal.naming(|| limit::of_regions(regions, &[ranges.len()])))
+    let exceeded = || limit::of_regions(regions, &[ranges.len()]);
+    naming(exceeded, solved(ranges.len(), |counts| raw::solve_counts_within(&records(regions), [&least, &most], counts)))
 }
 
 /// What a round did.
@@ -204,8 +204,8 @@ fn round_on(counts: &mut [usize], call: impl FnOnce(&mut [u32]) -> Result<Made, 
 /// Refused by 1, 10, 8, 2, 9, 3 to 6, and then the counts are as they were.
 pub fn round(regions: &[Region], edge_ideal: &[f64], counts: &mut [usize], limit: usize) -> Result<Round, Refusal> {
     let edges = [edge_ideal.len(), counts.len()];
-    let made = round_on(counts, |counts| raw::round(&records(regions), edge_ideal, counts, wide(limit)));
-    made.map_err(|refusal| refusal.naming(|| limit::of_regions(regions, &edges)))
+    let exceeded = || limit::of_regions(regions, &edges);
+    naming(exceeded, round_on(counts, |counts| raw::round(&records(regions), edge_ideal, counts, wide(limit))))
 }
 
 /// [`round`] with a range for each edge in place of an ideal count; [`solve_counts_within`] says what a range means.
@@ -228,8 +228,8 @@ pub fn round(regions: &[Region], edge_ideal: &[f64], counts: &mut [usize], limit
 pub fn round_within(regions: &[Region], ranges: &[RangeInclusive<f64>], counts: &mut [usize], limit: usize) -> Result<Round, Refusal> {
     let (least, most) = ends(ranges);
     let edges = [ranges.len(), counts.len()];
-    let made = round_on(counts, |counts| raw::round_within(&records(regions), [&least, &most], counts, wide(limit)));
-    made.map_err(|refusal| refusal.naming(|| limit::of_regions(regions, &edges)))
+    let exceeded = || limit::of_regions(regions, &edges);
+    naming(exceeded, round_on(counts, |counts| raw::round_within(&records(regions), [&least, &most], counts, wide(limit))))
 }
 
 /// The energy of counts: the sum of (count / ideal - 1)² over the edges.
@@ -241,7 +241,7 @@ pub fn round_within(regions: &[Region], ranges: &[RangeInclusive<f64>], counts: 
 /// Refused by 1, 8, 2, 9.
 pub fn energy(counts: &[usize], edge_ideal: &[f64]) -> Result<f64, Refusal> {
     let edges = [edge_ideal.len(), counts.len()];
-    raw::energy(&wide_counts(counts), edge_ideal).map_err(|refusal| refusal.naming(|| limit::of_regions(&[], &edges)))
+    naming(|| limit::of_regions(&[], &edges), raw::energy(&wide_counts(counts), edge_ideal))
 }
 
 /// Whether opposite sides of every region add up to the same. An edge without a count makes it false.
@@ -256,10 +256,10 @@ pub fn energy(counts: &[usize], edge_ideal: &[f64]) -> Result<f64, Refusal> {
 ///
 /// Refused by 1 alone.
 pub fn constraints_hold(regions: &[Region], counts: &[usize]) -> Result<bool, Refusal> {
-    let limits = || limit::of_regions(regions, &[counts.len()]).or_else(|| limit::of_counts(counts));
+    let exceeded = || limit::of_regions(regions, &[counts.len()]).or_else(|| limit::of_counts(counts));
     let held = match limit::of_counts(counts) {
         Some(_) => Err(Refusal::new(MALFORMED, 0, 0)),
         None => raw::constraints_hold(&records(regions), &wide_counts(counts)),
     };
-    held.map_err(|refusal| refusal.naming(limits))
+    naming(exceeded, held)
 }
