@@ -1,7 +1,7 @@
 //! The limits of the library, and which of them a call exceeds.
 //!
-//! The archive answers 1 for all of them and names no place. It alone decides whether a call is refused; what stands here only looks, after it
-//! has refused, for the limit that the caller is to be told.
+//! The archive answers 1 for all of them and names no place. What stands here looks, once a call is refused, for the limit that the caller is to
+//! be told, and decides nothing; but for [`of_loop`] in `from_loop`, and [`of_counts`] for counts that the archive cannot be lent.
 
 use crate::archive::BySide;
 use crate::solver::Region;
@@ -12,13 +12,14 @@ pub(crate) const PLACES: usize = 16;
 const MAX_REGIONS: usize = 128;
 const MAX_EDGES: usize = 256;
 const MAX_POINTS: usize = 1024;
-pub(crate) const MAX_LOOP: usize = 4096;
+const MAX_LOOP: usize = 4096;
 const MAX_SEAM: usize = 1025;
 pub(crate) const MAX_CELLS: usize = 1024;
 const MAX_COUNT: usize = u32::MAX as usize;
 
 /// A limit that a call exceeded.
 #[derive(Clone, Copy, Debug, PartialEq, Eq, Hash)]
+#[non_exhaustive]
 pub struct Limit {
     /// What there was too much of.
     pub of: Limited,
@@ -30,6 +31,7 @@ pub struct Limit {
 
 /// What is limited. Sides, curves and seams are numbered bottom 0, right 1, top 2, left 3.
 #[derive(Clone, Copy, Debug, PartialEq, Eq, Hash)]
+#[non_exhaustive]
 pub enum Limited {
     /// Regions, 128.
     Regions,

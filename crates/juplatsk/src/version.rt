@@ -1,5 +1,5 @@
-// The version of the exported functions. include/juplatsk.h and rust/Cargo.toml say it too, and a caller is turned away there before a call
-// of another one. A new minor, or a new major from 1 on, may read lists and records in another way; a new patch does not.
+// The version of the exported functions. include/juplatsk.h and rust/Cargo.toml say it too, and turn a caller away before a call of another
+// major or minor: these may read lists, records or answers in another way, a patch reads them as before. Minor and patch stay below 100.
 const MAJOR: u32 = 0;
 
 const MINOR: u32 = 2;
