@@ -40,8 +40,8 @@
 //! Facts that decide whether pegs meet. `tests/facts.rs` shows each; docs/DIFFERENCES.md of the repository has them in full.
 //!
 //! - **A count of 0 is an answer.** Lay then sets no peg of that edge where it begins, at its left or lower end; it is refused by 21 if the edge is the
-//!   first of its side and has a length, by 18 if the side has no piece at all. Look for counts of 0 after a solve. With a range from 1 for that edge a count of 1 costs nothing and 0 costs 1, and that is all: the
-//!   count may still be 0.
+//!   first of its side and has a length, by 18 if the side has no piece at all. Look for counts of 0 after a solve. With a range from 1 for that edge
+//!   a count of 1 costs nothing and 0 costs 1, and that is all: the count may still be 0.
 //!
 //!   ```
 //!   use juplatsk::{solve_counts, solve_counts_within, Region};
@@ -74,8 +74,9 @@
 //! # A long solve
 //!
 //! A solve tells nothing before it ends, which on wide farms takes seconds or minutes. [`round`] from zeros with limit 100,000 makes the same moves one by
-//! one, each with a search anew, so that it takes longer in all: show how far it is, and stop when you like, or at 200,000 moves as a solve does (which
-//! is then refused by 7). Opposite sides agree after every round, since they do at the start. `examples/rounds.rs` is a program that does so.
+//! one, each with a search anew, so that it takes longer in all: show how far it is, and stop when you like, or at 200,000 moves, after which a solve makes
+//! none (and is refused by 7 if it finds one). Opposite sides agree after every round, since they do at the start. `examples/rounds.rs` is a program
+//! that does so.
 //!
 //! ```
 //! use juplatsk::{constraints_hold, round, solve, Region};
