@@ -131,7 +131,7 @@ module _ (regions : List ℕ) (spacing : Spacing) (counts : List ℕ) (limit : �
       let h = head-said e o in
       let m = h .values .as-many in (
         record {
-          few = let q = limits-passed (edges-of spacing) regions (h .limits) .0 in omega arith;
+          few = let q = limits-passed places (edges-of spacing) regions (h .limits) .0 in omega arith;
           small = counts-small counts (h .values .counts-ok);
           regions-pass = subst (λ (n : ℕ). T (is-passed (regions-test places n regions))) (sym m) (regions-pass regions (edges-of spacing) (h .last-ok) (was-passed f p));
         },
@@ -201,7 +201,7 @@ module _ (regions : List ℕ) (spacing : Spacing) (lent : List ℕ) where
   solve-tables e o = let h = tested e o in (true-T _ (h .limits), true-T _ (h .last-ok))
 
   pub solve-room : {c : Check} → c ≡ Passed → outcome c ≡ solve-head places regions spacing (length lent) → (edges-of spacing ≤ length lent) × (edges-of spacing ≤ max-edges) × (is-passed (spacing-lengths spacing) ≡ true)
-  solve-room e o = let h = tested e o in (h .enough, limits-passed (edges-of spacing) regions (h .limits) .0, h .lists)
+  solve-room e o = let h = tested e o in (h .enough, limits-passed places (edges-of spacing) regions (h .limits) .0, h .lists)
 
   pub solve-regions : {c d : Check} → c ≡ Passed → outcome c ≡ solve-head places regions spacing (length lent)
       → d ≡ Passed → outcome d ≡ overused-test (graph places regions) 0 (edges-of spacing) → T (is-passed (regions-test places (edges-of spacing) regions))

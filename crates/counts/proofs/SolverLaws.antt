@@ -9,7 +9,7 @@ use lib.ListN.{length, getD, drop, length-take}
 use lib.Dec.{ltb, eqb}
 use lib.Ieee.{Float, binary64, ofBits}
 use Rattle.base.specs.Lists.{all}
-use Rattle.regions.specs.Region.{Constraint, places, region-count, side, constraints, graph, side-sum, side-size, record-size}
+use Rattle.regions.specs.Region.{Constraint, places, region-count, from-region, side, constraints, graph, side-sum, side-size, record-size}
 use Rattle.base.specs.declared.verdict.Verdict.{Verdict}
 use Rattle.base.specs.Refusal.{passed, refused, outcome, is-passed, then-test, refuse-if}
 use Rattle.counts.specs.Cost.{Spacing, by, within, edges-of, energy-from}
@@ -222,25 +222,27 @@ module _ (counts a b : List ℕ) where
   both-in {t} {u} e f = constraint-by true true t u (sum-in counts a t e .0) (sum-in counts b u f .0) (sum-in counts a t e .1) (sum-in counts b u f .1)
 
 -- a side has no more edges than its number says
-pub side-short : (l : List ℕ) (k : ℕ) → getD l (k * side-size places) 0 ≤ places → length (side places l k) ≤ places
-side-short l k h = let e = length-take (getD l (k * side-size places) 0) (drop (suc (k * side-size places)) l) in omega arith
+pub side-short : (p : ℕ) (l : List ℕ) (k : ℕ) → getD l (k * side-size p) 0 ≤ p → length (side p l k) ≤ p
+side-short p l k h = let e = length-take (getD l (k * side-size p) 0) (drop (suc (k * side-size p)) l) in omega arith
 
 -- one region more
-pub hold-turn : (p : Constraint → Bool) (m r : ℕ) (l : List ℕ) → r < m → all p (constraints places (m - r) (drop (r * record-size places) l)) ≡ all p (constraints places 1 (drop (r * record-size places) l)) && all p (constraints places (m - (r + 1)) (drop ((r + 1) * record-size places) l))
+pub hold-turn : (p : ℕ) (f : Constraint → Bool) (m r : ℕ) (l : List ℕ) → r < m
+    → all f (constraints p (m - r) (from-region p l r))
+    ≡ all f (constraints p 1 (from-region p l r)) && all f (constraints p (m - (r + 1)) (from-region p l (r + 1)))
 unfolding constraints
-hold-turn p m r l h =
-    let x = drop (r * record-size places) l in
-    let c : Constraint = record { a = side places x 0; b = side places x 2 } in
-    let d : Constraint = record { a = side places x 1; b = side places x 3 } in
-    ap (λ (k : ℕ). all p (constraints places k (drop (r * record-size places) l))) (count-down m r l h)
-    ∙ regroup (p c) (p d) (all p (constraints places (m - (r + 1)) (drop (record-size places) x)))
-    ∙ ap (λ (x : List ℕ). all p (constraints places 1 (drop (r * record-size places) l)) && all p (constraints places (m - (r + 1)) x)) (next-record m r l h)
+hold-turn p f m r l h =
+    let x = from-region p l r in
+    let c : Constraint = record { a = side p x 0; b = side p x 2 } in
+    let d : Constraint = record { a = side p x 1; b = side p x 3 } in
+    ap (λ (k : ℕ). all f (constraints p k x)) (count-down p m r l h)
+    ∙ regroup (f c) (f d) (all f (constraints p (m - (r + 1)) (drop (record-size p) x)))
+    ∙ ap (λ (y : List ℕ). all f (constraints p 1 x) && all f (constraints p (m - (r + 1)) y)) (next-record p m r l h)
   where
     regroup : (a b c : Bool) → a && (b && c) ≡ (a && (b && true)) && c
     regroup true true c = refl
     regroup true false c = refl
     regroup false b c = refl
 
-pub hold-end : (p : Constraint → Bool) (m r : ℕ) (l : List ℕ) → m ≤ r → all p (constraints places (m - r) l) ≡ true
+pub hold-end : (p : ℕ) (f : Constraint → Bool) (m r : ℕ) (l : List ℕ) → m ≤ r → all f (constraints p (m - r) l) ≡ true
 unfolding constraints
-hold-end p m r l h = let e : m - r ≡ 0 = omega arith in ap (λ (k : ℕ). all p (constraints places k l)) e
+hold-end p f m r l h = let e : m - r ≡ 0 = omega arith in ap (λ (k : ℕ). all f (constraints p k l)) e

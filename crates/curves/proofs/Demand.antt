@@ -4,24 +4,22 @@ use mathlib.Core.Logic.{inl, inr}
 use mathlib.Core.Path.{_≡_, refl, sym, ap, subst, _∙_}
 use mathlib.Core.Bool.{_||_}
 use mathlib.Core.List.{List, [], _∷_}
-use Prim.Native.Nat.{ℕ, zero, suc, _+_, _*_, _/_, _≤_, _<_, min}
+use Prim.Native.Nat.{ℕ, suc, _*_, _≤_, _<_, min}
 use native.Mathlib.Omega.{arith}
 use lib.ListN.{length, getD, take, drop, length-take}
-use lib.Seq.{getD-take, take-take, take-at, drop-drop}
+use lib.Seq.{getD-take, take-take, take-at}
 use lib.Dec.{T, eqb, lt→ltb, ltb→lt}
 use lib.Ieee.{Float}
 use Rattle.base.specs.Refusal.{is-passed}
 use Rattle.base.specs.Lists.{In, member}
-use Rattle.regions.specs.Region.{Constraint, constraint, places, region-count, from-region, graph, side, side-sum, side-size, record-size}
+use Rattle.regions.specs.Region.{Constraint, constraint, places, region-count, graph, side, side-sum}
 use Rattle.counts.specs.Round.{solve-zeros}
 use Rattle.counts.specs.Cost.{Spacing, costs-of, edges-of}
-use Rattle.regions.specs.Accept.{accepted, sides-fit, limits-test, regions-test}
 use Rattle.counts.specs.Solver.{max-limit, solve}
 use Rattle.counts.specs.Demand.{Request, answer-to, request-costs, left-by-all, Balanced, sum-of}
 use Rattle.counts.proofs.Accepted.{Accepted, accepted-ok}
-use Rattle.base.proofs.BoolLaws.{clash, eq→eqb, or-left, or-right, T-true}
-use Rattle.base.proofs.TestLaws.{then-left}
-use Rattle.regions.proofs.accept.Laws.{sides-first, sides-rest, side-few, limits-passed, whole-sides}
+use Rattle.base.proofs.BoolLaws.{clash, eq→eqb, or-left, or-right}
+use Rattle.regions.proofs.accept.Record.{same-sides}
 use Rattle.base.proofs.ListLaws.{in→member}
 use Rattle.counts.proofs.Rounds.{Steady, steady-all, constraint-at, demand-3-rounds, test-of, limit-of, answer-to-is}
 use Rattle.counts.proofs.Solving.{SolveIs, solve-is, solve-balanced, level-solved}
@@ -123,46 +121,6 @@ module _ (regions counts : List ℕ) (h : Handed regions counts) where
         right-left = λ r l. still-even (suc (r * 2)) _ (constraint-at places (region-count places regions) regions r l .1) (b .right-left r l);
       }
 
--- ---- the record of a region has the sides that the region has in the list
-
--- a part that lies in the first n values
-part-of-front : (i m n : ℕ) (l : List ℕ) → i + m ≤ n → take m (drop i (take n l)) ≡ take m (drop i l)
-part-of-front zero m n l h = take-take m n l (omega arith)
-part-of-front (suc i) m zero l h = absurd (omega arith)
-part-of-front (suc i) m (suc n) [] h = refl
-part-of-front (suc i) m (suc n) (x ∷ l) h = part-of-front i m n l (omega arith)
-
-side-of-record : (l : List ℕ) (k : ℕ) → k < 4 → getD l (k * side-size places) 0 ≤ places → side places (take (record-size places) l) k ≡ side places l k
-side-of-record l k h f =
-    ap (λ (m : ℕ). take m (drop (suc (k * side-size places)) (take (record-size places) l))) (getD-take (record-size places) l (k * side-size places) 0 (omega arith))
-    ∙ part-of-front (suc (k * side-size places)) (getD l (k * side-size places) 0) (record-size places) l (omega arith)
-
-sides-at : (m r : ℕ) (l : List ℕ) → r < m → T (sides-fit places m l) → T (sides-fit places 1 (drop (r * record-size places) l))
-sides-at zero r l h t = absurd (omega arith)
-sides-at (suc m) zero l h t = sides-first m l t
-sides-at (suc m) (suc r) l h t =
-    let e : (record-size places) + r * record-size places ≡ suc r * record-size places = omega arith in
-    subst (λ (x : List ℕ). T (sides-fit places 1 x)) (drop-drop (r * record-size places) (record-size places) l ∙ ap (λ (i : ℕ). drop i l) e)
-    (sides-at m r (drop (record-size places) l) (omega arith) (sides-rest m l t))
-
-same-sides : (n : ℕ) (regions : List ℕ) → T (accepted places n regions) → (r : ℕ) → r < region-count places regions
-    → (k : ℕ) → k < 4 → side places (record-of regions r) k ≡ side places (from-region places regions r) k
-unfolding accepted
-same-sides n regions t r h k b =
-    side-of-record (from-region places regions r) k b (few k b)
-  where
-    fit : T (sides-fit places 1 (drop (r * record-size places) regions))
-    fit =
-        let l = limits-passed n regions (T-true _ (then-left (limits-test places n regions) (regions-test places n regions) t)) in
-        sides-at (length regions / record-size places) r regions h (whole-sides regions (l .1))
-
-    few : (k : ℕ) → k < 4 → getD (drop (r * record-size places) regions) (k * side-size places) 0 ≤ places
-    few zero b = side-few (drop (r * record-size places) regions) fit .0
-    few (suc zero) b = side-few (drop (r * record-size places) regions) fit .1
-    few (suc (suc zero)) b = side-few (drop (r * record-size places) regions) fit .2
-    few (suc (suc (suc zero))) b = side-few (drop (r * record-size places) regions) fit .3
-    few (suc (suc (suc (suc k)))) b = absurd (omega arith)
-
 -- ---- the two ways to hand on what an accepted solve wrote, each with any list of rounds: the whole lent buffer, or the part that was written
 
 pub whole-buffer : (regions : List ℕ) (spacing : Spacing) (lent : List ℕ) (requests : List Request) → T (is-passed (solve regions spacing lent .verdict))
@@ -204,7 +162,7 @@ equal-seams regions counts h r l f =
     seam-long : (k : ℕ) (breaks : List Float) → k < 4 → length (seam-of region counts k breaks) ≡ suc (sum-of regions counts r k)
     seam-long k breaks j =
         length-seam region counts k breaks
-        ∙ ap (λ (edges : List ℕ). suc (side-sum counts edges)) (same-sides (edges-of (h .spacing)) regions (is regions counts h .regions-accepted) r l k j)
+        ∙ ap (λ (edges : List ℕ). suc (side-sum counts edges)) (same-sides places (edges-of (h .spacing)) regions (is regions counts h .regions-accepted) r l k j)
 
     alike : (j k : ℕ) (breaks others : List Float) → j < 4 → k < 4 → sum-of regions counts r j ≡ sum-of regions counts r k
         → length (seam-of region counts j breaks) ≡ length (seam-of region counts k others)

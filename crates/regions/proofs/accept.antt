@@ -1,2 +1,3 @@
 -- The laws of the tests of regions. Assumes nothing.
 pub mod Laws
+pub mod Record

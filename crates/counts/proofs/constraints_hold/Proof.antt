@@ -2,6 +2,7 @@
 use borrow.Author.Needs.{needs}
 use denote.Ref.{now}
 use lib.ListN.{length}
+use Rattle.regions.specs.Region.{places}
 use Rattle.regions.proofs.accept.Laws.{limits-passed}
 use Rattle.base.proofs.TestLaws.{was-passed}
 use Rattle.counts.proofs.SolverLaws.{hold-refused, hold-answered}
@@ -27,7 +28,7 @@ regions-hold-requires : tie.Need-regions-hold-requires
 regions-hold-requires c κs =
     let l = now (c .before .before .before .before .before .args .regions) in
     let xs = now (c .before .before .before .before .before .args .counts) in
-    limits-passed (length xs) l (was-passed (c .enum-told .given .1) (c .before .before .check-limits .ensures)) .1
+    limits-passed places (length xs) l (was-passed (c .enum-told .given .1) (c .before .before .check-limits .ensures)) .1
 
 returns-2 : tie.Need-returns-2
 returns-2 c =

@@ -104,7 +104,7 @@ pub constraint-more : {i : ℕ} {regions incident own uses incident1 own1 uses1 
 constraint-more {i} {regions} {incident} {own} {uses} {incident1} {own1} {uses1} {incident2} {own2} {uses2} ok h f a b =
     let g = the-graph regions in
     let are = sides-are (region-count places regions) i regions h in
-    let len = length-constraints (region-count places regions) regions in
+    let len = length-constraints places (region-count places regions) regions in
     filled-more g i incident own uses incident1 own1 uses1 incident2 own2 uses2 (omega (arith, len))
     (λ y t u. ok .pair-tested i h .parted y (subst (λ (l : List ℕ). T (member y l)) (are .0) t) (subst (λ (l : List ℕ). T (member y l)) (are .1) u))
     f
@@ -115,7 +115,7 @@ pub constraints-done : (i : ℕ) (regions : List ℕ) {incident own uses : List 
     → Filled (the-graph regions) (take i (the-graph regions)) incident own uses
     → Filled (the-graph regions) (the-graph regions) incident own uses
 constraints-done i regions {incident} {own} {uses} h f =
-    let len = length-constraints (region-count places regions) regions in
+    let len = length-constraints places (region-count places regions) regions in
     subst (λ (l : List Constraint). Filled (the-graph regions) l incident own uses) (take-all i (the-graph regions) (omega (arith, len))) f
 
 -- ---- 6, edge by edge
@@ -220,7 +220,7 @@ tables n regions incident own uses t1 t3 t6 f =
     below i y h = ltb→lt y n (ok i .inside y h)
 
     in-range : (i y : ℕ) → T (holds (constraint (the-graph regions) i) y) → i < region-count places regions * 2
-    in-range i y h = let l = holds-numbered (the-graph regions) i y h in let len = length-constraints (region-count places regions) regions in omega (arith, l, len)
+    in-range i y h = let l = holds-numbered (the-graph regions) i y h in let len = length-constraints places (region-count places regions) regions in omega (arith, l, len)
 
     -- an edge that is none of the n is in no constraint
     thin : (y : ℕ) → length (incidence (the-graph regions) y) ≤ 2

@@ -1,20 +1,19 @@
 -- Laws of the sides of the records, read one edge after the other, and as sides of the constraints. Assumes nothing.
 use mathlib.Core.Path.{_≡_, refl, sym, ap, subst, _∙_}
-use mathlib.Core.Bool.{Bool, _&&_}
 use mathlib.Core.List.{List, [], _∷_, _++_}
 use Prim.Native.Nat.{ℕ, zero, suc, _+_, _*_, _≤_, _<_}
 use native.Mathlib.Numerals.{add-one}
 use native.Mathlib.Omega.{arith}
 use lib.ListN.{length, getD, take, drop, length-drop}
 use lib.Seq.{take-all, take-suc, length-take-le, getD-take, getD-drop, drop-drop}
-use lib.Dec.{T, leb, leb→le}
-use lib.Ieee.Fits.{and-l, and-r}
+use lib.Dec.{T}
 use Rattle.base.specs.Lists.{member}
 use Rattle.regions.specs.Region.{places, constraint, constraints, side-size, record-size}
 use Rattle.regions.specs.Accept.{sides-fit, max-edges}
 use Rattle.counts.specs.inner.Tables.{edges-on}
 use Rattle.counts.specs.inner.Graph.{first-side, second-side, SideTested, Placed}
 use Rattle.base.proofs.ListLaws.{one-in, member-getD, distinct-before}
+use Rattle.regions.proofs.accept.Laws.{sides-rest, side-few}
 use Rattle.counts.proofs.graph.Placing.{placed-more}
 
 -- ---- one edge of a side after the other
@@ -76,42 +75,18 @@ sides-are (suc m) (suc (suc i)) l h =
     let r = sides-are m i (drop (record-size places) l) (omega arith) in
     (r .0 ∙ edges-drop l (first-side i) (first-side (suc (suc i))) (omega arith), r .1 ∙ edges-drop l (second-side i) (second-side (suc (suc i))) (omega arith))
 
-pub length-constraints : (m : ℕ) (l : List ℕ) → length (constraints places m l) ≡ m * 2
+pub length-constraints : (p m : ℕ) (l : List ℕ) → length (constraints p m l) ≡ m * 2
 unfolding constraints
-length-constraints zero l = refl
-length-constraints (suc m) l = let h = length-constraints m (drop (record-size places) l) in omega arith
-
--- the numbers of edges of the first record
-record RegionFew (m : ℕ) (l : List ℕ) : Type 0 where
-  side-0 : getD l 0 0 ≤ places
-  side-1 : getD l (side-size places) 0 ≤ places
-  side-2 : getD l (2 * side-size places) 0 ≤ places
-  side-3 : getD l (3 * side-size places) 0 ≤ places
-  rest : T (sides-fit places m (drop (record-size places) l))
-
-region-few : (m : ℕ) (l : List ℕ) → T (sides-fit places (suc m) l) → RegionFew m l
-unfolding sides-fit
-region-few m l t =
-    let f : ℕ → Bool = λ i. leb (getD l i 0) places in
-    let rest = sides-fit places m (drop (record-size places) l) in
-    let t1 = and-r (f 0) (f (side-size places) && (f (2 * side-size places) && (f (3 * side-size places) && rest))) t in
-    let t2 = and-r (f (side-size places)) (f (2 * side-size places) && (f (3 * side-size places) && rest)) t1 in
-    let t3 = and-r (f (2 * side-size places)) (f (3 * side-size places) && rest) t2 in
-    record {
-      side-0 = leb→le (getD l 0 0) places (and-l (f 0) (f (side-size places) && (f (2 * side-size places) && (f (3 * side-size places) && rest))) t);
-      side-1 = leb→le (getD l (side-size places) 0) places (and-l (f (side-size places)) (f (2 * side-size places) && (f (3 * side-size places) && rest)) t1);
-      side-2 = leb→le (getD l (2 * side-size places) 0) places (and-l (f (2 * side-size places)) (f (3 * side-size places) && rest) t2);
-      side-3 = leb→le (getD l (3 * side-size places) 0) places (and-l (f (3 * side-size places)) rest t3);
-      rest = and-r (f (3 * side-size places)) rest t3;
-    }
+length-constraints p zero l = refl
+length-constraints p (suc m) l = let h = length-constraints p m (drop (record-size p) l) in omega arith
 
 pub sides-few : (m i : ℕ) (l : List ℕ) → T (sides-fit places m l) → i < m * 2
     → (getD l (first-side i * side-size places) 0 ≤ places) × (getD l (second-side i * side-size places) 0 ≤ places)
 sides-few zero i l t h = absurd (omega arith)
-sides-few (suc m) zero l t h = let r = region-few m l t in (r .side-0, r .side-2)
-sides-few (suc m) (suc zero) l t h = let r = region-few m l t in (r .side-1, r .side-3)
+sides-few (suc m) zero l t h = (side-few places m l t 0 (omega arith), side-few places m l t 2 (omega arith))
+sides-few (suc m) (suc zero) l t h = (side-few places m l t 1 (omega arith), side-few places m l t 3 (omega arith))
 sides-few (suc m) (suc (suc i)) l t h =
-    let r = sides-few m i (drop (record-size places) l) (region-few m l t .rest) (omega arith) in
+    let r = sides-few m i (drop (record-size places) l) (sides-rest places m l t) (omega arith) in
     let p : (record-size places) + first-side i * side-size places ≡ first-side (suc (suc i)) * side-size places = omega arith in
     let q : (record-size places) + second-side i * side-size places ≡ second-side (suc (suc i)) * side-size places = omega arith in
     (subst (λ (n : ℕ). n ≤ places) (getD-drop (record-size places) l (first-side i * side-size places) 0 ∙ ap (λ (n : ℕ). getD l n 0) p) (r .0), subst (λ (n : ℕ). n ≤ places) (getD-drop (record-size places) l (second-side i * side-size places) 0 ∙ ap (λ (n : ℕ). getD l n 0) q) (r .1))

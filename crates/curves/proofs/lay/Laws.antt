@@ -123,15 +123,13 @@ breaks-known region breaks k t =
     eqb→eq (length breaks) (suc (length (side places region k))) (not-not b (not-refused (not b) 26 k 0 t))
 
 -- a record that is let by has no more edges on a side than places
-pub sides-short : (region : List ℕ) (n : ℕ) → T (is-passed (record-test region n))
-    → (length (side places region 0) ≤ places) × (length (side places region 1) ≤ places) × (length (side places region 2) ≤ places) × (length (side places region 3) ≤ places)
+pub sides-short : (region : List ℕ) (n : ℕ) → T (is-passed (record-test region n)) → (k : ℕ) → k < 4 → length (side places region k) ≤ places
 unfolding record-test
-sides-short region n t =
+sides-short region n t k h =
     let v : Verdict = refuse-if (not (eqb (length region) (record-size places))) (refused 1 0 0) in
     let e : length region ≡ record-size places = eqb→eq (length region) (record-size places) (not-not (eqb (length region) (record-size places)) (not-refused (not (eqb (length region) (record-size places))) 0 0 0 (then-left v (limits-test places n region) t))) in
-    let w = limits-passed n region (T-true (is-passed (limits-test places n region)) (then-right v (limits-test places n region) t)) .1 in
-    let f = side-few region (subst (λ (m : ℕ). T (sides-fit places (m / record-size places) region)) e (whole-sides region w)) in
-    (side-short region 0 (f .0), side-short region 1 (f .1), side-short region 2 (f .2), side-short region 3 (f .3))
+    let w = limits-passed places n region (T-true (is-passed (limits-test places n region)) (then-right v (limits-test places n region) t)) .1 in
+    side-short places region k (side-few places 0 region (subst (λ (m : ℕ). T (sides-fit places (m / record-size places) region)) e (whole-sides places region w)) k h)
 
 -- what the tests let by of one side
 pub record SideKnown (region : List ℕ) (n k : ℕ) (breaks : List Float) : Type 0 where
@@ -159,10 +157,10 @@ known region n f t =
     let b = four-passed (breaks-test region (f .breaks0) 0) (breaks-test region (f .breaks1) 1) (breaks-test region (f .breaks2) 2) (breaks-test region (f .breaks3) 3) (then-right of-edges of-breaks r) in
     record {
       curves = then-left limit (sides-test region n f) s;
-      side0 = record { short = short .0; edges = e .0; fit = b .0 };
-      side1 = record { short = short .1; edges = e .1; fit = b .1 };
-      side2 = record { short = short .2; edges = e .2; fit = b .2 };
-      side3 = record { short = short .3; edges = e .3; fit = b .3 };
+      side0 = record { short = short 0 (omega arith); edges = e .0; fit = b .0 };
+      side1 = record { short = short 1 (omega arith); edges = e .1; fit = b .1 };
+      side2 = record { short = short 2 (omega arith); edges = e .2; fit = b .2 };
+      side3 = record { short = short 3 (omega arith); edges = e .3; fit = b .3 };
     }
 
 -- ---- the limit of the seams, by their lengths

@@ -2,16 +2,16 @@
 use mathlib.Core.Path.{_≡_, refl, sym, ap, subst, _∙_}
 use mathlib.Core.Bool.{Bool, true, false, true≢false, not, _&&_, _||_, cond}
 use mathlib.Core.List.{List, [], _∷_, _++_}
-use Prim.Native.Nat.{ℕ, zero, suc, _+_, _-_, _*_, _/_, _%_, _<_, _≤_}
+use Prim.Native.Nat.{ℕ, zero, suc, _+_, _-_, _*_, _%_, _<_, _≤_}
 use native.Mathlib.Numerals.{add-one}
-use native.Mathlib.Nat.{add-zero}
+use native.Mathlib.Nat.{add-zero, zero-mul, one-mul, suc-mul}
 use native.Mathlib.Omega.{arith}
 use lib.ListN.{length, getD, take, drop, length-drop, drop-of-length-le}
 use lib.Dec.{T, leb, ltb, eqb, leb→le}
 use lib.Seq.{take-suc, take-all, getD-drop, drop-drop}
 use lib.Ieee.Fits.{and-i, and-l, and-r}
 use Rattle.base.specs.Lists.{member}
-use Rattle.regions.specs.Region.{places, side-size, record-size, region-count}
+use Rattle.regions.specs.Region.{side-size, record-size, region-count, from-region}
 use Rattle.base.specs.declared.verdict.Verdict.{Verdict}
 use Rattle.base.specs.Refusal.{passed, refused, is-passed, then-test, refuse-if}
 use Rattle.regions.specs.Accept.{sides-fit, records-whole, limits-test, shared-edge, side-test, pair-test, region-test, pairs-test, max-regions, max-edges, records-test}
@@ -63,78 +63,99 @@ unfolding side-test
 side-end n r k s es i h = ap (side-test n r k s) (drop-of-length-le es h)
 
 -- ---- the sides' numbers of edges, one side after the other
-abbrev pub each-fits : ℕ → List ℕ → Bool
-each-fits zero l = true
-each-fits (suc m) l = leb (getD l 0 0) places && each-fits m (drop (side-size places) l)
+-- From here on a side has any number p of places.
 
-pub sides-one-by-one : (m : ℕ) (l : List ℕ) → sides-fit places m l ≡ each-fits (m * 4) l
+abbrev pub each-fits : ℕ → ℕ → List ℕ → Bool
+each-fits p zero l = true
+each-fits p (suc m) l = leb (getD l 0 0) p && each-fits p m (drop (side-size p) l)
+
+next-side : (p k : ℕ) (l : List ℕ) → drop (side-size p) (drop (k * side-size p) l) ≡ drop (suc k * side-size p) l
+next-side p k l = drop-drop (side-size p) (k * side-size p) l ∙ ap (λ (n : ℕ). drop n l) (sym (suc-mul k (side-size p)))
+
+-- the number of edges of side k, with the sides before it dropped
+number-of-side : (p k : ℕ) (l : List ℕ) → getD (drop (k * side-size p) l) 0 0 ≡ getD l (k * side-size p) 0
+number-of-side p k l = getD-drop (k * side-size p) l 0 0 ∙ ap (λ (n : ℕ). getD l n 0) (add-zero (k * side-size p))
+
+pub sides-one-by-one : (p m : ℕ) (l : List ℕ) → sides-fit p m l ≡ each-fits p (m * 4) l
 unfolding sides-fit
-sides-one-by-one zero l = refl
-sides-one-by-one (suc m) l =
+sides-one-by-one p zero l = refl
+sides-one-by-one p (suc m) l =
     let e : suc m * 4 ≡ suc (suc (suc (suc (m * 4)))) = omega arith in
-    let d2 : drop (side-size places) (drop (side-size places) l) ≡ drop (2 * side-size places) l = drop-drop (side-size places) (side-size places) l in
-    let d3 : drop (side-size places) (drop (2 * side-size places) l) ≡ drop (3 * side-size places) l = drop-drop (side-size places) (2 * side-size places) l in
-    let d4 : drop (side-size places) (drop (3 * side-size places) l) ≡ drop (record-size places) l = drop-drop (side-size places) (3 * side-size places) l in
-    let g1 : getD (drop (side-size places) l) 0 0 ≡ getD l (side-size places) 0 = getD-drop (side-size places) l 0 0 in
-    let g2 : getD (drop (2 * side-size places) l) 0 0 ≡ getD l (2 * side-size places) 0 = getD-drop (2 * side-size places) l 0 0 in
-    let g3 : getD (drop (3 * side-size places) l) 0 0 ≡ getD l (3 * side-size places) 0 = getD-drop (3 * side-size places) l 0 0 in
-    simp (e, d2, d3, d4, g1, g2, g3, sides-one-by-one m (drop (record-size places) l))
+    let d1 : drop (side-size p) l ≡ drop (1 * side-size p) l = ap (λ (n : ℕ). drop n l) (sym (one-mul (side-size p))) in
+    simp (e, d1, next-side p 1 l, next-side p 2 l, next-side p 3 l, number-of-side p 1 l, number-of-side p 2 l, number-of-side p 3 l, sides-one-by-one p m (drop (record-size p) l))
 
-module _ (l : List ℕ) (at : ℕ) (h : at < length l) (whole : (length l - at) % side-size places ≡ 0) where
-  fits-turn : (b : Bool) → leb (getD l at 0) places ≡ b → each-fits ((length l - at) / side-size places) (drop at l) ≡ b && each-fits ((length l - (at + side-size places)) / side-size places) (drop (at + side-size places) l)
+-- a turn of the loop, with suc m sides left from `at` on
+module _ (p m : ℕ) (l : List ℕ) (at : ℕ) where
+  fits-turn : (b : Bool) → leb (getD l at 0) p ≡ b → each-fits p (suc m) (drop at l) ≡ b && each-fits p m (drop (at + side-size p) l)
   fits-turn b t =
-      let e : (length l - at) / side-size places ≡ suc ((length l - (at + side-size places)) / side-size places) = omega arith in
       let g : getD (drop at l) 0 0 ≡ getD l at 0 = getD-drop at l 0 0 ∙ ap (λ (k : ℕ). getD l k 0) (add-zero at) in
-      ap (λ (k : ℕ). each-fits k (drop at l)) e
-      ∙ ap (λ (x : ℕ). leb x places && each-fits ((length l - (at + side-size places)) / side-size places) (drop (side-size places) (drop at l))) g
-      ∙ ap (λ (x : List ℕ). leb (getD l at 0) places && each-fits ((length l - (at + side-size places)) / side-size places) x) (drop-drop (side-size places) at l)
-      ∙ ap (λ (x : Bool). x && each-fits ((length l - (at + side-size places)) / side-size places) (drop (at + side-size places) l)) t
+      ap (λ (x : ℕ). leb x p && each-fits p m (drop (side-size p) (drop at l))) g
+      ∙ ap (λ (x : List ℕ). leb (getD l at 0) p && each-fits p m x) (drop-drop (side-size p) at l)
+      ∙ ap (λ (x : Bool). x && each-fits p m (drop (at + side-size p) l)) t
 
-  pub fits-next : leb (getD l at 0) places ≡ true → each-fits ((length l - at) / side-size places) (drop at l) ≡ each-fits ((length l - (at + side-size places)) / side-size places) (drop (at + side-size places) l)
+  pub fits-next : leb (getD l at 0) p ≡ true → each-fits p (suc m) (drop at l) ≡ each-fits p m (drop (at + side-size p) l)
   fits-next t = fits-turn true t
 
-  pub fits-not : leb (getD l at 0) places ≡ false → each-fits ((length l - at) / side-size places) (drop at l) ≡ false
+  pub fits-not : leb (getD l at 0) p ≡ false → each-fits p (suc m) (drop at l) ≡ false
   fits-not t = fits-turn false t
 
-pub fits-end : (l : List ℕ) (at : ℕ) → length l ≤ at → each-fits ((length l - at) / side-size places) (drop at l) ≡ true
-fits-end l at h =
-    let e : (length l - at) / side-size places ≡ 0 = omega arith in
-    ap (λ (k : ℕ). each-fits k (drop at l)) e
-
 -- ---- region by region
-pub sides-first : (m : ℕ) (l : List ℕ) → T (sides-fit places (suc m) l) → T (sides-fit places 1 l)
-unfolding sides-fit
-sides-first m l t =
-    let t1 = and-r (leb (getD l 0 0) places) _ t in
-    let t2 = and-r (leb (getD l (side-size places) 0) places) _ t1 in
-    let t3 = and-r (leb (getD l (2 * side-size places) 0) places) _ t2 in
-    and-i (leb (getD l 0 0) places) _ (and-l (leb (getD l 0 0) places) _ t)
-    (and-i (leb (getD l (side-size places) 0) places) _ (and-l (leb (getD l (side-size places) 0) places) _ t1)
-    (and-i (leb (getD l (2 * side-size places) 0) places) _ (and-l (leb (getD l (2 * side-size places) 0) places) _ t2)
-    (and-i (leb (getD l (3 * side-size places) 0) places) true (and-l (leb (getD l (3 * side-size places) 0) places) _ t3) tt)))
 
-pub sides-rest : (m : ℕ) (l : List ℕ) → T (sides-fit places (suc m) l) → T (sides-fit places m (drop (record-size places) l))
+-- what test 1 says of the record that stands first, and of those behind it
+record FirstFits (p m : ℕ) (l : List ℕ) : Type 0 where
+  fits-0 : T (leb (getD l 0 0) p)
+  fits-1 : T (leb (getD l (1 * side-size p) 0) p)
+  fits-2 : T (leb (getD l (2 * side-size p) 0) p)
+  fits-3 : T (leb (getD l (3 * side-size p) 0) p)
+  others : T (sides-fit p m (drop (record-size p) l))
+
+first-fits : (p m : ℕ) (l : List ℕ) → T (sides-fit p (suc m) l) → FirstFits p m l
 unfolding sides-fit
-sides-rest m l t =
-    let t1 = and-r (leb (getD l 0 0) places) _ t in
-    let t2 = and-r (leb (getD l (side-size places) 0) places) _ t1 in
-    let t3 = and-r (leb (getD l (2 * side-size places) 0) places) _ t2 in
-    and-r (leb (getD l (3 * side-size places) 0) places) _ t3
+first-fits p m l t =
+    let fits : ℕ → Bool = λ i. leb (getD l i 0) p in
+    let t1 = and-r (fits 0) _ t in
+    let t2 = and-r (fits (1 * side-size p)) _ t1 in
+    let t3 = and-r (fits (2 * side-size p)) _ t2 in
+    record {
+      fits-0 = and-l (fits 0) _ t;
+      fits-1 = and-l (fits (1 * side-size p)) _ t1;
+      fits-2 = and-l (fits (2 * side-size p)) _ t2;
+      fits-3 = and-l (fits (3 * side-size p)) _ t3;
+      others = and-r (fits (3 * side-size p)) _ t3;
+    }
+
+pub sides-first : (p m : ℕ) (l : List ℕ) → T (sides-fit p (suc m) l) → T (sides-fit p 1 l)
+unfolding sides-fit
+sides-first p m l t =
+    let f = first-fits p m l t in
+    let fits : ℕ → Bool = λ i. leb (getD l i 0) p in
+    and-i (fits 0) _ (f .fits-0) (and-i (fits (1 * side-size p)) _ (f .fits-1) (and-i (fits (2 * side-size p)) _ (f .fits-2) (and-i (fits (3 * side-size p)) true (f .fits-3) tt)))
+
+pub sides-rest : (p m : ℕ) (l : List ℕ) → T (sides-fit p (suc m) l) → T (sides-fit p m (drop (record-size p) l))
+sides-rest p m l t = first-fits p m l t .others
+
+-- no side of the record that stands first has more edges than places
+pub side-few : (p m : ℕ) (l : List ℕ) → T (sides-fit p (suc m) l) → (k : ℕ) → k < 4 → getD l (k * side-size p) 0 ≤ p
+side-few p m l t zero h = leb→le _ p (subst (λ (n : ℕ). T (leb (getD l n 0) p)) (sym (zero-mul (side-size p))) (first-fits p m l t .fits-0))
+side-few p m l t (suc zero) h = leb→le _ p (first-fits p m l t .fits-1)
+side-few p m l t (suc (suc zero)) h = leb→le _ p (first-fits p m l t .fits-2)
+side-few p m l t (suc (suc (suc zero))) h = leb→le _ p (first-fits p m l t .fits-3)
+side-few p m l t (suc (suc (suc (suc k)))) h = absurd (omega arith)
 
 -- ---- whole records
-module _ (l : List ℕ) (t : T (records-whole places l)) where
-  pub whole-few : length l / record-size places ≤ max-regions
+module _ (p : ℕ) (l : List ℕ) (t : T (records-whole p l)) where
+  pub whole-few : region-count p l ≤ max-regions
   unfolding records-whole
-  whole-few = leb→le (length l / record-size places) max-regions (and-l (leb (length l / record-size places) max-regions) _ (and-r (eqb (length l % record-size places) 0) _ t))
+  whole-few = leb→le (region-count p l) max-regions (and-l (leb (region-count p l) max-regions) _ (and-r (eqb (length l % record-size p) 0) _ t))
 
-  pub whole-sides : T (sides-fit places (length l / record-size places) l)
+  pub whole-sides : T (sides-fit p (region-count p l) l)
   unfolding records-whole
-  whole-sides = and-r (leb (length l / record-size places) max-regions) _ (and-r (eqb (length l % record-size places) 0) _ t)
+  whole-sides = and-r (leb (region-count p l) max-regions) _ (and-r (eqb (length l % record-size p) 0) _ t)
 
 -- what test 1 lets by
-pub limits-passed : (n : ℕ) (l : List ℕ) → is-passed (limits-test places n l) ≡ true → (n ≤ max-edges) × T (records-whole places l)
+pub limits-passed : (p n : ℕ) (l : List ℕ) → is-passed (limits-test p n l) ≡ true → (n ≤ max-edges) × T (records-whole p l)
 unfolding limits-test
-limits-passed n l e = go (leb n max-edges) (records-whole places l) (λ t. t) e
+limits-passed p n l e = go (leb n max-edges) (records-whole p l) (λ t. t) e
   where
     go : (a b : Bool) → (T a → T (leb n max-edges)) → is-passed (refuse-if (not (a && b)) (refused 1 0 0)) ≡ true → (n ≤ max-edges) × T b
     go true true h q = (leb→le n max-edges (h tt), tt)
@@ -145,44 +166,37 @@ limits-passed n l e = go (leb n max-edges) (records-whole places l) (λ t. t) e
 pub rest : {A : Type 0} (at : ℕ) (l : List A) → take (length l - at) (drop at l) ≡ drop at l
 rest at l = take-all (length l - at) (drop at l) (let e = length-drop at l in omega arith)
 
--- what the records from region r on say of the side k of region r
-pub side-few : (l : List ℕ) → T (sides-fit places 1 l) → (getD l 0 0 ≤ places) × (getD l (side-size places) 0 ≤ places) × (getD l (2 * side-size places) 0 ≤ places) × (getD l (3 * side-size places) 0 ≤ places)
-unfolding sides-fit
-side-few l t =
-    let t1 = and-r (leb (getD l 0 0) places) _ t in
-    let t2 = and-r (leb (getD l (side-size places) 0) places) _ t1 in
-    let t3 = and-r (leb (getD l (2 * side-size places) 0) places) _ t2 in (
-      leb→le (getD l 0 0) places (and-l (leb (getD l 0 0) places) _ t),
-      leb→le (getD l (side-size places) 0) places (and-l (leb (getD l (side-size places) 0) places) _ t1),
-      leb→le (getD l (2 * side-size places) 0) places (and-l (leb (getD l (2 * side-size places) 0) places) _ t2),
-      leb→le (getD l (3 * side-size places) 0) places (and-l (leb (getD l (3 * side-size places) 0) places) true t3),
-    )
-
-module _ (m r : ℕ) (l : List ℕ) (h : r < m) where
+-- a turn of a loop over m records, at record r
+module _ (p m r : ℕ) (l : List ℕ) (h : r < m) where
   pub count-down : m - r ≡ suc (m - (r + 1))
   count-down = omega arith
 
-  pub next-record : drop (record-size places) (drop (r * record-size places) l) ≡ drop ((r + 1) * record-size places) l
-  next-record = let e : r * record-size places + record-size places ≡ (r + 1) * record-size places = omega arith in drop-drop (record-size places) (r * record-size places) l ∙ ap (λ (k : ℕ). drop k l) e
+  pub next-record : drop (record-size p) (from-region p l r) ≡ from-region p l (r + 1)
+  next-record =
+      drop-drop (record-size p) (r * record-size p) l
+      ∙ ap (λ (k : ℕ). drop k l) (sym (suc-mul r (record-size p)) ∙ ap (λ (k : ℕ). k * record-size p) (sym (add-one r)))
 
-  pub sides-now : T (sides-fit places (m - r) (drop (r * record-size places) l)) → T (sides-fit places 1 (drop (r * record-size places) l))
-  sides-now t = sides-first (m - (r + 1)) (drop (r * record-size places) l) (subst (λ (k : ℕ). T (sides-fit places k (drop (r * record-size places) l))) count-down t)
+  pub sides-now : T (sides-fit p (m - r) (from-region p l r)) → T (sides-fit p 1 (from-region p l r))
+  sides-now t = sides-first p (m - (r + 1)) (from-region p l r) (subst (λ (k : ℕ). T (sides-fit p k (from-region p l r))) count-down t)
 
-  pub sides-after : T (sides-fit places (m - r) (drop (r * record-size places) l)) → T (sides-fit places (m - (r + 1)) (drop ((r + 1) * record-size places) l))
+  pub sides-after : T (sides-fit p (m - r) (from-region p l r)) → T (sides-fit p (m - (r + 1)) (from-region p l (r + 1)))
   sides-after t =
-      subst (λ (x : List ℕ). T (sides-fit places (m - (r + 1)) x)) next-record
-      (sides-rest (m - (r + 1)) (drop (r * record-size places) l) (subst (λ (k : ℕ). T (sides-fit places k (drop (r * record-size places) l))) count-down t))
+      subst (λ (x : List ℕ). T (sides-fit p (m - (r + 1)) x)) next-record
+      (sides-rest p (m - (r + 1)) (from-region p l r) (subst (λ (k : ℕ). T (sides-fit p k (from-region p l r))) count-down t))
 
-  pub pairs-turn : (n : ℕ) → pairs-test places n r (m - r) (drop (r * record-size places) l) ≡ then-test (region-test places n r (drop (r * record-size places) l)) (pairs-test places n (r + 1) (m - (r + 1)) (drop ((r + 1) * record-size places) l))
+  pub pairs-turn : (n : ℕ)
+      → pairs-test p n r (m - r) (from-region p l r)
+      ≡ then-test (region-test p n r (from-region p l r)) (pairs-test p n (r + 1) (m - (r + 1)) (from-region p l (r + 1)))
   unfolding pairs-test
   pairs-turn n =
-      ap (λ (k : ℕ). pairs-test places n r k (drop (r * record-size places) l)) count-down
-      ∙ ap (λ (x : List ℕ). then-test (region-test places n r (drop (r * record-size places) l)) (pairs-test places n (suc r) (m - (r + 1)) x)) next-record
-      ∙ ap (λ (k : ℕ). then-test (region-test places n r (drop (r * record-size places) l)) (pairs-test places n k (m - (r + 1)) (drop ((r + 1) * record-size places) l))) (sym (add-one r))
+      let now = region-test p n r (from-region p l r) in
+      ap (λ (k : ℕ). pairs-test p n r k (from-region p l r)) count-down
+      ∙ ap (λ (x : List ℕ). then-test now (pairs-test p n (suc r) (m - (r + 1)) x)) next-record
+      ∙ ap (λ (k : ℕ). then-test now (pairs-test p n k (m - (r + 1)) (from-region p l (r + 1)))) (sym (add-one r))
 
-pub pairs-end : (n m r : ℕ) (l : List ℕ) → m ≤ r → pairs-test places n r (m - r) l ≡ passed
+pub pairs-end : (p n m r : ℕ) (l : List ℕ) → m ≤ r → pairs-test p n r (m - r) l ≡ passed
 unfolding pairs-test
-pairs-end n m r l h = let e : m - r ≡ 0 = omega arith in ap (λ (k : ℕ). pairs-test places n r k l) e
+pairs-end p n m r l h = let e : m - r ≡ 0 = omega arith in ap (λ (k : ℕ). pairs-test p n r k l) e
 
 -- a pair's tests as one chain
 pub pair-chain : (n r j k : ℕ) (a b : List ℕ) → pair-test n r j k a b ≡ then-test (side-test n r j [] a) (then-test (side-test n r k [] b) (refuse-if (shared-edge a b) (refused 5 r j)))
@@ -190,6 +204,6 @@ unfolding pair-test
 pair-chain n r j k a b = then-test-assoc (side-test n r j [] a) (side-test n r k [] b) (refuse-if (shared-edge a b) (refused 5 r j))
 
 -- ---- the limits known, the pairs are left
-pub limits-known : (n : ℕ) (l : List ℕ) → is-passed (limits-test places n l) ≡ true → records-test places n l ≡ pairs-test places n 0 (region-count places l) l
+pub limits-known : (p n : ℕ) (l : List ℕ) → is-passed (limits-test p n l) ≡ true → records-test p n l ≡ pairs-test p n 0 (region-count p l) l
 unfolding records-test
-limits-known n l e = ap (λ (b : Bool). cond b (pairs-test places n 0 (region-count places l) l) (limits-test places n l)) e
+limits-known p n l e = ap (λ (b : Bool). cond b (pairs-test p n 0 (region-count p l) l) (limits-test p n l)) e

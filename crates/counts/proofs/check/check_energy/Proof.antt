@@ -50,7 +50,7 @@ enum-told-4 : tie.Need-enum-told-4
 enum-told-4 c = search needs
 
 check-values-requires : tie.Need-check-values-requires
-check-values-requires c κs = limits-passed (length (now (c .before .before .before .before .before .before .before .before .args .counts))) [] (was-passed (c .enum-told4 .given .1) (c .before .before .check-edges2 .ensures)) .0
+check-values-requires c κs = limits-passed places (length (now (c .before .before .before .before .before .before .before .before .args .counts))) [] (was-passed (c .enum-told4 .given .1) (c .before .before .check-edges2 .ensures)) .0
 
 returns-3 : tie.Need-returns-3
 unfolding energy-test

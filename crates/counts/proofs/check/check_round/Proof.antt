@@ -50,7 +50,7 @@ returns-3 c =
 check-values-requires : tie.Need-check-values-requires
 check-values-requires c κs =
     let s = c .before .before .before .before .before .before .before .before .before .before .before .args in
-    limits-passed (length (s .counts .now)) (s .regions .now) (was-passed (c .before .enum-told4 .given .1) (c .before .before .before .check-limits .ensures)) .0
+    limits-passed places (length (s .counts .now)) (s .regions .now) (was-passed (c .before .enum-told4 .given .1) (c .before .before .before .check-limits .ensures)) .0
 
 returns-4 : tie.Need-returns-4
 unfolding round-head round-order
@@ -70,7 +70,7 @@ returns-5 c =
     let w = pairs-test places (length (s .least .now)) 0 (region-count places (s .regions .now)) (s .regions .now) in
     let v = then-test (values-test (s .counts .now) (within (s .least .now) (s .most .now))) w in
     c .check-records .ensures
-    ∙ limits-known (length (s .least .now)) (s .regions .now) (limits-of-edges places (s .regions .now) (within (s .least .now) (s .most .now)) (was-passed (c .before .before .before .before .before .before .before .before .enum-told2 .given .1) (c .before .before .before .before .before .before .before .before .before .before .check-spacing-limits .ensures)))
+    ∙ limits-known places (length (s .least .now)) (s .regions .now) (limits-of-edges places (s .regions .now) (within (s .least .now) (s .most .now)) (was-passed (c .before .before .before .before .before .before .before .before .enum-told2 .given .1) (c .before .before .before .before .before .before .before .before .before .before .check-spacing-limits .ensures)))
     ∙ chain-goes-on (c .before .enum-told6 .given .1) (c .before .before .before .check-values .ensures)
     ∙ ap (λ (b : Bool). then-test (refuse-if b (refused 10 0 0)) v) (sym (le-ltb max-limit (s .limit) (c .before .before .before .before .if1 .left)))
     ∙ chain-goes-on (c .before .before .before .before .before .enum-told4 .given .1) (c .before .before .before .before .before .before .before .check-limits .ensures)

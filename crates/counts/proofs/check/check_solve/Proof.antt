@@ -56,7 +56,7 @@ check-ranges-requires : tie.Need-check-ranges-requires
 check-ranges-requires c κs =
     let s = c .before .before .before .before .before .before .before .before .args in
     let ranges = within (s .least .now) (s .most .now) in (
-      limits-passed (length (s .least .now)) (s .regions .now)
+      limits-passed places (length (s .least .now)) (s .regions .now)
           (limits-of-edges places (s .regions .now) ranges (was-passed (c .before .before .enum-told2 .given .1) (c .before .before .before .before .check-spacing-limits .ensures))) .0,
       omega (arith, c .before .if1 .left),
     )
@@ -83,7 +83,7 @@ returns-5 c =
     let v = then-test (ranges-test (s .least .now) (s .most .now)) w in
     let u = then-test (refuse-if (ltb (s .room) n) (refused 11 0 0)) v in
     c .check-records .ensures
-    ∙ limits-known n (s .regions .now) (limits-of-edges places (s .regions .now) (within (s .least .now) (s .most .now)) (was-passed (c .before .before .before .before .before .before .enum-told2 .given .1) (c .before .before .before .before .before .before .before .before .check-spacing-limits .ensures)))
+    ∙ limits-known places n (s .regions .now) (limits-of-edges places (s .regions .now) (within (s .least .now) (s .most .now)) (was-passed (c .before .before .before .before .before .before .enum-told2 .given .1) (c .before .before .before .before .before .before .before .before .check-spacing-limits .ensures)))
     ∙ chain-goes-on (c .before .enum-told4 .given .1) (c .before .before .before .check-ranges .ensures)
     ∙ ap (λ (b : Bool). then-test (refuse-if b (refused 11 0 0)) v) (sym (le-ltb (s .room) n (c .before .before .before .before .if2 .left)))
     ∙ ap (λ (b : Bool). then-test (refuse-if (not b) (refused 8 0 0)) u) (sym (eq-eqb n (length (s .most .now)) (c .before .before .before .before .before .if1 .left)))

@@ -2,8 +2,14 @@
 use mathlib.Core.Path.{_≡_, sym, ap, _∙_}
 use denote.Ref.{now}
 use mathlib.Core.Bool.{Bool, true, _&&_, and-true}
+use mathlib.Core.List.{List}
+use Prim.Native.Nat.{ℕ, _≤_, _<_}
+use native.Mathlib.Omega.{arith}
+use lib.ListN.{length}
+use lib.Dec.{T}
 use borrow.Author.Needs.{needs}
 use Rattle.regions.specs.Region.{Constraint, places, side, constraints}
+use Rattle.regions.specs.Accept.{sides-fit}
 use Rattle.counts.specs.Solver.{constraint-holds}
 use Rattle.regions.proofs.accept.Laws.{side-few}
 use Rattle.counts.proofs.SolverLaws.{side-short}
@@ -22,13 +28,21 @@ side-requires-3 c κs = search needs
 side-requires-4 : tie.Need-side-requires-4
 side-requires-4 c κs = search needs
 
+-- no side of the record is longer than its places
+fits : (l : List ℕ) → T (sides-fit places 1 l) → (k : ℕ) → k < 4 → length (side places l k) ≤ places
+fits l t k h = side-short places l k (side-few places 0 l t k h)
+
 constraint-holds-requires : tie.Need-constraint-holds-requires
 constraint-holds-requires c κs =
-    (simp (c .before .before .before .side .ensures) (side-short (now (c .before .before .before .before .before .before .args .records)) 0 (side-few (now (c .before .before .before .before .before .before .args .records)) (c .before .before .before .before .before .before .pre .1) .0)), simp (c .before .side3 .ensures) (side-short (now (c .before .before .before .before .before .before .args .records)) 2 (side-few (now (c .before .before .before .before .before .before .args .records)) (c .before .before .before .before .before .before .pre .1) .2)))
+    let s = c .before .before .before .before .before .before in
+    let fit = fits (now (s .args .records)) (s .pre .1) in
+    (simp (c .before .before .before .side .ensures) (fit 0 (omega arith)), simp (c .before .side3 .ensures) (fit 2 (omega arith)))
 
 constraint-holds-requires-2 : tie.Need-constraint-holds-requires-2
 constraint-holds-requires-2 c κs =
-    (simp (c .before .before .before .before .side2 .ensures) (side-short (now (c .before .before .before .before .before .before .before .before .args .records)) 1 (side-few (now (c .before .before .before .before .before .before .before .before .args .records)) (c .before .before .before .before .before .before .before .before .pre .1) .1)), simp (c .before .before .side4 .ensures) (side-short (now (c .before .before .before .before .before .before .before .before .args .records)) 3 (side-few (now (c .before .before .before .before .before .before .before .before .args .records)) (c .before .before .before .before .before .before .before .before .pre .1) .3)))
+    let s = c .before .before .before .before .before .before .before .before in
+    let fit = fits (now (s .args .records)) (s .pre .1) in
+    (simp (c .before .before .before .before .side2 .ensures) (fit 1 (omega arith)), simp (c .before .before .side4 .ensures) (fit 3 (omega arith)))
 
 returns : tie.Need-returns
 unfolding constraints

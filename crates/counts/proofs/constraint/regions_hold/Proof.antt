@@ -28,7 +28,7 @@ loop-holds c =
     let l = now (s .regions) in
     let m : ℕ = length l / record-size places in
     let e : m ≡ m - 0 = omega arith in
-    (omega arith, subst (λ (k : ℕ). T (sides-fit places k l)) e (whole-sides l (c .before .before .pre)), ap (λ (k : ℕ). all (constraint-holds (now (s .counts))) (constraints places k l)) e)
+    (omega arith, subst (λ (k : ℕ). T (sides-fit places k l)) e (whole-sides places l (c .before .before .pre)), ap (λ (k : ℕ). all (constraint-holds (now (s .counts))) (constraints places k l)) e)
 
 mul-at : tie.Need-mul-at Inv-loop μ-loop
 mul-at c = omega arith
@@ -52,7 +52,7 @@ region-holds-requires c κs =
     let xs = now (s .counts) in
     let m : ℕ = length l / record-size places in
     let r = c .before .before .loop .r in
-    simp (rest (r * record-size places) l) (simp length-drop (omega arith), sides-now m r l (c .before .loop-test .taken) (c .before .before .loop .inv .1))
+    simp (rest (r * record-size places) l) (simp length-drop (omega arith), sides-now places m r l (c .before .loop-test .taken) (c .before .before .loop .inv .1))
 
 returns : tie.Need-returns Inv-loop μ-loop
 returns c =
@@ -62,7 +62,7 @@ returns c =
     let m : ℕ = length l / record-size places in
     let r = c .before .before .before .before .loop .r in
     let p : c .before .region-holds .result ≡ all (constraint-holds xs) (constraints places 1 (drop (r * record-size places) l)) = simp (rest (r * record-size places) l) at (c .before .region-holds .ensures) in
-    sym (c .before .before .before .before .loop .inv .2 ∙ hold-turn (constraint-holds xs) m r l (c .before .before .before .loop-test .taken) ∙ ap (λ (b : Bool). b && all (constraint-holds xs) (constraints places (m - (r + 1)) (drop ((r + 1) * record-size places) l))) (sym p ∙ not-true (c .before .region-holds .result) (c .if1 .taken)))
+    sym (c .before .before .before .before .loop .inv .2 ∙ hold-turn places (constraint-holds xs) m r l (c .before .before .before .loop-test .taken) ∙ ap (λ (b : Bool). b && all (constraint-holds xs) (constraints places (m - (r + 1)) (drop ((r + 1) * record-size places) l))) (sym p ∙ not-true (c .before .region-holds .result) (c .if1 .taken)))
 
 add-r : tie.Need-add-r Inv-loop μ-loop
 add-r c = omega arith
@@ -78,7 +78,7 @@ loop-again c =
     let m : ℕ = length l / record-size places in
     let r = c .before .before .before .before .loop .r in
     let p : c .before .region-holds .result ≡ all (constraint-holds xs) (constraints places 1 (drop (r * record-size places) l)) = simp (rest (r * record-size places) l) at (c .before .region-holds .ensures) in
-    (omega arith, sides-after m r l (c .before .before .before .loop-test .taken) (c .before .before .before .before .loop .inv .1), c .before .before .before .before .loop .inv .2 ∙ hold-turn (constraint-holds xs) m r l (c .before .before .before .loop-test .taken) ∙ ap (λ (b : Bool). b && all (constraint-holds xs) (constraints places (m - (r + 1)) (drop ((r + 1) * record-size places) l))) (sym p ∙ not-false (c .before .region-holds .result) (c .if1 .left)))
+    (omega arith, sides-after places m r l (c .before .before .before .loop-test .taken) (c .before .before .before .before .loop .inv .1), c .before .before .before .before .loop .inv .2 ∙ hold-turn places (constraint-holds xs) m r l (c .before .before .before .loop-test .taken) ∙ ap (λ (b : Bool). b && all (constraint-holds xs) (constraints places (m - (r + 1)) (drop ((r + 1) * record-size places) l))) (sym p ∙ not-false (c .before .region-holds .result) (c .if1 .left)))
 
 returns-2 : tie.Need-returns-2 Inv-loop μ-loop
 returns-2 c =
@@ -87,7 +87,7 @@ returns-2 c =
     let xs = now (s .counts) in
     let m : ℕ = length l / record-size places in
     let r = c .before .loop .r in
-    sym (c .before .loop .inv .2 ∙ hold-end (constraint-holds xs) m r (drop (r * record-size places) l) (c .loop-test .left))
+    sym (c .before .loop .inv .2 ∙ hold-end places (constraint-holds xs) m r (drop (r * record-size places) l) (c .loop-test .left))
 
 pub regions-hold-spec : {M : Type 1} → statement M
 regions-hold-spec =

@@ -27,13 +27,13 @@ loop-holds c =
     let l = now (a .regions) in
     let m : ℕ = length l / record-size places in
     let e : m ≡ m - 0 = omega arith in
-    (omega arith, subst (λ (k : ℕ). T (sides-fit places k l)) e (whole-sides l (c .before .pre)), ap (λ (k : ℕ). pairs-test places (a .n) 0 k l) e)
+    (omega arith, subst (λ (k : ℕ). T (sides-fit places k l)) e (whole-sides places l (c .before .pre)), ap (λ (k : ℕ). pairs-test places (a .n) 0 k l) e)
 
 mul-at : tie.Need-mul-at Inv-loop μ-loop
 mul-at c = omega arith
 
 cast-region : tie.Need-cast-region Inv-loop μ-loop
-cast-region c = omega (arith, whole-few _ (c .before .before .before .pre))
+cast-region c = omega (arith, whole-few places _ (c .before .before .before .pre))
 
 mul-check-region : tie.Need-mul-check-region Inv-loop μ-loop
 mul-check-region c = omega arith
@@ -53,7 +53,7 @@ check-region-requires c κs =
     let l = now (a .regions) in
     let m : ℕ = length l / record-size places in
     let r = c .before .before .loop .r in
-    simp (rest (r * record-size places) l) (simp length-drop (omega arith), sides-now m r l (c .before .loop-test .taken) (c .before .before .loop .inv .1))
+    simp (rest (r * record-size places) l) (simp length-drop (omega arith), sides-now places m r l (c .before .loop-test .taken) (c .before .before .loop .inv .1))
 
 enum-told : tie.Need-enum-told Inv-loop μ-loop
 enum-told c = search needs
@@ -68,7 +68,7 @@ returns c =
     let v = region-test places (a .n) r (drop (r * record-size places) l) in
     let w = pairs-test places (a .n) (r + 1) (m - (r + 1)) (drop ((r + 1) * record-size places) l) in
     chain-ends w (c .enum-told .given .1) p
-    ∙ sym (c .before .before .before .before .before .loop .inv .2 ∙ pairs-turn m r l (c .before .before .before .before .loop-test .taken) (a .n))
+    ∙ sym (c .before .before .before .before .before .loop .inv .2 ∙ pairs-turn places m r l (c .before .before .before .before .loop-test .taken) (a .n))
 
 enum-told-2 : tie.Need-enum-told-2 Inv-loop μ-loop
 enum-told-2 c = search needs
@@ -88,7 +88,7 @@ loop-again c =
     let p : outcome (c .before .before .check-region .result) ≡ region-test places (a .n) r (drop (r * record-size places) l) = simp (rest (r * record-size places) l) at (c .before .before .check-region .ensures) in
     let v = region-test places (a .n) r (drop (r * record-size places) l) in
     let w = pairs-test places (a .n) (r + 1) (m - (r + 1)) (drop ((r + 1) * record-size places) l) in
-    (omega arith, sides-after m r l (c .before .before .before .before .loop-test .taken) (c .before .before .before .before .before .loop .inv .1), c .before .before .before .before .before .loop .inv .2 ∙ pairs-turn m r l (c .before .before .before .before .loop-test .taken) (a .n) ∙ sym (chain-goes-on (c .enum-told2 .given .1) p))
+    (omega arith, sides-after places m r l (c .before .before .before .before .loop-test .taken) (c .before .before .before .before .before .loop .inv .1), c .before .before .before .before .before .loop .inv .2 ∙ pairs-turn places m r l (c .before .before .before .before .loop-test .taken) (a .n) ∙ sym (chain-goes-on (c .enum-told2 .given .1) p))
 
 returns-2 : tie.Need-returns-2 Inv-loop μ-loop
 unfolding outcome
@@ -97,7 +97,7 @@ returns-2 c =
     let l = now (a .regions) in
     let m : ℕ = length l / record-size places in
     let r = c .before .loop .r in
-    sym (c .before .loop .inv .2 ∙ pairs-end (a .n) m r (drop (r * record-size places) l) (c .loop-test .left))
+    sym (c .before .loop .inv .2 ∙ pairs-end places (a .n) m r (drop (r * record-size places) l) (c .loop-test .left))
 
 pub check-pairs-spec : {M : Type 1} → statement M
 check-pairs-spec =

@@ -18,7 +18,7 @@ returns c =
 check-pairs-requires : tie.Need-check-pairs-requires
 check-pairs-requires c κs =
     let s = c .before .before .before .before .args in
-    limits-passed (s .n) (s .regions .now) (was-passed (c .enum-told2 .given .1) (c .before .before .check-limits .ensures)) .1
+    limits-passed places (s .n) (s .regions .now) (was-passed (c .enum-told2 .given .1) (c .before .before .check-limits .ensures)) .1
 
 returns-2 : tie.Need-returns-2
 unfolding records-test

@@ -1,19 +1,20 @@
 -- `regions::accept::sides_fit` meets its contract. The loop goes side by side, so the definition is first put that way.
 -- Its invariant: whole sides are left, and they fit just if all do. Assumes nothing.
 use mathlib.Core.Path.{_≡_, sym, ap, _∙_}
-use Prim.Native.Nat.{ℕ, _-_, _*_, _/_, _%_}
+use mathlib.Core.List.{List}
+use Prim.Native.Nat.{ℕ, suc, _+_, _-_, _*_, _/_, _%_, _<_}
 use native.Mathlib.Omega.{arith}
 use denote.Ref.{now}
 use borrow.Author.Tests.{le-leb, lt-leb}
 use lib.ListN.{length, getD, drop}
 use Rattle.regions.specs.Accept.{sides-fit}
 use Rattle.regions.specs.Region.{places, region-count, side-size, record-size}
-use Rattle.regions.proofs.accept.Laws.{each-fits, sides-one-by-one, fits-next, fits-not, fits-end}
+use Rattle.regions.proofs.accept.Laws.{each-fits, sides-one-by-one, fits-next, fits-not}
 use Rattle.regions.proofs.accept.sides_fit.Statement.{statement}
 use Rattle.regions.proofs.accept.sides_fit.Tie as tie
 
 abbrev Inv-loop : tie.InvT-loop
-Inv-loop regions at₀ at = ((length regions - at) % side-size places ≡ 0) × (sides-fit places (region-count places regions) regions ≡ each-fits ((length regions - at) / side-size places) (drop at regions))
+Inv-loop regions at₀ at = ((length regions - at) % side-size places ≡ 0) × (sides-fit places (region-count places regions) regions ≡ each-fits places ((length regions - at) / side-size places) (drop at regions))
 
 abbrev μ-loop : tie.MeasureT-loop
 μ-loop regions at₀ at = length regions - at
@@ -22,7 +23,14 @@ loop-holds : tie.Need-loop-holds Inv-loop μ-loop
 loop-holds c =
     let l = now (c .args .regions) in
     let e : length l / record-size places * 4 ≡ (length l - 0) / side-size places = omega arith in
-    (omega arith, sides-one-by-one (length l / record-size places) l ∙ ap (λ (k : ℕ). each-fits k l) e)
+    (omega arith, sides-one-by-one places (length l / record-size places) l ∙ ap (λ (k : ℕ). each-fits places k l) e)
+
+-- how many sides stand behind the one at `at`
+abbrev left : List ℕ → ℕ → ℕ
+left l at = (length l - (at + side-size places)) / side-size places
+
+one-more : (l : List ℕ) (at : ℕ) → at < length l → (length l - at) % side-size places ≡ 0 → (length l - at) / side-size places ≡ suc (left l at)
+one-more l at h w = omega arith
 
 mul-if1 : tie.Need-mul-if1 Inv-loop μ-loop
 mul-if1 c = omega arith
@@ -34,7 +42,10 @@ returns : tie.Need-returns Inv-loop μ-loop
 returns c =
     let l = now (c .before .before .before .before .args .regions) in
     let at = c .before .before .before .loop .at in
-    sym (c .before .before .before .loop .inv .1 ∙ fits-not l at (c .before .before .loop-test .taken) (c .before .before .before .loop .inv .0) (lt-leb (getD l at 0) places (c .if1 .taken)))
+    sym
+    (c .before .before .before .loop .inv .1
+    ∙ ap (λ (k : ℕ). each-fits places k (drop at l)) (one-more l at (c .before .before .loop-test .taken) (c .before .before .before .loop .inv .0))
+    ∙ fits-not places (left l at) l at (lt-leb (getD l at 0) places (c .if1 .taken)))
 
 add-at : tie.Need-add-at Inv-loop μ-loop
 add-at c = omega arith
@@ -46,12 +57,19 @@ loop-again : tie.Need-loop-again Inv-loop μ-loop
 loop-again c =
     let l = now (c .before .before .before .before .args .regions) in
     let at = c .before .before .before .loop .at in
-    (omega arith, c .before .before .before .loop .inv .1 ∙ fits-next l at (c .before .before .loop-test .taken) (c .before .before .before .loop .inv .0) (le-leb (getD l at 0) places (c .if1 .left)))
+    let e = one-more l at (c .before .before .loop-test .taken) (c .before .before .before .loop .inv .0) in (
+      omega arith,
+      c .before .before .before .loop .inv .1
+          ∙ ap (λ (k : ℕ). each-fits places k (drop at l)) e
+          ∙ fits-next places (left l at) l at (le-leb (getD l at 0) places (c .if1 .left)),
+    )
 
 returns-2 : tie.Need-returns-2 Inv-loop μ-loop
 returns-2 c =
     let l = now (c .before .before .args .regions) in
-    sym (c .before .loop .inv .1 ∙ fits-end l (c .before .loop .at) (c .loop-test .left))
+    let at = c .before .loop .at in
+    let e : (length l - at) / side-size places ≡ 0 = omega arith in
+    sym (c .before .loop .inv .1 ∙ ap (λ (k : ℕ). each-fits places k (drop at l)) e)
 
 pub sides-fit-spec : {M : Type 1} → statement M
 sides-fit-spec =
