@@ -1,5 +1,5 @@
-/* Calls the library from C: cases of the bench table, counts within ranges, a grid, a lay, a mesh, refusals, and the borders that the
- * header guards. What it prints is compared with the file `expected`. */
+/* Calls the library from C: cases of the bench table, counts within ranges, a full side, records of before, a grid, a lay, a mesh, refusals,
+ * and the borders that the header guards. What it prints is compared with the file `expected`. */
 #include "../include/juplatsk.h"
 
 #include <math.h>
@@ -102,6 +102,45 @@ static void ranges(void)
     tell_counts(counts, 5);
 }
 
+/* As many edges along the bottom as a side has places, opposite one edge that is to have as many pieces as all of them. */
+static void full_side(void)
+{
+    uint16_t region[JP_RECORD] = {0};
+    uint16_t edges[JP_PLACES];
+    double wanted[JP_PLACES + 1];
+    uint32_t counts[JP_PLACES + 1];
+    uint32_t answer[3];
+    size_t i;
+    for (i = 0; i < JP_PLACES; i++) {
+        edges[i] = (uint16_t)i;
+        wanted[i] = 1;
+    }
+    wanted[JP_PLACES] = JP_PLACES;
+    jp_set_side(region, 0, edges, JP_PLACES);
+    one_edge(region, 2, JP_PLACES);
+    tell("a full side", jp_solve_counts(region, JP_RECORD, wanted, JP_PLACES + 1, counts, JP_PLACES + 1, answer), answer, 3);
+    tell_counts(counts, JP_PLACES + 1);
+    tell("hold", jp_constraints_hold(region, JP_RECORD, counts, JP_PLACES + 1, answer), answer, 3);
+}
+
+/* Records of version 0.2.0, with 16 places on a side: ([0], [], [1], []), and 32 without an edge. One of them is no whole record. All 33 are as
+ * long as 17 new ones, and read so the first has nothing opposite edge 0: only the version keeps such a list away. */
+static void records_of_before(void)
+{
+    enum { OLD_SIDE = 1 + 16, OLD_RECORD = JP_SIDES * OLD_SIDE };
+    static const double wanted[2] = {3, 3};
+    uint16_t old[33 * OLD_RECORD] = {0};
+    uint32_t counts[2] = {9, 9};
+    uint32_t answer[3];
+    old[0] = 1;
+    old[2 * OLD_SIDE] = 1;
+    old[2 * OLD_SIDE + 1] = 1;
+    tell("one record of before", jp_solve_counts(old, OLD_RECORD, wanted, 2, counts, 2, answer), answer, 3);
+    tell_counts(counts, 2);
+    tell("33 records of before", jp_solve_counts(old, LENGTH(old), wanted, 2, counts, 2, answer), answer, 3);
+    tell_counts(counts, 2);
+}
+
 static const double bottom[4] = {0, 0, 1, 0};
 static const double right[4] = {1, 0, 1, 1};
 static const double top[4] = {1, 1, 0, 1};
@@ -148,7 +187,7 @@ static void refusals(void)
     double root[1];
     double bad[7];
     farm(regions);
-    tell("cut record", jp_solve_counts(regions, 67, ideals, 7, counts, 7, answer), answer, 3);
+    tell("cut record", jp_solve_counts(regions, JP_RECORD - 1, ideals, 7, counts, 7, answer), answer, 3);
     tell("edge 6 without an ideal", jp_solve_counts(regions, LENGTH(regions), ideals, 6, counts, 7, answer), answer, 3);
     memcpy(bad, ideals, sizeof bad);
     bad[3] = NAN;
@@ -160,7 +199,7 @@ static void refusals(void)
     printf(" %.17g\n", root[0]);
     printf("root of -1: %u,", jp_root(-1, root));
     printf(" %g\n", root[0]);
-    printf("17 edges: %u\n", jp_set_side(regions, 0, regions + JP_RECORD, 17));
+    printf("%d edges: %u\n", JP_PLACES + 1, jp_set_side(regions, 0, regions + JP_RECORD, JP_PLACES + 1));
     printf("side 4: %u\n", jp_set_side(regions, 4, NULL, 0));
     printf("version fits: %d\n", jp_version_fits());
     printf("%u: %s\n", jp_root(-1, root), jp_refusal_text(JP_ROOT_UNDEFINED));
@@ -181,7 +220,7 @@ static void borders(void)
     memset(&shared, 0, sizeof shared);
     tell("D: no regions, no ideals, no counts", jp_solve_counts(NULL, 0, NULL, 0, NULL, 0, answer), answer, 3);
     answer[0] = answer[1] = answer[2] = 5;
-    tell("NULL with a length", jp_solve_counts(NULL, 68, ideals, 7, counts, 7, answer), answer, 3);
+    tell("NULL with a length", jp_solve_counts(NULL, JP_RECORD, ideals, 7, counts, 7, answer), answer, 3);
     tell("NULL ideals", jp_solve_counts(NULL, 0, NULL, 7, counts, 7, answer), answer, 3);
     tell("NULL most", jp_solve_counts_within(NULL, 0, ideals, 7, NULL, 7, counts, 7, answer), answer, 3);
     tell("NULL counts", jp_solve_counts(NULL, 0, ideals, 7, NULL, 7, answer), answer, 3);
@@ -208,6 +247,8 @@ int main(void)
 {
     solver();
     ranges();
+    full_side();
+    records_of_before();
     grids();
     refusals();
     borders();

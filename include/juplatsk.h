@@ -32,9 +32,10 @@
  *
  * Regions
  * -------
- * A region is a record of 68 numbers: for each side (bottom 0, right 1, top 2, left 3) how many edges it has, at most 16, and then
- * 16 places for the numbers of the edges; places past that number are not read. A list of regions has whole records, at most 128.
- * There are at most 256 edges. jp_set_side fills in a side.
+ * A region is a record of JP_RECORD numbers, 132: for each side (bottom 0, right 1, top 2, left 3) how many edges it has, at most
+ * JP_PLACES, 32, and then so many places for the numbers of the edges; places past the number of edges are not read. A list of regions
+ * has whole records, at most 128. There are at most 256 edges. jp_set_side fills in a side. Up to version 0.2.0 a side had 16 places and a
+ * record 68 numbers: whoever lays out records without these names has to change that by hand (CHANGELOG.md).
  *
  * Ideals and ranges
  * -----------------
@@ -122,12 +123,17 @@ enum {
     JP_BAD_VERSION = 101
 };
 
-enum { JP_SIDES = 4, JP_PLACES = 16, JP_RECORD = JP_SIDES * (JP_PLACES + 1) };
+/* How many edges fit on a side; a macro, so that #if can look at it and texts can be made of it. */
+#define JP_PLACES 32
+#define JP_TEXT_OF(x) #x
+#define JP_TEXT(x) JP_TEXT_OF(x)
+
+enum { JP_SIDES = 4, JP_RECORD = JP_SIDES * (JP_PLACES + 1) };
 
 /* The version of this header, as one number JP_VERSION. A new major or minor may read lists, records or answers in another way, and is not
  * called by a header of another one; a new patch reads them as before. */
 #define JP_VERSION_MAJOR 0
-#define JP_VERSION_MINOR 2
+#define JP_VERSION_MINOR 3
 #define JP_VERSION_PATCH 0
 #define JP_VERSION (10000 * JP_VERSION_MAJOR + 100 * JP_VERSION_MINOR + JP_VERSION_PATCH)
 
@@ -194,10 +200,10 @@ static inline const char *jp_refusal_text(uint32_t number)
     case JP_ACCEPTED:
         return "accepted";
     case JP_MALFORMED:
-        return "a limit is exceeded or a list is broken; give at most 128 regions, 16 edges on a side, 256 ideals, leasts, mosts or "
-               "counts, 1,024 points in a curve, 4,096 in a loop, 1,025 values in a seam, 1,024 for n_u, n_v and the sum of a side's "
-               "counts in lay, whole records of 68 numbers (lay takes one), an even number of values in curves and loops, and a side "
-               "from 0 to 3 in jp_set_side";
+        return "a limit is exceeded or a list is broken; give at most 128 regions, " JP_TEXT(JP_PLACES) " edges on a side, 256 ideals, "
+               "leasts, mosts or counts, 1,024 points in a curve, 4,096 in a loop, 1,025 values in a seam, 1,024 for n_u, n_v and the sum "
+               "of a side's counts in lay, whole records of 4 * (1 + " JP_TEXT(JP_PLACES) ") numbers (lay takes one), an even number of "
+               "values in curves and loops, and a side from 0 to 3 in jp_set_side";
     case JP_BAD_IDEAL:
         return "the ideal of edge `first`, or an end of its range, is not finite or not above 0; give finite numbers above 0";
     case JP_EDGE_OUT_OF_RANGE:
@@ -371,11 +377,11 @@ static inline double *jp_f64_out(double *p)
 
 /* ---- regions */
 
-/* Fills in a side of a record of 68 numbers; the places past the edges stay as they were. It calls nothing of the archive.
- * Reads   edges, at most 16.
+/* Fills in a side of a record; the places past the edges stay as they were. It calls nothing of the archive.
+ * Reads   edges, at most JP_PLACES.
  * Writes  record.
  * Refuses JP_BAD_BUFFER, as all others do: the list of edges may not overlap the record; then JP_MALFORMED for a side above 3 or more
- *         than 16 edges. The record is then as it was. */
+ *         than JP_PLACES edges. The record is then as it was. */
 static inline uint32_t jp_set_side(uint16_t record[JP_RECORD], unsigned side, const uint16_t *edges, size_t edges_len)
 {
     const jp_buffer lent[] = {JP_ARRAY(record, JP_RECORD), JP_READ(edges)};

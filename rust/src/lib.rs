@@ -31,7 +31,7 @@
 //! | `constraints_hold(..)` is a `bool` | it is a `Result`: there are limits; `constraints_hold(..) == Ok(true)` |
 //! | `coons(..)` hides errors | `coons_checked(..).unwrap_or_default()` |
 //! | `mesh.cells[i].nodes` is a `Vec`, beside a `kind` | an array of four, all cells are quads |
-//! | no limits | at most 128 regions, 16 edges a side, 256 edges; counts up to 1,000,000 in a round and in `energy`; curves of 1,024 points, loops of 4,096, seams of 1,025 values, 1,024 cells along a side |
+//! | no limits | at most 128 regions, 32 edges a side, 256 edges; counts up to 1,000,000 in a round and in `energy`; curves of 1,024 points, loops of 4,096, seams of 1,025 values, 1,024 cells along a side |
 //! | | new: [`round`], [`solve`] (with the number of moves), [`lay_region`], [`root`] |
 //! | | new: a range for each edge, as `2.0..=5.0`, in place of an ideal count: [`solve_counts_within`], [`solve_within`], [`round_within`] |
 //!

@@ -8,7 +8,7 @@ use crate::solver::Region;
 use std::fmt;
 
 /// How many edges a side may have.
-pub(crate) const PLACES: usize = 16;
+pub(crate) const PLACES: usize = 32;
 const MAX_REGIONS: usize = 128;
 const MAX_EDGES: usize = 256;
 const MAX_POINTS: usize = 1024;
@@ -37,7 +37,7 @@ pub enum Limited {
     Regions,
     /// Ideals, ranges or counts: one for each edge, 256.
     Edges,
-    /// Edges on a side of a region, 16; lay has one region, number 0.
+    /// Edges on a side of a region, 32; lay has one region, number 0.
     EdgesOnSide {
         /// The region.
         region: u32,

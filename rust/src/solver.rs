@@ -8,7 +8,7 @@ use std::ops::RangeInclusive;
 /// One tile: its four sides counter-clockwise (bottom, right, top, left), each a list of edge numbers.
 ///
 /// Sides 0 and 2 list their edges from left to right, sides 1 and 3 from bottom to top. Opposite sides must come to equally many
-/// pieces. A side may be empty. It has at most 16 edges; there are at most 128 regions and 256 edges.
+/// pieces. A side may be empty. It has at most 32 edges; there are at most 128 regions and 256 edges.
 #[derive(Clone, Debug, Default, PartialEq, Eq)]
 pub struct Region {
     /// Side `i` is the list of the numbers of its edges.
@@ -24,7 +24,7 @@ impl Region {
         Region { sides }
     }
 
-    /// The record of 68 numbers that the library reads. A side with more than 16 edges makes a broken record. An edge that does not fit
+    /// The record that the library reads. A side with more edges than it has places makes a broken record. An edge that does not fit
     /// into 16 bits becomes one that is out of range too.
     fn put_record(&self, record: &mut [u16]) {
         for (side, slots) in self.sides.iter().zip(record.chunks_exact_mut(PLACES + 1)) {

@@ -53,7 +53,7 @@ fn bench_table() {
 fn solver_refuses() {
     assert_eq!(refusal(solve_counts(&[], &[1.0; 257])), (1, 0, 0));
     assert_eq!(refusal(solve_counts(&vec![Region::default(); 129], &[])), (1, 0, 0));
-    assert_eq!(refusal(solve_counts(&[region([&[0; 17], &[], &[], &[]])], &[1.0])), (1, 0, 0));
+    assert_eq!(refusal(solve_counts(&[region([&[0; 33], &[], &[], &[]])], &[1.0])), (1, 0, 0));
     assert_eq!(refusal(solve_counts(&[tile()], &[1.0, 1.0, f64::NAN, 1.0])), (2, 2, 0));
     assert_eq!(refusal(solve_counts(&[tile()], &[1.0; 3])), (3, 0, 3));
     assert_eq!(refusal(solve_counts(&[tile(), region([&[], &[1, 1], &[], &[]])], &[1.0; 4])), (4, 1, 1));
@@ -74,7 +74,7 @@ fn ranges_refuse() {
     let ones = |n| vec![one(); n];
     assert_eq!(refusal(solve_counts_within(&[], &ones(257))), (1, 0, 0));
     assert_eq!(refusal(solve_counts_within(&vec![Region::default(); 129], &[])), (1, 0, 0));
-    assert_eq!(refusal(solve_counts_within(&[region([&[0; 17], &[], &[], &[]])], &ones(1))), (1, 0, 0));
+    assert_eq!(refusal(solve_counts_within(&[region([&[0; 33], &[], &[], &[]])], &ones(1))), (1, 0, 0));
     for bad in [broken(), 1.0..=f64::INFINITY, 0.0..=1.0, -1.0..=1.0, 1.0..=-1.0, 1.0..=-0.0] {
         assert_eq!(refusal(solve_counts_within(&[], &[one(), bad.clone(), broken()])), (2, 1, 0), "{bad:?}");
     }
@@ -133,6 +133,42 @@ fn ranges() {
         let wide: Vec<_> = ideals.iter().map(|&x| x..=2.0 * x).collect();
         assert_eq!(constraints_hold(&two, &solve_counts_within(&two, &wide).unwrap()), Ok(true));
     }
+}
+
+/// A side is read to its last place, and one edge more is refused: in a solve, a round of either kind, `constraints_hold` and lay.
+#[test]
+fn full_sides() {
+    for edges in [16, 17, 31, 32] {
+        let tile = Region::new([(0..edges).collect(), vec![edges + 1], vec![edges], vec![edges + 2]]);
+        let tiles = [tile.clone()];
+        let ideals: Vec<f64> = (0..edges + 3).map(|edge| if edge == edges { edges as f64 } else { 1.0 }).collect();
+        let counts: Vec<usize> = (0..edges + 3).map(|edge| if edge == edges { edges } else { 1 }).collect();
+        assert_eq!(solve_counts(&tiles, &ideals), Ok(counts.clone()));
+        let breaks: Vec<f64> = (0..=edges).map(|k| k as f64 / edges as f64).collect();
+        let lay = |counts: &[usize]| lay_region(&tile, counts, [&breaks, &[0.0, 1.0], &[0.0, 1.0], &[0.0, 1.0]], &square());
+        assert_eq!(lay(&counts).map(|quads| quads.len()), Ok(edges));
+        // The last edge of the side has a piece too many.
+        let mut uneven = counts.clone();
+        uneven[edges - 1] += 1;
+        assert_eq!(constraints_hold(&tiles, &uneven), Ok(false));
+        assert_eq!(refusal(lay(&uneven)), (22, 0, 0));
+        // The last edge and the one opposite have too few.
+        let mut low = counts.clone();
+        low[edges - 1] -= 1;
+        low[edges] -= 1;
+        assert_eq!(constraints_hold(&tiles, &low), Ok(true));
+        let (mut by, mut within) = (low.clone(), low);
+        let ranges: Vec<_> = ideals.iter().map(|&x| x..=x).collect();
+        assert!(round(&tiles, &ideals, &mut by, 100_000).unwrap().cost.is_some());
+        assert!(round_within(&tiles, &ranges, &mut within, 100_000).unwrap().cost.is_some());
+        assert_eq!((&by, &within), (&counts, &counts));
+    }
+    let long = region([&[0; 33], &[], &[], &[]]);
+    let mut count = [0];
+    assert_eq!(refusal(round(&[long.clone()], &[1.0], &mut count, 1)), (1, 0, 0));
+    assert_eq!(refusal(round_within(&[long.clone()], &[1.0..=1.0], &mut count, 1)), (1, 0, 0));
+    assert_eq!(refusal(constraints_hold(&[long.clone()], &count)), (1, 0, 0));
+    assert_eq!(refusal(lay_region(&long, &count, [&[0.0, 1.0]; 4], &square())), (1, 0, 0));
 }
 
 #[test]

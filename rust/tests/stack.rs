@@ -40,9 +40,9 @@ fn geometry() {
         let slanted: Vec<f64> = even.iter().map(|t| t * (0.9 + 0.1 * t)).collect();
         assert_eq!(coons_from_parameters(&square(), &even, &slanted, &even, &slanted).unwrap().len(), 1024 * 1024);
         assert_eq!(mesh_tile_curves(&square(), 1024, 1024).unwrap().cells.len(), 1024 * 1024);
-        let tile = Region::new([0, 16, 32, 48].map(|first| (first..first + 16).collect()));
-        let breaks: Vec<f64> = (0..=16).map(|k| f64::from(k) / 16.0).collect();
-        assert_eq!(lay_region(&tile, &[64; 64], [&breaks; 4], &square()).unwrap().len(), 1024 * 1024);
+        let tile = Region::new([0, 32, 64, 96].map(|first| (first..first + 32).collect()));
+        let breaks: Vec<f64> = (0..=32).map(|k| f64::from(k) / 32.0).collect();
+        assert_eq!(lay_region(&tile, &[32; 128], [&breaks; 4], &square()).unwrap().len(), 1024 * 1024);
         let curves = square();
         let mut boundary = [curves.bottom, curves.right, curves.top, curves.left].concat();
         // not just where the loop began, so that it stays

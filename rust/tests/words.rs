@@ -44,13 +44,13 @@ fn sentences() {
 
 #[test]
 fn limits_of_the_solver() {
-    let long = Region::new([vec![], vec![], (0..17).collect(), vec![]]);
+    let long = Region::new([vec![], vec![], (0..33).collect(), vec![]]);
     assert_eq!(limit(solve_counts(&vec![Region::default(); 129], &[])), (Limited::Regions, 129, 128));
     assert_eq!(limit(solve(&[], &[1.0; 257])), (Limited::Edges, 257, 256));
     assert_eq!(limit(solve_within(&[], &vec![1.0..=2.0; 257])), (Limited::Edges, 257, 256));
-    assert_eq!(limit(solve_counts(&[tile(), long.clone()], &[1.0; 17])), (Limited::EdgesOnSide { region: 1, side: 2 }, 17, 16));
+    assert_eq!(limit(solve_counts(&[tile(), long.clone()], &[1.0; 33])), (Limited::EdgesOnSide { region: 1, side: 2 }, 33, 32));
     assert_eq!(limit(round(&[], &[1.0], &mut [0; 300], 1)), (Limited::Edges, 300, 256));
-    assert_eq!(limit(round_within(&[long], &[1.0..=2.0], &mut [0], 1)), (Limited::EdgesOnSide { region: 0, side: 2 }, 17, 16));
+    assert_eq!(limit(round_within(&[long], &[1.0..=2.0], &mut [0], 1)), (Limited::EdgesOnSide { region: 0, side: 2 }, 33, 32));
     assert_eq!(limit(energy(&[0; 258], &[1.0])), (Limited::Edges, 258, 256));
     assert_eq!(limit(constraints_hold(&[], &[0; 257])), (Limited::Edges, 257, 256));
     assert_eq!(limit(constraints_hold(&[], &[0, 1 << 32])), (Limited::Count { edge: 1 }, 1 << 32, (1 << 32) - 1));

@@ -2,7 +2,7 @@
 // major or minor: these may read lists, records or answers in another way, a patch reads them as before. Minor and patch stay below 100.
 const MAJOR: u32 = 0;
 
-const MINOR: u32 = 2;
+const MINOR: u32 = 3;
 
 const PATCH: u32 = 0;
 

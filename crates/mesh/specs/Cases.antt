@@ -206,8 +206,36 @@ abbrev pub case-reversed : Case
 case-reversed =
     solved [] (from-to (1 ∷ 3 ∷ 3 ∷ []) (1 ∷ 2 ∷ 2 ∷ [])) (lent-counts 3) (record { verdict = refused 35 1 0; moves = 0; counts = lent-counts 3 })
 
+-- ---- 02, "Longer hedges": "A side now has 32 places, so a region record is 132 numbers of 16 bits"
+
+-- the edges 0 to 31 along the bottom, 32 opposite them
+abbrev pub long-hedge : List ℕ
+long-hedge = region (tabulate (λ (edge : ℕ). edge) 0 32) [] (alone 32) []
+
+-- -(1 + 2^-10)
+abbrev pub last-cost : Float
+last-cost = ofBits binary64 0xbff0_0400_0000_0000
+
+-- the last place is read as the others are: only edge 31 has a piece too few, and gets it with the edge opposite; two entries a search are enough for that
+abbrev pub case-last-place : Case
+case-last-place =
+    moved long-hedge (by (reals (replicate 32 1 ++ 32 ∷ []))) (replicate 31 1 ++ 0 ∷ 31 ∷ []) 2
+    (record { verdict = passed; move = made last-cost; cut = true; counts = replicate 32 1 ++ 32 ∷ [] })
+
+-- "broken": a round on regions that are not let by
+abbrev pub turned-away : List ℕ → Case
+turned-away regions = moved regions (by (real 1 ∷ [])) (0 ∷ []) 1 (record { verdict = refused 1 0 0; move = none; cut = false; counts = 0 ∷ [] })
+
+abbrev pub case-side-of-33 : Case
+case-side-of-33 = turned-away (33 ∷ replicate 131 0)
+
+-- a record of 01, with 16 places on a side
+abbrev pub case-record-of-68 : Case
+case-record-of-68 = turned-away (replicate 68 0)
+
 abbrev pub bench : List Case
 bench =
     case-A ∷ case-B ∷ case-C ∷ case-D ∷ case-E ∷ case-F ∷ case-G
     ∷ case-H ∷ areas-H ∷ case-I ∷ case-J ∷ case-K-turned-back ∷ case-K-made ∷ case-L
-    ∷ case-least-met ∷ case-ranges-meet ∷ case-inside ∷ case-reversed ∷ []
+    ∷ case-least-met ∷ case-ranges-meet ∷ case-inside ∷ case-reversed
+    ∷ case-last-place ∷ case-side-of-33 ∷ case-record-of-68 ∷ []

@@ -18,7 +18,7 @@ max-regions = 128
 abbrev pub max-edges : ℕ
 max-edges = 256
 
--- "A number above 16 (..) is broken": of the first m records none
+-- "A number above" that of the places "(..) is broken": of the first m records none
 unfoldable pub sides-fit : ℕ → ℕ → List ℕ → Bool
 sides-fit p zero regions = true
 sides-fit p (suc m) regions =

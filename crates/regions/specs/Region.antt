@@ -1,15 +1,16 @@
--- 01, "Regions": region records and the constraints that they give. A side has p places: 16 in 01. Assumes nothing.
+-- 01, "Regions", with the places of 02's item 9: region records and the constraints that they give. All but `places` is said of any number p
+-- of places. Assumes nothing.
 use mathlib.Core.Bool.{Bool, _||_, cond}
 use mathlib.Core.List.{List, [], _∷_}
 use Prim.Native.Nat.{ℕ, zero, suc, _+_, _*_, _/_}
 use lib.ListN.{length, getD, take, drop}
 use Rattle.base.specs.Lists.{member}
 
--- "then 16 places"
+-- 02, item 9: "A side now has 32 places"; 01 had 16
 abbrev pub places : ℕ
-places = 16
+places = 32
 
--- "for each of four sides (..): how many edges, then 16 places"
+-- "for each of four sides (..): how many edges, then" the places; with 32 "a region record is 132 numbers"
 abbrev pub side-size : ℕ → ℕ
 side-size p = suc p
 

@@ -7,7 +7,7 @@ pub const MAX_REGIONS: usize = 128;
 pub const MAX_EDGES: usize = 256;
 
 // How many edges fit on a side.
-pub const PLACES: u16 = 16;
+pub const PLACES: u16 = 32;
 
 // Their number stands before them.
 pub const SIDE_SIZE: usize = PLACES as usize + 1;

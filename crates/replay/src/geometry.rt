@@ -5,14 +5,17 @@ use crate::reading::INPUT;
 use base::verdict::Verdict;
 use curves::coons::GridAnswer;
 use floats::root::RootAnswer;
+use regions::region::PLACES;
+use regions::region::RECORD_SIZE;
 
-// The longest lists of any case: two records, 257 counts, 18 breaks, 1,025 points of a curve, 1,026 values of a seam, 4,098 points of a
-// loop. The longest outputs have the quads of 1,025 by 2 cells, and the points and the cells of a mesh of 1,024 by 1 with one value more.
-const PLACES: usize = 136;
+// The longest lists of any case: two records, 257 counts, one break more than a full side takes, 1,025 points of a curve, 1,026 values of a
+// seam, 4,098 points of a loop. The longest outputs have the quads of 1,025 by 2 cells, and the points and the cells of a mesh of 1,024 by 1
+// with one value more.
+const RECORDS: usize = 2 * RECORD_SIZE;
 
 const EDGES: usize = 257;
 
-const BREAKS: usize = 18;
+const BREAKS: usize = PLACES as usize + 2;
 
 const CURVE: usize = 2050;
 
@@ -228,7 +231,7 @@ fn lay_region(
     top: &[f64],
     left: &[f64],
 ) -> bool {
-    let mut region = [0u16; PLACES];
+    let mut region = [0u16; RECORDS];
     let mut counts = [0u32; EDGES];
     let mut space = [0.0; QUADS];
     let counts_at = reading::past_places(case, at);

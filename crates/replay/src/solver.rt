@@ -7,9 +7,10 @@ use counts::answer::EnergyAnswer;
 use counts::answer::HoldAnswer;
 use counts::answer::RoundAnswer;
 use counts::answer::SolveAnswer;
+use regions::region::RECORD_SIZE;
 
 // The longest lists of any case: 130 records, 320 edges.
-const PLACES: usize = 8840;
+const RECORDS: usize = 130 * RECORD_SIZE;
 
 const EDGES: usize = 320;
 
@@ -61,7 +62,7 @@ fn solve_on(
 }
 
 pub(crate) fn solve(case: &[u8]) -> bool {
-    let mut regions = [0u16; PLACES];
+    let mut regions = [0u16; RECORDS];
     let mut ideals = [0.0; EDGES];
     let mut counts = [0u32; EDGES];
     let ideals_at = reading::past_places(case, INPUT);
@@ -92,7 +93,7 @@ fn solve_within_on(
 }
 
 pub(crate) fn solve_within(case: &[u8]) -> bool {
-    let mut regions = [0u16; PLACES];
+    let mut regions = [0u16; RECORDS];
     let mut least = [0.0; EDGES];
     let mut most = [0.0; EDGES];
     let mut counts = [0u32; EDGES];
@@ -255,7 +256,7 @@ fn rounds_from(case: &[u8], at: usize, mixed: bool, regions: &[u16], counts: &mu
 }
 
 pub(crate) fn rounds(case: &[u8], mixed: bool) -> bool {
-    let mut regions = [0u16; PLACES];
+    let mut regions = [0u16; RECORDS];
     let mut counts = [0u32; EDGES];
     let counts_at = reading::past_places(case, INPUT);
     let r = reading::places(case, INPUT, &mut regions);
@@ -343,7 +344,7 @@ fn is_held(case: &[u8], at: usize, answer: HoldAnswer) -> bool {
 }
 
 pub(crate) fn hold(case: &[u8]) -> bool {
-    let mut regions = [0u16; PLACES];
+    let mut regions = [0u16; RECORDS];
     let mut counts = [0u32; EDGES];
     let counts_at = reading::past_places(case, INPUT);
     let r = reading::places(case, INPUT, &mut regions);
