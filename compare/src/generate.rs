@@ -1,8 +1,10 @@
-//! Cases beside the vectors: two faults at once, the limits, farms with T-junctions, unbalanced counts, extreme ideals. Where the Rust
-//! decides, its answer is stored; the pairs of faults say what they expect, by 01's order of tests.
+//! Cases beside the vectors: two faults at once, the limits, sides of many edges, records of before, farms with T-junctions, unbalanced
+//! counts, extreme ideals. Where the Rust decides, its answer is stored; the pairs of faults say what they expect, by 01's order of tests.
 
 use crate::dice::Dice;
 use crate::farm::{self, lists, record, Farm};
+use crate::former;
+use crate::generate_wide;
 use crate::limits;
 use crate::refusal::Refusal;
 use crate::stored::{self, Case, Spacing};
@@ -19,6 +21,8 @@ pub fn all() -> Cases {
         energy_faults(),
         hold_faults(),
         size_limits(),
+        side_limits(),
+        lengths(),
         search_limits(),
         count_limits(),
         buffers(),
@@ -27,6 +31,7 @@ pub fn all() -> Cases {
         lists_of_rounds(),
         extreme_ideals(),
         shapes(),
+        generate_wide::all(),
     ];
     let mut cases = Vec::new();
     for part in parts {
@@ -88,7 +93,7 @@ impl Input {
     fn with(mut self, fault: Fault) -> Input {
         match fault {
             Fault::NotWhole => self.records.push(0),
-            Fault::SideTooLong => self.records[3 * limits::SIDE] = 17,
+            Fault::SideTooLong => self.records[3 * limits::SIDE] = PLACES + 1,
             Fault::TooManyEdges => {
                 self.ideals.resize(257, 1.0);
                 self.counts.resize(257.max(self.counts.len()), 0);
@@ -217,7 +222,7 @@ pub fn row(regions: usize) -> Vec<u16> {
     (0..regions as u16).flat_map(|i| record([&[], &[i + 1], &[], &[i]])).collect()
 }
 
-/// Regions, edges and edges of a side at their limits, one below and one above.
+/// Regions and edges at their limits, one below and one above.
 fn size_limits() -> Cases {
     let mut cases = Vec::new();
     for regions in [0, 1, 127, 128, 129] {
@@ -235,22 +240,92 @@ fn size_limits() -> Cases {
         cases.push(stored::energy(counts.clone(), ideals)?);
         cases.push(stored::hold(Vec::new(), counts)?);
     }
-    for edges in [0, 1, 15, 16] {
+    Ok(cases)
+}
+
+/// Places of a side, as a side's number.
+pub const PLACES: u16 = limits::SIDE_EDGES as u16;
+
+/// Edges of a side: none, one, about as many as it had places before, and about as many as it has now.
+pub const SIDES: [u16; 7] = [0, 1, former::PLACES - 1, former::PLACES, former::PLACES + 1, PLACES - 1, PLACES];
+
+/// A side's number set over a good record, whose further places hold no edges: what is read is 3, and more than there are places is 1.
+pub const NUMBERS: [(u16, u32); 4] = [(former::PLACES + 1, 3), (PLACES, 3), (PLACES + 1, 1), (u16::MAX, 1)];
+
+/// Ideals of two opposite sides of so many edges. Of more edges than before each wants less, so that a solve stays short.
+pub fn side_ideals(edges: u16) -> Vec<f64> {
+    let steps = if edges <= former::PLACES { 8.0 } else { f64::from(edges) };
+    (0..2 * edges).map(|edge| 0.5 + f64::from(edge) / steps).collect()
+}
+
+fn side_limits() -> Cases {
+    let mut cases = Vec::new();
+    for edges in SIDES {
         let (bottom, top): (Vec<u16>, Vec<u16>) = ((0..edges).collect(), (edges..2 * edges).collect());
         let records = record([&bottom, &[], &top, &[]]);
-        let ideals: Vec<f64> = (0..2 * edges).map(|edge| 0.5 + f64::from(edge) / 8.0).collect();
+        let ideals = side_ideals(edges);
         let counts: Vec<u32> = (0..2 * u32::from(edges)).collect();
         cases.push(stored::solve(records.clone(), ideals.clone(), lent(ideals.len()))?);
         cases.push(stored::round(records.clone(), ideals.clone(), counts.clone(), 40)?);
         cases.push(stored::hold(records, counts)?);
     }
-    for side in 0..4 {
-        let mut input = Input::good(1);
-        input.records[limits::RECORD + side * limits::SIDE] = 17;
-        cases.push(stored::round(input.records.clone(), input.ideals.clone(), input.counts.clone(), 1)?);
-        cases.push(stored::hold(input.records, input.counts)?);
+    for (number, refusal) in NUMBERS {
+        for side in 0..4 {
+            let mut input = Input::good(1);
+            input.records[limits::RECORD + side * limits::SIDE] = number;
+            let refusal = set_number(refusal, side);
+            cases.push(expected(stored::round(input.records.clone(), input.ideals.clone(), input.counts.clone(), 1)?, refusal)?);
+            cases.push(expected(stored::solve(input.records.clone(), input.ideals, lent(EDGES))?, refusal)?);
+            cases.push(stored::hold(input.records, input.counts)?);
+        }
     }
     Ok(cases)
+}
+
+/// Lengths of lists about those of one and of two records, of today and of before.
+pub const LENGTHS: [usize; 9] = [
+    1,
+    former::RECORD - 1,
+    former::RECORD,
+    former::RECORD + 1,
+    limits::RECORD - 1,
+    limits::RECORD,
+    limits::RECORD + 1,
+    2 * former::RECORD,
+    2 * limits::RECORD,
+];
+
+/// Edges that are enough for every list of `list_lengths`.
+pub const LISTED: usize = limits::SIDE + 1;
+
+/// Lists of these lengths, and what an old caller has: one region, two, and as many as are whole records of today. These are read as such.
+pub fn list_lengths() -> Vec<Vec<u16>> {
+    let good = Input::good(0).records;
+    let mut lists: Vec<Vec<u16>> = LENGTHS.iter().map(|&length| good[..length].to_vec()).collect();
+    for regions in [1, 2, limits::SIDE] {
+        lists.extend([0, u16::MAX].map(|rest| former::row(regions, rest)));
+    }
+    // Regions without an edge.
+    lists.push(vec![0; limits::SIDE * former::RECORD]);
+    lists
+}
+
+fn lengths() -> Cases {
+    let mut cases = Vec::new();
+    for records in list_lengths() {
+        cases.push(stored::solve(records.clone(), vec![0.75; LISTED], lent(LISTED))?);
+        cases.push(stored::round(records.clone(), vec![0.75; LISTED], vec![2; LISTED], 100)?);
+        cases.push(stored::hold(records, vec![2; LISTED])?);
+    }
+    Ok(cases)
+}
+
+/// What a number of `NUMBERS` on a side of region 1 is refused with: 3 names both.
+pub fn set_number(number: u32, side: usize) -> Refusal {
+    match number {
+        3 => Refusal { number, first: 1, second: side as u32 },
+        _ => Refusal::plain(number),
+    }
 }
 
 /// The search limit: none, few, at its highest value and one above; 30 regions in a row make a search of 31 entries.

@@ -4,7 +4,8 @@
 
 use crate::dice::Dice;
 use crate::farm::{lists, record};
-use crate::generate::{expected, Cases};
+use crate::former;
+use crate::generate::{expected, Cases, LENGTHS, NUMBERS, PLACES, SIDES};
 use crate::geometry::{Flat, Seams};
 use crate::grids::{self, Boundary, Source};
 use crate::lay::Region;
@@ -25,6 +26,8 @@ pub fn all() -> Cases {
         seam_limits(),
         loop_limits(),
         lay_limits(),
+        lay_records(),
+        lay_sides(),
         buffers(),
         joins_and_windings(),
         seam_tolerances(),
@@ -400,7 +403,7 @@ fn curve_faults() -> Cases {
 }
 
 fn lay_faults() -> Cases {
-    let broken = || vec![fault(1, 0, 0, |i| i.record.push(0)), fault(1, 0, 0, |i| i.record[2 * limits::SIDE] = 17)];
+    let broken = || vec![fault(1, 0, 0, |i| i.record.push(0)), fault(1, 0, 0, |i| i.record[2 * limits::SIDE] = PLACES + 1)];
     let edge = |side: u32| fault(3, 0, side, move |i| i.record[side as usize * limits::SIDE + 2] = 300);
     let breaks = |side: u32| fault(27, side, 0, move |i| i.seams[side as usize].push(1.0));
     let long = || vec![fault(1, 0, 0, |i| i.counts[0] = 1025)];
@@ -595,7 +598,7 @@ fn loop_limits() -> Cases {
     Ok(cases)
 }
 
-/// Lay: none or two records, sides of 16 and 17 edges, 255 to 257 counts, seams of 1,025 and 1,026 values, counts near 2^32.
+/// Lay: none or two records, 255 to 257 counts, seams of 1,025 and 1,026 values, counts near 2^32.
 fn lay_limits() -> Cases {
     let mut cases = Vec::new();
     for records in [0, 2] {
@@ -603,24 +606,11 @@ fn lay_limits() -> Cases {
         input.record = input.record.repeat(records);
         cases.push(expected(input.lay()?, Refusal::plain(1))?);
     }
-    for side in 0..4 {
-        let mut input = Input::good();
-        input.record[side * limits::SIDE] = 17;
-        cases.push(expected(input.lay()?, Refusal::plain(1))?);
-    }
     for counts in [0, 1, 7, 8, 255, 256, 257] {
         let mut input = Input::good();
         input.counts.resize(counts, 1);
         cases.push(input.lay()?);
     }
-    // 16 edges at the bottom against one at the top.
-    let bottom: Vec<u16> = (0..16).collect();
-    let mut input = Input::good();
-    input.record = record([&bottom, &[17], &[16], &[18]]);
-    input.counts = vec![1; 19];
-    input.counts[16] = 16;
-    cases.push(input.clone().seams(&even_seam(17), &[0.0, 1.0], &[0.0, 1.0], &[0.0, 1.0]).lay()?);
-    cases.push(input.seams(&even_seam(18), &[0.0, 1.0], &[0.0, 1.0], &[0.0, 1.0]).lay()?);
     // One edge a side: a seam has one value more than its count.
     for count in [0, 1, 1023, 1024, 1025, u32::MAX] {
         for side in 0..4 {
@@ -638,6 +628,83 @@ fn lay_limits() -> Cases {
     input.counts[0] = u32::MAX;
     input.counts[1] = 2;
     cases.push(expected(input.lay()?, Refusal::plain(1))?);
+    Ok(cases)
+}
+
+/// Lay: a record longer or shorter, of before, a side's number that is read or too large.
+fn lay_records() -> Cases {
+    let mut cases = Vec::new();
+    for length in LENGTHS {
+        let mut input = Input::good();
+        input.record = input.record.repeat(2);
+        input.record.truncate(length);
+        cases.push(input.lay()?);
+    }
+    for rest in [0, u16::MAX] {
+        let input = Input { record: former::row(1, rest), ..Input::good() };
+        cases.push(expected(input.lay()?, Refusal::plain(1))?);
+    }
+    for (number, refusal) in NUMBERS {
+        for side in 0..4 {
+            let mut input = Input::good();
+            input.record[side * limits::SIDE] = number;
+            let second = if refusal == 3 { side as u32 } else { 0 };
+            cases.push(expected(input.lay()?, Refusal { number: refusal, first: 0, second })?);
+        }
+    }
+    Ok(cases)
+}
+
+/// A tile with so many edges on each side, all of count 1.
+fn wide_tile(edges: [u16; 4]) -> Input {
+    let mut start = 0;
+    let sides = edges.map(|edges| -> Vec<u16> {
+        start += edges;
+        (start - edges..start).collect()
+    });
+    let seams = edges.map(|edges| even_seam(usize::from(edges) + 1));
+    Input { record: record(lists(&sides)), counts: vec![1; start.into()], seams, ..Input::good() }
+}
+
+/// So many edges at the bottom against one at the top, also with a break too many.
+fn against_one(edges: u16) -> Cases {
+    let bottom: Vec<u16> = (0..edges).collect();
+    let mut input = wide_tile([edges, 1, 1, 1]);
+    input.record = record([&bottom, &[edges + 1], &[edges], &[edges + 2]]);
+    input.counts[usize::from(edges)] = edges.into();
+    let mut one_more = input.clone();
+    one_more.seams[0] = even_seam(usize::from(edges) + 2);
+    Ok(vec![input.lay()?, expected(one_more.lay()?, Refusal { number: 27, first: 0, second: 0 })?])
+}
+
+/// Lay: sides of as many edges as they may have and might have before, and about that.
+fn lay_sides() -> Cases {
+    let mut cases = Vec::new();
+    for edges in SIDES.into_iter().filter(|&edges| edges >= former::PLACES) {
+        cases.extend(against_one(edges)?);
+        cases.push(wide_tile([edges; 4]).lay()?);
+        // Edges of no cell but for the first, the last, and the first that is past the places of before.
+        let mut few = wide_tile([edges; 4]);
+        let kept = [1, former::PLACES + 1, edges];
+        few.counts.iter_mut().zip((1..=edges).cycle()).for_each(|(count, edge)| *count = kept.contains(&edge).into());
+        cases.push(few.lay()?);
+    }
+    for edges in [former::PLACES, PLACES] {
+        cases.extend(same_count(edges)?);
+    }
+    Ok(cases)
+}
+
+/// One edge so many times on each side: up to 1,024 cells and one more; then just 2^32, which is none in 32 bits, and more than that.
+fn same_count(edges: u16) -> Cases {
+    let times = u32::from(edges);
+    let most = limits::CELLS / times;
+    let mut cases = Vec::new();
+    for count in [0, 1, most, most + 1, u32::MAX / times + 1, u32::MAX] {
+        let side = vec![0; edges.into()];
+        let input = Input { record: record([&side; 4]), counts: vec![count], ..wide_tile([edges; 4]) };
+        cases.push(input.room(isize::MIN).lay()?);
+    }
     Ok(cases)
 }
 

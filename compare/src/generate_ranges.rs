@@ -1,9 +1,14 @@
-//! Cases of rounds and solves within ranges beside the vectors: two faults at once, the limits, extreme ends, farms with T-junctions, lists
-//! of rounds of both kinds. Their answers are the model's (`ranges`); the pairs of faults say what they expect, by the order of tests.
+//! Cases of rounds and solves within ranges beside the vectors: two faults at once, the limits, sides of many edges, extreme ends, farms
+//! with T-junctions, lists of rounds of both kinds. Their answers are the model's (`ranges`); the pairs of faults say what they expect, by
+//! the order of tests.
 
 use crate::dice::Dice;
 use crate::farm::{record, Farm};
-use crate::generate::{careless, field, lent, odd_shapes, pairs, row, Cases, BAD_IDEALS, LENT};
+use crate::generate::{
+    self, careless, expected, field, lent, odd_shapes, pairs, row, set_number, side_ideals, Cases, BAD_IDEALS, LENT, LISTED, NUMBERS,
+    PLACES, SIDES,
+};
+use crate::generate_wide::{last_places, wide, wide_fields, Wide};
 use crate::limits;
 use crate::refusal::Refusal;
 use crate::stored::{self, Case, Spacing};
@@ -15,6 +20,10 @@ pub fn all() -> Cases {
         bad_ends(),
         lengths(),
         size_limits(),
+        side_limits(),
+        list_lengths(),
+        wide_sides(),
+        spoiled_places(),
         search_limits(),
         count_limits(),
         move_limits(),
@@ -97,7 +106,7 @@ impl Input {
     fn with(mut self, fault: Fault) -> Input {
         match fault {
             Fault::NotWhole => self.records.push(0),
-            Fault::SideTooLong => self.records[3 * limits::SIDE] = 17,
+            Fault::SideTooLong => self.records[3 * limits::SIDE] = PLACES + 1,
             // Too many also with the few less that another fault takes; `lengths` has 257.
             Fault::TooManyLeasts => self.least.resize(260, 1.0),
             Fault::TooManyMosts => self.most.resize(260, 9.0),
@@ -238,19 +247,65 @@ fn size_limits() -> Cases {
         cases.push(stored::solve(Vec::new(), within(&least, &most), lent(edges as usize))?);
         cases.push(stored::round(Vec::new(), within(&least, &most), (0..edges).collect(), 1)?);
     }
-    for edges in [0, 1, 15, 16] {
+    Ok(cases)
+}
+
+fn side_limits() -> Cases {
+    let mut cases = Vec::new();
+    for edges in SIDES {
         let (bottom, top): (Vec<u16>, Vec<u16>) = ((0..edges).collect(), (edges..2 * edges).collect());
         let records = record([&bottom, &[], &top, &[]]);
-        let least: Vec<f64> = (0..2 * edges).map(|edge| 0.5 + f64::from(edge) / 8.0).collect();
+        let least = side_ideals(edges);
         let most: Vec<f64> = least.iter().map(|least| 1.5 * least).collect();
         let counts: Vec<u32> = (0..2 * u32::from(edges)).collect();
         cases.push(stored::solve(records.clone(), within(&least, &most), lent(least.len()))?);
         cases.push(stored::round(records, within(&least, &most), counts, 40)?);
     }
-    for side in 0..4 {
-        let mut input = Input::good(1);
-        input.records[limits::RECORD + side * limits::SIDE] = 17;
-        cases.push(input.round()?);
+    for (number, refusal) in NUMBERS {
+        for side in 0..4 {
+            let mut input = Input::good(1);
+            input.records[limits::RECORD + side * limits::SIDE] = number;
+            let refusal = set_number(refusal, side);
+            cases.push(expected(stored::solve(input.records.clone(), input.spacing(), lent(EDGES))?, refusal)?);
+            cases.push(expected(input.round()?, refusal)?);
+        }
+    }
+    Ok(cases)
+}
+
+fn list_lengths() -> Cases {
+    let mut cases = Vec::new();
+    let spacing = within(&[0.75; LISTED], &[1.5; LISTED]);
+    for records in generate::list_lengths() {
+        cases.push(stored::solve(records.clone(), spacing.clone(), lent(LISTED))?);
+        cases.push(stored::round(records, spacing.clone(), vec![2; LISTED], 100)?);
+    }
+    Ok(cases)
+}
+
+fn spoiled_places() -> Cases {
+    let mut cases = Vec::new();
+    for (regions, edges, refusal) in last_places() {
+        let spacing = within(&vec![1.5; edges], &vec![2.5; edges]);
+        cases.push(expected(stored::round(regions.clone(), spacing.clone(), vec![1; edges], 100)?, refusal)?);
+        cases.push(expected(stored::solve(regions, spacing, lent(edges))?, refusal)?);
+    }
+    Ok(cases)
+}
+
+/// From these ideals up. Below 1/2, where the first +1 gains nothing, both ends are the ideal: else it could gain something.
+fn upward(ideals: Vec<f64>) -> Spacing {
+    let most = ideals.iter().map(|&ideal| if ideal < 0.5 { ideal } else { 1.25 * ideal }).collect();
+    Spacing::Within { least: ideals, most }
+}
+
+/// Sides of many edges; also a list of rounds of both kinds on each field.
+fn wide_sides() -> Cases {
+    let mut dice = Dice(0x5EED_0206);
+    let mut cases = wide(&mut dice, upward)?;
+    for Wide { farm: Farm { regions, edges }, limits, .. } in wide_fields().into_iter().filter(|wide| wide.ideals.is_some()) {
+        let kinds = [dice.ranges(edges), dice.ideals(edges).into()];
+        cases.push(stored::rounds(regions, dice.counts(edges, 4), in_turn(&kinds, limits[1]))?);
     }
     Ok(cases)
 }

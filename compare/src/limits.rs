@@ -1,9 +1,12 @@
-//! 01's limits. The Rust has none of them, so a case that passes one is not the Rust's to answer.
+//! 01's limits, and 02's for the places of a side (item 9). The Rust has none of them, so a case that passes one is not the Rust's to
+//! answer.
 
-/// Numbers of 16 bits in a record: four sides, each a number of edges and 16 places.
-pub const RECORD: usize = 68;
-pub const SIDE: usize = 17;
-pub const SIDE_EDGES: usize = 16;
+/// Places of a side, and so the most edges that it can have. It stands here alone: all that rests on it is written from it.
+pub const SIDE_EDGES: usize = 32;
+/// Numbers of 16 bits of a side: how many edges, and the places.
+pub const SIDE: usize = SIDE_EDGES + 1;
+/// Numbers of a record: four sides.
+pub const RECORD: usize = 4 * SIDE;
 pub const REGIONS: usize = 128;
 pub const EDGES: usize = 256;
 pub const COUNT: u32 = 1_000_000;

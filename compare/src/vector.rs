@@ -1,5 +1,6 @@
 //! The vectors, one JSON object a line, as stored cases.
 
+use crate::former;
 use crate::geometry::Seams;
 use crate::grids::{zeroes, Boundary, Grid, Root, Source, Tile, Written};
 use crate::json::{parse, Json};
@@ -20,7 +21,9 @@ pub fn case(line: &str) -> Result<Option<Case>, String> {
     }
     Ok(Some(match function {
         "solve" | "solve_range" => Case::Solve(solve(given, out)?),
-        "round" | "round_range" => Case::Round(Round { records: places(given)?, before: numbers(given)?, step: step(given, out)? }),
+        "round" | "round_range" => {
+            Case::Round(Round { records: records(given, "regions")?, before: numbers(given)?, step: step(given, out)? })
+        }
         "rounds" => Case::Rounds(rounds(given, out)?),
         "energy" => Case::Energy(energy(given, out)?),
         "constraints_hold" => Case::Hold(hold(given, out)?),
@@ -49,7 +52,7 @@ pub fn waits(function: &str, given: &Json, out: &Json) -> Result<bool, String> {
 
 fn solve(given: &Json, out: &Json) -> Result<Solve, String> {
     Ok(Solve {
-        records: places(given)?,
+        records: records(given, "regions")?,
         spacing: spacing(given)?,
         before: numbers(given)?,
         answer: answer(out, |out| whole(out.field("moves")?))?,
@@ -63,7 +66,7 @@ fn rounds(given: &Json, out: &Json) -> Result<Rounds, String> {
         return Err(format!("{} rounds with {} answers", calls.len(), answers.len()));
     }
     let steps = calls.iter().zip(answers).map(|(call, answer)| step(call, answer)).collect::<Result<_, _>>()?;
-    Ok(Rounds { records: places(given)?, before: numbers(given)?, steps })
+    Ok(Rounds { records: records(given, "regions")?, before: numbers(given)?, steps })
 }
 
 fn step(given: &Json, out: &Json) -> Result<Step, String> {
@@ -82,7 +85,7 @@ fn energy(given: &Json, out: &Json) -> Result<Energy, String> {
 }
 
 fn hold(given: &Json, out: &Json) -> Result<Hold, String> {
-    Ok(Hold { records: places(given)?, counts: numbers(given)?, answer: answer(out, |out| flag(out.field("hold")?))? })
+    Ok(Hold { records: records(given, "regions")?, counts: numbers(given)?, answer: answer(out, |out| flag(out.field("hold")?))? })
 }
 
 fn root(given: &Json, out: &Json) -> Result<Root, String> {
@@ -100,7 +103,7 @@ fn seams(given: &Json) -> Result<Seams, String> {
 
 fn region(given: &Json) -> Result<Region, String> {
     Ok(Region {
-        record: list_of_places(given.field("record")?)?,
+        record: records(given, "record")?,
         counts: numbers(given)?,
         breaks: four(given, "breaks")?,
         curves: four(given, "curves")?,
@@ -173,8 +176,17 @@ fn list_of_places(values: &Json) -> Result<Vec<u16>, String> {
     })
 }
 
-fn places(given: &Json) -> Result<Vec<u16>, String> {
-    list_of_places(given.field("regions")?)
+/// Region records. A vector may say how many places a side has in them: those of before (02, item 9) are repacked.
+pub fn records(given: &Json, name: &str) -> Result<Vec<u16>, String> {
+    let list = list_of_places(given.field(name)?)?;
+    let Ok(places) = given.field("places") else {
+        return Ok(list);
+    };
+    match usize::try_from(places.number()?) {
+        Ok(limits::SIDE_EDGES) => Ok(list),
+        Ok(places) if places == former::PLACES.into() => Ok(former::repacked(&list)),
+        _ => Err(format!("`places`: in this vector a side has {}, and here it has {}", places.number()?, limits::SIDE_EDGES)),
+    }
 }
 
 fn numbers(given: &Json) -> Result<Vec<u32>, String> {

@@ -1,5 +1,7 @@
 //! Bad input to the tools: a clear error that names the line, a non-zero exit, no panic.
 
+use compare::limits::SIDE_EDGES;
+use compare::vector;
 use std::io::Write;
 use std::process::{Command, Output, Stdio};
 
@@ -75,9 +77,24 @@ fn no_file() {
     complains(&stored(&["unwritten", "tests/no-such-file"]), "tests/no-such-file");
 }
 
+/// A vector, with these words about its places.
+fn of_places(places: &str) -> String {
+    format!("{{\"fn\":\"constraints_hold\",\"in\":{{{places}\"regions\":[],\"counts\":[]}},\"out\":{{\"refusal\":0,\"hold\":1}}}}\n")
+}
+
+#[test]
+fn places_of_vectors() {
+    for places in [String::new(), format!("\"places\":{SIDE_EDGES},")] {
+        assert!(matches!(vector::case(&of_places(&places)), Ok(Some(_))), "{places}");
+    }
+    assert!(vector::case(&of_places("\"places\":\"many\",")).is_err());
+}
+
 #[test]
 fn broken_vectors() {
+    let fewer = of_places(&format!("\"places\":{},", SIDE_EDGES - 1));
     let broken = [
+        ("places", &fewer[..], "line 1: `places`: in this vector a side has"),
         ("cut", "{\"fn\":\"energy\",\"in\":{", "cut off"),
         ("open", "{\"fn\":\"energy\",\"in\":{\n", "line 1: cut off"),
         ("word", "\n", "line 1: cut off where a value"),

@@ -3,10 +3,12 @@
 
 use compare::dice::Dice;
 use compare::farm::{self, record, Farm};
+use compare::generate::{self, LISTED};
+use compare::generate_wide::{wide_fields, Wide};
 use compare::json::{self, Json};
 use compare::ranges::{self, Ends};
 use compare::refusal::Refusal;
-use compare::{generate, solver, stored, vector, words};
+use compare::{solver, stored, vector, words};
 
 // ------------------------------------------------------------------------------------------------------------------------------------
 // The vectors
@@ -81,7 +83,7 @@ fn check_round(id: &Json, records: &[u16], given: &Json, counts: &mut [u32], out
 
 #[test]
 fn rounds_of_the_vectors() {
-    for vector in vectors("item07-round-16.jsonl") {
+    for vector in vectors("item07-round.jsonl") {
         let given = field(&vector, "in");
         check_round(field(&vector, "id"), &records(given), given, &mut numbers(given, "counts"), field(&vector, "out"));
     }
@@ -89,7 +91,7 @@ fn rounds_of_the_vectors() {
 
 #[test]
 fn lists_of_rounds_of_the_vectors() {
-    for vector in vectors("item07-rounds-16.jsonl") {
+    for vector in vectors("item07-rounds.jsonl") {
         let (given, out) = (field(&vector, "in"), field(&vector, "out"));
         let (steps, answers) = (field(given, "steps").list().expect("steps"), field(out, "steps").list().expect("steps"));
         assert_eq!(steps.len(), answers.len());
@@ -102,7 +104,7 @@ fn lists_of_rounds_of_the_vectors() {
 
 #[test]
 fn solves_of_the_vectors() {
-    for vector in vectors("item07-solve-16.jsonl") {
+    for vector in vectors("item07-solve.jsonl") {
         let (given, out) = (field(&vector, "in"), field(&vector, "out"));
         let (least, most) = ends(given);
         let mut counts = numbers(given, "counts");
@@ -211,6 +213,21 @@ fn sizes_with_equal_ends() {
         same_solve(&[], &vec![1.5; edges]);
         same_round(&[], &vec![1.5; edges], &vec![3; edges], 1);
         same_round(&[], &[1.5], &vec![3; edges], 1);
+    }
+}
+
+#[test]
+fn wide_sides_with_equal_ends() {
+    let mut dice = Dice(0x5EED_0103);
+    for Wide { farm, limits, ideals } in wide_fields() {
+        for limit in limits {
+            same_round(&farm.regions, &dice.ideals(farm.edges), &dice.counts(farm.edges, 4), limit);
+        }
+        ideals.into_iter().for_each(|ideals| same_solve(&farm.regions, &ideals));
+    }
+    for records in generate::list_lengths() {
+        same_solve(&records, &[0.75; LISTED]);
+        same_round(&records, &[0.75; LISTED], &[2; LISTED], 100);
     }
 }
 

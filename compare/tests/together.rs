@@ -1,7 +1,9 @@
 //! The tools that link this library: differences are found, and bad input gets a clear error and a non-zero exit.
 #![cfg(feature = "library")]
 
+use compare::former;
 use compare::generate_ranges;
+use compare::limits::{RECORD, SIDE_EDGES};
 use compare::stored::Case;
 use compare::together::call::{difference, Call, Step};
 use compare::together::expected;
@@ -60,6 +62,25 @@ fn differences() {
     }
 }
 
+/// A vector may say how many places a side has: as many as here, or as before, when it is repacked.
+#[test]
+fn places() {
+    let hold = |places: usize, regions: &[u16]| {
+        let line = r#"{"id":"d","fn":"constraints_hold","in":{"places":P,"regions":R,"counts":[3,3]},"out":{"refusal":0,"hold":true}}"#;
+        let line = line.replace('P', &places.to_string()).replace('R', &format!("{regions:?}"));
+        replayed(&format!("places-{places}"), format!("{line}\n").as_bytes())
+    };
+    // Edge 0 on the bottom, edge 1 on the top.
+    let mut before = [0; former::RECORD];
+    let top = former::RECORD / 2;
+    (before[0], before[top], before[top + 1]) = (1, 1, 1);
+    assert_eq!(hold(former::PLACES.into(), &before).status.code(), Some(0));
+    assert_eq!(hold(SIDE_EDGES, &former::repacked(&before)).status.code(), Some(0));
+    for other in [former::PLACES as usize + 1, SIDE_EDGES - 1, SIDE_EDGES + 1] {
+        complains(&hold(other, &[]), &format!("line 1: `places`: in this vector a side has {other}, and here it has {SIDE_EDGES}"));
+    }
+}
+
 #[test]
 fn bad_files() {
     let bad: [(&str, &[u8], &str); 7] = [
@@ -97,12 +118,13 @@ fn bad_numbers() {
 
 #[test]
 fn bad_farms() {
-    let farm = "a|68 0|1 3ff0000000000000|1|1|0|1|1 1|3:1 0\n";
+    let list = format!("{RECORD} 0");
+    let farm = format!("a|{list}|1 3ff0000000000000|1|1|0|1|1 1|3:1 0\n");
     let bad = [
-        ("cut", "a|68", "cut off: the last line has no end"),
-        ("fields", "a|68 0\n", "line 1: 2 fields and not nine"),
-        ("list", farm, "line 1: the case is cut off"),
-        ("number", &farm.replace("68 0", "0").replace("|1|1 1|", "|x|1 1|"), "line 1: `x` is no number of entries"),
+        ("cut", &format!("a|{RECORD}")[..], "cut off: the last line has no end"),
+        ("fields", &format!("a|{list}\n"), "line 1: 2 fields and not nine"),
+        ("list", &farm, "line 1: the case is cut off"),
+        ("number", &farm.replace(&list, "0").replace("|1|1 1|", "|x|1 1|"), "line 1: `x` is no number of entries"),
         ("open", &farm.replace("|1|0|", "|0|0|"), "line 1: the solve of a is not at its end"),
     ];
     for (name, text, words) in bad {

@@ -6,8 +6,6 @@ use compare::tool::ended;
 use std::env;
 use std::process::ExitCode;
 
-const FARMS: &str = concat!(env!("CARGO_MANIFEST_DIR"), "/../../shared/oracle/farms.txt");
-
 fn main() -> ExitCode {
     ended("speed", run())
 }
@@ -17,13 +15,13 @@ fn run() -> Result<(), String> {
     let words: Vec<String> = env::args().skip(1).collect();
     let words: Vec<&str> = words.iter().map(String::as_str).collect();
     let (all, path) = match words[..] {
-        [] => (false, FARMS),
-        ["all"] => (true, FARMS),
+        [] => (false, farms::FILE),
+        ["all"] => (true, farms::FILE),
         ["all", path] => (true, path),
         [path] => (false, path),
         _ => return Err("usage: speed [all] [FARMS]".to_string()),
     };
-    let farms = farms::read(path)?;
+    let farms = speed::list(path)?;
     speed::roots()?;
     speed::grids()?;
     speed::searches(&farms)?;

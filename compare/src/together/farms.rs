@@ -1,7 +1,11 @@
 //! The file of farms beside the vectors: a farm a line, with what a solve of it makes.
 //! name | records | ideals | moves | 1 if it ended | 1 if a search was cut | entries of all searches | counts | N:counts after N moves;..
 
+use crate::limits::RECORD;
 use crate::words::Words;
+
+/// The file that is read if none is named.
+pub const FILE: &str = concat!(env!("CARGO_MANIFEST_DIR"), "/../../shared/oracle/farms32.txt");
 
 pub struct Farm {
     pub name: String,
@@ -12,7 +16,7 @@ pub struct Farm {
     pub cut: bool,
     /// Entries of all searches of the solve.
     pub entries: u64,
-    /// Counts on the way, the latest that the file has.
+    /// Counts on the way; of a farm of the file, the latest that it has.
     pub underway: Vec<u32>,
 }
 
@@ -35,13 +39,22 @@ fn farm(line: &str) -> Result<Farm, String> {
     let latest = underway.split(';').next_back().and_then(|text| text.split_once(':')).ok_or("no counts on the way")?.1;
     Ok(Farm {
         name: name.to_string(),
-        records: whole(records, |words| words.places("places of records"))?,
+        records: whole_records(whole(records, |words| words.places("places of records"))?)?,
         ideals: whole(ideals, |words| words.floats("ideals"))?,
         moves: whole(moves, |words| words.number("the moves"))?,
         cut: cut == "1",
         entries: entries.parse().map_err(|_| format!("`{entries}` is no number of entries"))?,
         underway: whole(latest, |words| words.numbers("counts"))?,
     })
+}
+
+/// Records of another length are those of another version.
+fn whole_records(records: Vec<u16>) -> Result<Vec<u16>, String> {
+    if records.len().is_multiple_of(RECORD) {
+        Ok(records)
+    } else {
+        Err(format!("{} numbers are no whole records of {RECORD}", records.len()))
+    }
 }
 
 /// All words of a field.

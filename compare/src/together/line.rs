@@ -3,7 +3,7 @@
 use super::call::{Call, Effect, Sides, Spacing, Step, LENT_FLOAT, LENT_NUMBER};
 use crate::json::{parse, Json};
 use crate::limits;
-use crate::vector::{flag, float, spacing, waits, whole};
+use crate::vector::{flag, float, records, spacing, waits, whole};
 
 /// A line: its name, and the call with its effects, or why it is passed over.
 pub struct Line {
@@ -46,21 +46,21 @@ fn case(function: &str, given: &Json, out: &Json) -> Result<(Call, Vec<Effect>),
     let one = |call: Call, effect: Effect| Ok((call, vec![effect]));
     match function {
         "solve" | "solve_range" => {
-            let call = Call::Solve { regions: places(given, "regions")?, spacing: spacing(given)?, counts: numbers(given, "counts")? };
+            let call = Call::Solve { regions: records(given, "regions")?, spacing: spacing(given)?, counts: numbers(given, "counts")? };
             one(call, Effect { numbers: numbers(out, "counts")?, ..answer(out, "moves")? })
         }
         "round" | "round_range" => {
-            let call = Call::Round { regions: places(given, "regions")?, counts: numbers(given, "counts")?, step: step(given)? };
+            let call = Call::Round { regions: records(given, "regions")?, counts: numbers(given, "counts")?, step: step(given)? };
             one(call, round(out)?)
         }
         "rounds" => {
             let steps = given.field("steps")?.list()?.iter().map(step).collect::<Result<_, _>>()?;
             let effects = out.field("steps")?.list()?.iter().map(round).collect::<Result<_, _>>()?;
-            Ok((Call::Rounds { regions: places(given, "regions")?, counts: numbers(given, "counts")?, steps }, effects))
+            Ok((Call::Rounds { regions: records(given, "regions")?, counts: numbers(given, "counts")?, steps }, effects))
         }
         "energy" => one(Call::Energy { counts: numbers(given, "counts")?, ideals: floats(given, "ideals")? }, valued(out, "energy")?),
         "constraints_hold" => {
-            one(Call::Hold { regions: places(given, "regions")?, counts: numbers(given, "counts")? }, answer(out, "hold")?)
+            one(Call::Hold { regions: records(given, "regions")?, counts: numbers(given, "counts")? }, answer(out, "hold")?)
         }
         "root" => one(Call::Root { x: float(given.field("x")?)? }, valued(out, "root")?),
         "coons_from_parameters" => {
@@ -79,7 +79,7 @@ fn case(function: &str, given: &Json, out: &Json) -> Result<(Call, Vec<Effect>),
         }
         "lay" => {
             let lent = length(given, "out_len")?;
-            let (record, counts) = (places(given, "record")?, numbers(given, "counts")?);
+            let (record, counts) = (records(given, "record")?, numbers(given, "counts")?);
             let (breaks, curves) = (sides(given, "breaks")?, sides(given, "curves")?);
             one(Call::Lay { record, counts, breaks, curves, out: lent }, grid(out, lent)?)
         }
@@ -99,10 +99,6 @@ fn case(function: &str, given: &Json, out: &Json) -> Result<(Call, Vec<Effect>),
 fn list<T>(object: &Json, name: &str, read: impl Fn(&Json) -> Result<T, String>) -> Result<Vec<T>, String> {
     let told = |why| format!("`{name}`: {why}");
     object.field(name)?.list().map_err(told)?.iter().map(read).collect::<Result<_, _>>().map_err(told)
-}
-
-fn places(object: &Json, name: &str) -> Result<Vec<u16>, String> {
-    list(object, name, |value| u16::try_from(whole(value)?).map_err(|_| format!("{value:?} is over 16 bits")))
 }
 
 fn numbers(object: &Json, name: &str) -> Result<Vec<u32>, String> {

@@ -5,8 +5,10 @@
 //! - `line`: a call and its effect as a line of the vectors' format.
 //! - `expected`: the effect that the oracle and 01 give.
 //! - `clock`, `farms`, `speed`, `growth`, `plot`: both timed in turn; `speed_ranges`: within ranges beside by ideals, and beside the model.
+//! - `beside`: two builds of this library, timed in turn.
 //! - `scale`: both on many calls; `random`: numbers from a seed.
 
+pub mod beside;
 pub mod call;
 pub mod clock;
 pub mod expected;

@@ -2,11 +2,11 @@
 
 use super::call::Sides;
 use super::clock::{race, timed, Effort, Pair};
-use super::farms::Farm;
+use super::farms::{self, Farm};
 use super::library;
 use super::random::Random;
-use crate::farm::lists;
-use crate::limits::RECORD;
+use crate::farm::{lists, record};
+use crate::limits::{RECORD, SEARCH, SIDE_EDGES};
 use crate::mesh::Mesh;
 use crate::reach::{self, BoundaryCurves};
 use crate::{geometry, simons_qgp, solver};
@@ -48,6 +48,53 @@ fn yes_or_no(cut: bool) -> &'static str {
 
 fn millions(entries: f64, time: f64) -> String {
     format!("{:.1}", entries / time / 1e6)
+}
+
+/// The farms of a file, and behind them two with sides of as many edges as a record has places for.
+pub fn list(path: &str) -> Result<Vec<Farm>, String> {
+    let mut farms = farms::read(path)?;
+    for regions in [1, 2] {
+        farms.push(column(regions)?);
+    }
+    Ok(farms)
+}
+
+/// Regions one above the other, as the file's columns are: full sides on bottom and top, one edge on the right and on the left.
+fn column(regions: usize) -> Result<Farm, String> {
+    let level = |line: usize| (line * SIDE_EDGES..(line + 1) * SIDE_EDGES).map(|edge| edge as u16).collect::<Vec<u16>>();
+    let level_edges = (regions + 1) * SIDE_EDGES;
+    let region = |row: usize| {
+        let left = (level_edges + 2 * row) as u16;
+        record([&level(row), &[left + 1], &level(row + 1), &[left]])
+    };
+    let records = (0..regions).flat_map(region).collect();
+    let name = format!("column of {regions}, {SIDE_EDGES} edges on bottom and top");
+    asked(name, records, column_ideals(level_edges, 2 * regions))
+}
+
+/// Like the ideals of the file's columns: up to 15 % off, a level line 64 long in all, an upright one 6. So more edges on a line are
+/// shorter ones, and a solve makes about as many moves.
+fn column_ideals(level: usize, upright: usize) -> Vec<f64> {
+    let mut random = Random::new(7);
+    let mut near = |ideal: f64| ideal * (0.85 + 0.3 * random.unit());
+    (0..level + upright).map(|edge| near(if edge < level { 64.0 / SIDE_EDGES as f64 } else { 6.0 })).collect()
+}
+
+/// A farm with what the Rust makes of it, round by round; on the way are the counts after half of the moves.
+fn asked(name: String, records: Vec<u16>, ideals: Vec<f64>) -> Result<Farm, String> {
+    let mut way = vec![vec![0; ideals.len()]];
+    let (mut cut, mut entries) = (false, 0);
+    loop {
+        let round = solver::round(&records, &ideals, &way[way.len() - 1], SEARCH).map_err(|stop| format!("{name}: {stop}"))?;
+        cut |= round.cut;
+        entries += round.expansions as u64;
+        if round.made.is_none() {
+            break;
+        }
+        way.push(round.counts);
+    }
+    let moves = way.len() - 1;
+    Ok(Farm { name, records, ideals, moves: moves as u32, cut, entries, underway: way.swap_remove(moves / 2) })
 }
 
 pub fn searches(farms: &[Farm]) -> Result<(), String> {

@@ -32,7 +32,7 @@ impl Wide {
     }
 }
 
-fn same<T: PartialEq>(one: &Result<T, String>, other: &Result<T, String>) -> Result<(), String> {
+pub fn same<T: PartialEq>(one: &Result<T, String>, other: &Result<T, String>) -> Result<(), String> {
     if one.as_ref().map_err(String::clone)? == other.as_ref().map_err(String::clone)? {
         Ok(())
     } else {
@@ -74,7 +74,7 @@ fn round_of_model(farm: &Farm, wide: &Wide) -> Result<Made, String> {
 }
 
 /// Moves and counts of a solve.
-type Solved = Result<(u32, Vec<u32>), String>;
+pub type Solved = Result<(u32, Vec<u32>), String>;
 
 /// Whole solves; the largest only where `all` is wished.
 pub fn solves(farms: &[Farm], all: bool) -> Result<(), String> {
@@ -121,7 +121,8 @@ fn solve_within(farm: &Farm, ends: Ends) -> Solved {
     solve(farm, |counts, answer| library::solve_counts_within(&farm.records, ends, counts, answer))
 }
 
-fn solve(farm: &Farm, call: impl FnOnce(&mut [u32], &mut [u32; 3]) -> u32) -> Solved {
+/// What a solve of this library makes of the farm.
+pub fn solve(farm: &Farm, call: impl FnOnce(&mut [u32], &mut [u32; 3]) -> u32) -> Solved {
     let mut counts = vec![0; farm.ideals.len()];
     let mut answer = [0; 3];
     match call(&mut counts, &mut answer) {

@@ -2,6 +2,8 @@
 //! ones.
 
 use crate::farm::{lists, record};
+use crate::former;
+use crate::generate::{LENGTHS, PLACES};
 use crate::grids;
 use crate::limits::SIDE;
 use crate::together::call::{Call, Sides};
@@ -252,7 +254,8 @@ fn lay(random: &mut Random) -> Call {
     let mut breaks: Sides = Default::default();
     let mut sides: [Vec<u16>; 4] = Default::default();
     for k in 0..4 {
-        let parts = parts(random, if k % 2 == 0 { across } else { up });
+        let sum = if k % 2 == 0 { across } else { up };
+        let parts = if random.chance(16) { spread(random, sum) } else { parts(random, sum) };
         breaks[k] = seam(random, parts.len());
         sides[k] = (counts.len()..counts.len() + parts.len()).map(|edge| edge as u16).collect();
         counts.extend(parts);
@@ -284,11 +287,22 @@ fn parts(random: &mut Random, sum: u32) -> Vec<u32> {
     list
 }
 
+/// Counts of a wide side that add up to a number: nearly all are 0, but for the first, which has the seam's 0.
+fn spread(random: &mut Random, sum: u32) -> Vec<u32> {
+    let mut list = vec![0; random.within(u32::from(former::PLACES) + 1, PLACES.into()) as usize];
+    list[0] = 1;
+    for _ in 1..sum {
+        let edge = random.below(list.len() as u32) as usize;
+        list[edge] += 1;
+    }
+    list
+}
+
 fn damage_lay(random: &mut Random, record: &mut Vec<u16>, counts: &mut Vec<u32>, breaks: &mut Sides) {
     let side = random.below(4) as usize;
     let list = &mut breaks[side];
     let value = random.below(list.len() as u32) as usize;
-    match random.below(10) {
+    match random.below(11) {
         0 => drop(counts.pop()),
         1 => {
             let edge = random.below(counts.len() as u32) as usize;
@@ -297,10 +311,14 @@ fn damage_lay(random: &mut Random, record: &mut Vec<u16>, counts: &mut Vec<u32>,
         2 => drop(list.pop()),
         3 => list.push(1.0),
         4 => list[value] = random.pick(&[f64::NAN, f64::INFINITY, -1.0, 0.0, 0.5, 1.0, 1e-9, -1e-12]),
-        5 => record[SIDE * side] = random.pick(&[0, 1, 2, 16, 17]),
+        5 => {
+            let border = random.pick(&[former::PLACES, PLACES]);
+            record[SIDE * side] = random.pick(&[0, 1, 2, border, border + 1]);
+        }
         6 => record[SIDE * side + 1] = random.pick(&[0, 1, 255, u16::MAX]),
         7 => drop(record.pop()),
         8 => record.extend_from_within(..),
+        9 => record.resize(random.pick(&LENGTHS), 0),
         _ => counts.resize(random.pick(&[0, 255, 256, 257]), 1),
     }
 }

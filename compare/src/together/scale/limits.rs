@@ -1,15 +1,21 @@
 //! 01's limits: each with one below and one above.
 
 use super::Sink;
-use crate::farm::{grid, record, rows};
+use crate::farm::{grid, record, rows, Farm};
+use crate::former;
+use crate::generate::{self, LENGTHS, LISTED, PLACES};
+use crate::generate_wide::{self, wide_fields, Wide};
 use crate::grids::needed;
-use crate::limits::SIDE;
+use crate::limits::{CELLS, SIDE};
 use crate::together::call::{Call, Sides, Spacing, Step, LENT_NUMBER};
 use crate::together::speed::{bent, even, seams, straight};
 
 pub fn all(sink: Sink) -> Result<(), String> {
     regions_and_edges(sink)?;
     sides(sink)?;
+    list_lengths(sink)?;
+    wide(sink)?;
+    last_places(sink)?;
     counts_and_moves(sink)?;
     search(sink)?;
     curve_points(sink)?;
@@ -64,20 +70,56 @@ fn regions_and_edges(sink: Sink) -> Result<(), String> {
     Ok(())
 }
 
-/// 15, 16 and 17 edges on a side; a side of 17 has its last edge where the next side begins.
+/// Edges of a side about as many as it has places, and as it had before; with more than that the records are longer than they may be.
 fn sides(sink: Sink) -> Result<(), String> {
-    for edges in [14, 15, 16, 17, 18] {
-        let bottom: Vec<u32> = (0..=edges).collect();
-        let mut farm = rows(&[vec![0, edges]]);
-        let long = rows(&[bottom, vec![0, edges]]);
+    for edges in [former::PLACES, PLACES].into_iter().flat_map(|places| places - 2..=places + 2) {
+        let bottom: Vec<u32> = (0..=edges.into()).collect();
+        let mut farm = rows(&[vec![0, edges.into()]]);
+        let long = rows(&[bottom, vec![0, edges.into()]]);
         solver_calls(sink, &long.regions, long.edges)?;
         for side in 0..4 {
-            farm.regions[SIDE * side] = edges as u16;
+            farm.regions[SIDE * side] = edges;
             solver_calls(sink, &farm.regions, farm.edges)?;
             farm.regions[SIDE * side] = 1;
         }
     }
     Ok(())
+}
+
+/// Lists about as long as one record and two, of now and of before; an old caller's lists.
+fn list_lengths(sink: Sink) -> Result<(), String> {
+    for regions in generate::list_lengths() {
+        solver_calls(sink, &regions, LISTED)?;
+    }
+    for length in LENGTHS {
+        let mut numbers = record([&[0], &[1], &[2], &[3]]).repeat(2);
+        numbers.truncate(length);
+        let breaks: Sides = std::array::from_fn(|_| vec![0.0, 1.0]);
+        sink(Call::Lay { record: numbers, counts: vec![2; 4], breaks, curves: bent(4), out: 32 })?;
+    }
+    Ok(())
+}
+
+/// Fields of many regions or many edges with wide sides.
+fn wide(sink: Sink) -> Result<(), String> {
+    for Wide { farm: Farm { regions, edges }, limits, ideals } in wide_fields() {
+        let any: Vec<f64> = (0..edges).map(|edge| 0.6 + (edge % 7) as f64 * 0.7).collect();
+        let steps = limits.iter().flat_map(|&limit| both_kinds(any.clone(), 1.3).map(|spacing| Step::new(spacing, limit)));
+        let steps: Vec<Step> = steps.collect();
+        for count in [0, 1, 2] {
+            sink(Call::Rounds { regions: regions.clone(), counts: vec![count; edges], steps: steps.clone() })?;
+            sink(Call::Hold { regions: regions.clone(), counts: vec![count; edges] })?;
+        }
+        for spacing in ideals.into_iter().flat_map(|ideals| both_kinds(ideals, 1.05)) {
+            sink(Call::Solve { regions: regions.clone(), spacing, counts: lent(edges) })?;
+        }
+    }
+    Ok(())
+}
+
+/// Faults in the last place of a wide side.
+fn last_places(sink: Sink) -> Result<(), String> {
+    generate_wide::last_places().into_iter().try_for_each(|(regions, edges, _)| solver_calls(sink, &regions, edges))
 }
 
 fn counts_and_moves(sink: Sink) -> Result<(), String> {
@@ -113,9 +155,19 @@ fn search(sink: Sink) -> Result<(), String> {
             sink(Call::Round { regions: vec![], counts: vec![], step: Step::new(spacing, limit) })?;
         }
     }
-    // Two regions with 16 edges on each side between them: searches of many entries, limits on both sides of their number.
-    let wide = rows(&[vec![0, 16], (0..=16).collect(), vec![0, 16]]);
-    for limit in [200, 271, 272, 273, 274, 289, 290, 1000, 5000] {
+    between(sink, former::PLACES.into(), &[200, 271, 272, 273, 274, 289, 290, 1000, 5000])?;
+    for edges in [former::PLACES, PLACES].map(u32::from) {
+        // From a level line of the row: itself, all other ways through one of the regions, and on through the other one.
+        let entries = edges * edges + 3 * edges;
+        between(sink, edges, &[entries - edges, entries - edges + 1, entries - 1, entries, entries + 1])?;
+    }
+    Ok(())
+}
+
+/// Two regions with a row of so many between them: searches of many entries, limits on both sides of their number.
+fn between(sink: Sink, edges: u32, limits: &[u32]) -> Result<(), String> {
+    let wide = rows(&[vec![0, edges], (0..=edges).collect(), vec![0, edges]]);
+    for &limit in limits {
         let ideals = (0..wide.edges).map(|edge| 1.0 + (edge % 7) as f64 * 0.3).collect();
         for step in both_kinds(ideals, 1.1).map(|spacing| Step::new(spacing, limit)) {
             sink(Call::Round { regions: wide.regions.clone(), counts: vec![1; wide.edges], step })?;
@@ -221,7 +273,7 @@ fn loops(sink: Sink) -> Result<(), String> {
     Ok(())
 }
 
-/// Sums of counts at 1,024, sides of 16 edges, 255 to 257 counts.
+/// Sums of counts at 1,024, wide sides, 255 to 257 counts.
 fn lay(sink: Sink) -> Result<(), String> {
     for sum in [1022, 1023, 1024, 1025] {
         for long in 0..4 {
@@ -236,22 +288,36 @@ fn lay(sink: Sink) -> Result<(), String> {
         let breaks: Sides = std::array::from_fn(|_| vec![0.0, 1.0]);
         sink(Call::Lay { record, counts: vec![2; length], breaks, curves: bent(4), out: 32 })?;
     }
-    for edges in [15, 16, 17] {
+    for places in [former::PLACES, PLACES] {
+        wide_lay(sink, places)?;
+        same_count(sink, places)?;
+    }
+    Ok(())
+}
+
+/// Sides of so many edges, one less and one more: where that is more than there are places, one side's number alone.
+fn wide_lay(sink: Sink, places: u16) -> Result<(), String> {
+    for edges in [places - 1, places, places + 1] {
         let side: Vec<u16> = (0..edges).collect();
         let mut numbers = record([&[0], &[1], &[2], &[3]]);
-        if edges <= 16 {
+        if edges <= PLACES {
             numbers = record([&side; 4]);
         } else {
             numbers[2 * SIDE] = edges;
         }
-        let breaks: Sides = std::array::from_fn(|_| even(usize::from(edges)));
+        let breaks: Sides = std::array::from_fn(|_| even(edges.into()));
         let needed = 8 * usize::from(edges) * usize::from(edges);
-        sink(Call::Lay { record: numbers, counts: vec![1; 16], breaks, curves: bent(4), out: needed })?;
+        sink(Call::Lay { record: numbers, counts: vec![1; edges.max(places).into()], breaks, curves: bent(4), out: needed })?;
     }
-    // 16 times the largest count: the sum is over 32 bits.
-    let record = record([&[0; 16]; 4]);
-    for count in [0, 63, 64, 65, 1 << 28, u32::MAX] {
-        let breaks: Sides = std::array::from_fn(|_| even(16));
+    Ok(())
+}
+
+/// One edge so many times on each side, with counts up to the largest: the sum is up to 1,024, one more, just 2^32, over 32 bits.
+fn same_count(sink: Sink, times: u16) -> Result<(), String> {
+    let record = record([&vec![0; times.into()]; 4]);
+    let most = CELLS / u32::from(times);
+    for count in [0, most - 1, most, most + 1, u32::MAX / u32::from(times) + 1, u32::MAX] {
+        let breaks: Sides = std::array::from_fn(|_| even(times.into()));
         sink(Call::Lay { record: record.clone(), counts: vec![count], breaks, curves: bent(4), out: 0 })?;
     }
     Ok(())

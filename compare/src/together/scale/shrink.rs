@@ -1,5 +1,6 @@
 //! The smallest form of a call that differs: as long as a simpler call differs too, that one is taken.
 
+use crate::generate::PLACES;
 use crate::limits::{RECORD, SIDE};
 use crate::together::call::{difference, Call, Spacing, Step};
 use crate::together::expected;
@@ -17,8 +18,7 @@ pub fn smallest(call: Call, has: impl Fn(&Call) -> bool) -> Call {
     let mut call = call;
     let mut tries = 0;
     while tries < TRIES {
-        let simpler = simpler(&call);
-        let Some(next) = simpler.into_iter().inspect(|_| tries += 1).find(&has) else {
+        let Some(next) = simpler(&call).inspect(|_| tries += 1).find(&has) else {
             break;
         };
         call = next;
@@ -26,18 +26,14 @@ pub fn smallest(call: Call, has: impl Fn(&Call) -> bool) -> Call {
     call
 }
 
-/// Calls that are simpler in one place, the boldest first.
-fn simpler(call: &Call) -> Vec<Call> {
-    let mut found = Vec::new();
-    rounds(call, &mut found);
-    regions(call, &mut found);
-    edges(call, &mut found);
-    points(call, &mut found);
-    seams(call, &mut found);
-    breaks(call, &mut found);
-    sizes(call, &mut found);
-    values(call, &mut found);
-    found
+/// Calls that are simpler in one place, the boldest first. Those of a kind are made when their turn comes: of many regions they are many.
+fn simpler(call: &Call) -> impl Iterator<Item = Call> + '_ {
+    let kinds = [rounds, regions, sides, places, edges, points, seams, breaks, sizes, values];
+    kinds.into_iter().flat_map(move |kind: fn(&Call, &mut Vec<Call>)| {
+        let mut found = Vec::new();
+        kind(call, &mut found);
+        found
+    })
 }
 
 /// Parts of a list of this length that may be left out: halves, quarters, .. single ones.
@@ -84,14 +80,16 @@ fn with_records(call: &Call, change: impl FnOnce(&mut Vec<u16>)) -> Call {
     changed
 }
 
-/// Fewer regions, fewer edges on a side, zeros in the places that are not read.
 fn regions(call: &Call, found: &mut Vec<Call>) {
-    let Some(list) = records(&mut call.clone()).cloned() else {
-        return;
-    };
-    for part in parts(list.len() / RECORD) {
+    let length = records(&mut call.clone()).map_or(0, |list| list.len());
+    for part in parts(length / RECORD) {
         found.push(with_records(call, |list| drop(list.drain(part.start * RECORD..part.end * RECORD))));
     }
+}
+
+/// Fewer edges on a side, zeros in the places that are not read.
+fn sides(call: &Call, found: &mut Vec<Call>) {
+    let list = records(&mut call.clone()).cloned().unwrap_or_default();
     for start in (0..list.len() / SIDE).map(|side| side * SIDE) {
         let edges = usize::from(list[start]);
         for place in (1..=edges).filter(|_| edges < SIDE) {
@@ -104,6 +102,11 @@ fn regions(call: &Call, found: &mut Vec<Call>) {
             found.push(with_records(call, |list| list[start + 1 + edges..start + SIDE].fill(0)));
         }
     }
+}
+
+/// Lower numbers in the records.
+fn places(call: &Call, found: &mut Vec<Call>) {
+    let list = records(&mut call.clone()).cloned().unwrap_or_default();
     for index in (0..list.len()).filter(|&index| list[index] > 0) {
         for lower in [0, list[index] / 2, list[index] - 1] {
             found.push(with_records(call, |list| list[index] = lower));
@@ -227,7 +230,7 @@ fn breaks(call: &Call, found: &mut Vec<Call>) {
             let mut fewer = call.clone();
             if let Call::Lay { record, breaks, .. } = &mut fewer {
                 breaks[side].remove(place);
-                if let Some(edges @ [1..=16, ..]) = record.get_mut(side * SIDE..(side + 1) * SIDE) {
+                if let Some(edges @ [1..=PLACES, ..]) = record.get_mut(side * SIDE..(side + 1) * SIDE) {
                     edges[0] -= 1;
                     edges[(place + 1).min(SIDE - 1)..].rotate_left(1);
                 }

@@ -1,11 +1,17 @@
-//! Random calls of the solver: farms of rows with T-junctions, regions put together at random, damaged ones; by ideals and within ranges.
+//! Random calls of the solver: farms of rows with T-junctions, regions put together at random, wide sides, damaged ones; by ideals and
+//! within ranges.
 
 use crate::farm::{cut_rows, lists, record, rows, Farm};
+use crate::former;
+use crate::generate::PLACES;
 use crate::limits::{RECORD, SIDE};
 use crate::together::call::{Call, Spacing, Step, LENT_NUMBER};
 use crate::together::random::Random;
 
 pub fn call(random: &mut Random) -> Call {
+    if random.chance(128) {
+        return wide_call(random);
+    }
     let mut farm = farm(random);
     let edges = farm.edges;
     if random.chance(4) {
@@ -34,6 +40,30 @@ pub fn call(random: &mut Random) -> Call {
     }
 }
 
+/// A call on wide sides. Searches through them have many ways on, so limits are low, and in a solve few edges want a count.
+fn wide_call(random: &mut Random) -> Call {
+    let what = random.below(8);
+    let mut farm = if what < 5 { wide_region(random) } else { wide_lines(random) };
+    let edges = farm.edges;
+    if random.chance(4) {
+        damage_records(random, &mut farm.regions, edges);
+    }
+    let regions = farm.regions;
+    match what {
+        0 => Call::Solve { regions, spacing: few(random, edges), counts: lent(random, edges) },
+        1..=5 => {
+            let counts = counts(random, edges);
+            Call::Round { regions, counts, step: low_step(random, edges) }
+        }
+        6 => {
+            let counts = counts(random, edges);
+            let steps = (0..random.within(1, 3)).map(|_| low_step(random, edges)).collect();
+            Call::Rounds { regions, counts, steps }
+        }
+        _ => Call::Hold { regions, counts: counts(random, edges) },
+    }
+}
+
 // ------------------------------------------------------------------------------------------------------------------------------------
 // Regions
 // ------------------------------------------------------------------------------------------------------------------------------------
@@ -57,7 +87,7 @@ fn row_farm(random: &mut Random) -> Farm {
 
 /// Two or three regions above each other with many edges between them.
 fn column(random: &mut Random) -> Farm {
-    let edges = random.within(4, 16);
+    let edges = random.within(4, former::PLACES.into());
     let whole: Vec<u32> = vec![0, edges];
     let cut: Vec<u32> = (0..=edges).collect();
     if random.chance(2) {
@@ -66,6 +96,45 @@ fn column(random: &mut Random) -> Farm {
     let bottom: Vec<u16> = (0..edges as u16).collect();
     let top: Vec<u16> = (edges as u16..2 * edges as u16).collect();
     Farm { regions: record([&bottom, &[], &top, &[]]), edges: 2 * edges as usize }
+}
+
+/// More edges on a side than there were places before, up to as many as there are.
+fn wide(random: &mut Random) -> usize {
+    random.within(u32::from(former::PLACES) + 1, PLACES.into()) as usize
+}
+
+/// This many edges on each of some sides, in any order.
+fn dealt(random: &mut Random, sides: &[usize]) -> Vec<Vec<u16>> {
+    let mut edges: Vec<u16> = (0..sides.iter().sum::<usize>() as u16).collect();
+    for last in (1..edges.len()).rev() {
+        edges.swap(last, random.below(last as u32 + 1) as usize);
+    }
+    sides.iter().map(|&number| edges.drain(..number).collect()).collect()
+}
+
+/// One region with one wide side or more, at any place.
+fn wide_region(random: &mut Random) -> Farm {
+    let mut sides = [(); 4].map(|()| if random.chance(5) { wide(random) } else { random.below(4) as usize });
+    sides[random.below(4) as usize] = wide(random);
+    let four = dealt(random, &sides);
+    Farm { regions: record(std::array::from_fn(|side| &four[side][..])), edges: sides.iter().sum() }
+}
+
+/// Regions one above the other or side by side, with wide lines between some of them.
+fn wide_lines(random: &mut Random) -> Farm {
+    let lines: Vec<usize> =
+        (0..random.within(2, 5)).map(|_| if random.chance(3) { wide(random) } else { random.within(1, 3) as usize }).collect();
+    let lines = dealt(random, &lines);
+    let upright = random.chance(2);
+    let region = |pair: &[Vec<u16>]| {
+        let [first, second]: [&[u16]; 2] = [&pair[0], &pair[1]];
+        if upright {
+            record([&[], second, &[], first])
+        } else {
+            record([first, &[], second, &[]])
+        }
+    };
+    Farm { regions: lines.windows(2).flat_map(region).collect(), edges: lines.concat().len() }
 }
 
 /// A small farm of rows with edges that no region has.
@@ -111,10 +180,13 @@ fn damage_once(random: &mut Random, regions: &mut Vec<u16>, edges: u16) {
     let start = random.below(sides) as usize * SIDE;
     match random.below(8) {
         0 => drop(regions.pop()),
-        1 => regions.extend((0..random.within(1, 69)).map(|_| 0)),
-        2 => regions[start] = random.pick(&[0, 1, 15, 16, 17, 18, u16::MAX]),
+        1 => regions.extend((0..random.within(1, RECORD as u32 + 1)).map(|_| 0)),
+        2 => {
+            let border = random.pick(&[former::PLACES, PLACES]);
+            regions[start] = random.pick(&[0, 1, border - 1, border, border + 1, border + 2, u16::MAX]);
+        }
         3 => {
-            let place = start + 1 + random.below(3) as usize;
+            let place = start + 1 + random.below(regions[start].clamp(3, PLACES).into()) as usize;
             regions[place] = random.pick(&[edges, edges.saturating_sub(1), 255, 256, u16::MAX]);
         }
         4 => {
@@ -216,6 +288,20 @@ fn spacing(random: &mut Random, mode: Ideals, edges: usize) -> Spacing {
     Spacing::Within { least, most }
 }
 
+/// Hardly an edge is wanted: at most one in eight gains anything by its first +1.
+fn few(random: &mut Random, edges: usize) -> Spacing {
+    let wanted = |random: &mut Random| {
+        let values: [f64; 3] = if random.chance(8) { [0.75, 1.0, 2.0] } else { [0.25, 0.45, 0.499] };
+        random.pick(&values)
+    };
+    let least: Vec<f64> = (0..edges).map(|_| wanted(random)).collect();
+    if random.chance(2) {
+        return Spacing::Ideals(least);
+    }
+    let most = least.iter().map(|&least| if least < 0.5 { least } else { upper(random, 5, least) }).collect();
+    Spacing::Within { least, most }
+}
+
 /// A most for this least: equal, the next f64, a bit or much higher, anything, of one kind or each of its own.
 fn upper(random: &mut Random, kind: u32, least: f64) -> f64 {
     let kind = if kind == 5 { random.below(5) } else { kind };
@@ -283,6 +369,13 @@ fn step(random: &mut Random, edges: usize) -> Step {
         6 => 100_000,
         _ => random.pick(&[0, 1, 99_999, 100_000, 100_001, u32::MAX]),
     };
+    let mode = any_mode(random);
+    Step::new(spacing(random, mode, edges), limit)
+}
+
+/// A limit up to about as many edges as two wide sides have.
+fn low_step(random: &mut Random, edges: usize) -> Step {
+    let limit = random.below(2 * u32::from(PLACES) + 4);
     let mode = any_mode(random);
     Step::new(spacing(random, mode, edges), limit)
 }
