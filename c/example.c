@@ -1,5 +1,5 @@
-/* Calls the library from C: cases of the bench table, counts within ranges, a full side, records of before, a grid, a lay, a mesh, refusals,
- * and the borders that the header guards. What it prints is compared with the file `expected`. */
+/* Calls the library from C: cases of the bench table, counts within ranges, a full side, records of before, a grid, a lay, a mesh,
+ * refusals, and the borders that the header guards. What it prints is compared with the file `expected`. */
 #include "../include/juplatsk.h"
 
 #include <math.h>
@@ -123,8 +123,9 @@ static void full_side(void)
     tell("hold", jp_constraints_hold(region, JP_RECORD, counts, JP_PLACES + 1, answer), answer, 3);
 }
 
-/* Records of version 0.2.0, with 16 places on a side: ([0], [], [1], []), and 32 without an edge. One of them is no whole record. All 33 are as
- * long as 17 new ones, and read so the first has nothing opposite edge 0: only the version keeps such a list away. */
+/* Records of version 0.2.0, with 16 places on a side: first ([], [0], [], []), then ([0], [], [1], []), each with 32 more that have no
+ * edge. One of them is no whole record. All 33 are as long as 17 new ones, and are read so: then no region names edge 0, or nothing stands
+ * opposite it. Only the version keeps such lists away. */
 static void records_of_before(void)
 {
     enum { OLD_SIDE = 1 + 16, OLD_RECORD = JP_SIDES * OLD_SIDE };
@@ -132,6 +133,10 @@ static void records_of_before(void)
     uint16_t old[33 * OLD_RECORD] = {0};
     uint32_t counts[2] = {9, 9};
     uint32_t answer[3];
+    old[OLD_SIDE] = 1;
+    tell("33 records of before, one edge", jp_solve_counts(old, LENGTH(old), wanted, 1, counts, 1, answer), answer, 3);
+    tell_counts(counts, 2);
+    old[OLD_SIDE] = 0;
     old[0] = 1;
     old[2 * OLD_SIDE] = 1;
     old[2 * OLD_SIDE + 1] = 1;

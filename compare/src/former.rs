@@ -25,8 +25,8 @@ pub fn row(regions: usize, rest: u16) -> Vec<u16> {
     (0..regions as u16).flat_map(|i| record([&[], &[i + 1], &[], &[i]], rest)).collect()
 }
 
-/// A list of such records in those of today, to the same answers: a side's number that was too large is so by as much, and what stood
-/// behind the last whole record stands there still.
+/// A list of such records in those of today, to the same answers: a side's number that was too large is so by as much, or is the
+/// largest that there is, and what stood behind the last whole record stands there still.
 pub fn repacked(list: &[u16]) -> Vec<u16> {
     let (records, rest) = list.split_at(list.len() / RECORD * RECORD);
     let more = limits::SIDE_EDGES as u16 - PLACES;

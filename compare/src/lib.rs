@@ -3,14 +3,14 @@
 //!
 //! - `reach`: the private parts of the published solver, and its round with `max_expansions` set.
 //! - `refusal`: the Rust's error messages as 01's numbers and places.
-//! - `limits`: 01's limits, which the Rust does not have.
+//! - `limits`: 01's and 02's limits, which the Rust does not have; `former`: the record with 16 places a side.
 //! - `solver`, `geometry`: an operation a function, on plain lists.
 //! - `words`, `case`: cases and answers as text.
 //! - `farm`: records, and farms made of rows.
 //! - `lay`: 01's lay, which the Rust does not have.
 //! - `ranges`: a plain model of rounds and solves within ranges, which the Rust does not have.
 //! - `stored`, `grids`: stored cases of the solver and of geometry; `json`, `vector`: from the vectors; `dice`, `generate`,
-//!   `generate_geometry`, `generate_ranges`: made here; `pack`: as bytes (src/bin/stored.rs).
+//!   `generate_wide`, `generate_geometry`, `generate_ranges`: made here; `pack`: as bytes (src/bin/stored.rs).
 //! - `tool`: how a tool ends.
 
 include!(concat!(env!("OUT_DIR"), "/published.rs"));

@@ -16,9 +16,9 @@ fn square() -> BoundaryCurves {
     BoundaryCurves { bottom: side(|t| [t, 0.0]), right: side(|t| [1.0, t]), top: side(|t| [1.0 - t, 1.0]), left: side(|t| [0.0, 1.0 - t]) }
 }
 
-/// 128 regions with 256 edges in one chain, so that a search may go through all of them.
-fn chain() -> Vec<Region> {
-    (0..128).map(|k| Region::new([vec![2 * k, 2 * k + 1], vec![], vec![(2 * k + 2) % 256, (2 * k + 3) % 256], vec![]])).collect()
+/// 128 regions whose 256 constraints join 256 edges in one ring, so that a search goes through all of them.
+fn ring() -> Vec<Region> {
+    (0..128).map(|k| Region::new([vec![2 * k], vec![2 * k + 1], vec![2 * k + 1], vec![(2 * k + 2) % 256]])).collect()
 }
 
 #[test]
@@ -26,10 +26,13 @@ fn solver() {
     in_a_small_thread(|| {
         let ideals = [2.0; 256];
         let mut counts = [0; 256];
-        assert!(round(&chain(), &ideals, &mut counts, 1000).unwrap().cost.is_some());
-        assert!(round_within(&chain(), &vec![2.0..=3.0; 256], &mut counts, 1000).is_ok());
-        assert_eq!(solve_counts(&[], &ideals), Ok(vec![2; 256]));
-        assert_eq!(constraints_hold(&chain(), &counts), Ok(true));
+        assert!(round(&ring(), &ideals, &mut counts, 1000).unwrap().cost.is_some());
+        assert_eq!(counts, [1; 256]);
+        assert!(round_within(&ring(), &vec![2.0..=3.0; 256], &mut counts, 1000).unwrap().cost.is_some());
+        assert_eq!(counts, [2; 256]);
+        assert_eq!(solve_counts(&ring(), &ideals), Ok(vec![2; 256]));
+        assert_eq!(solve_counts_within(&ring(), &vec![2.0..=3.0; 256]), Ok(vec![2; 256]));
+        assert_eq!(constraints_hold(&ring(), &counts), Ok(true));
     });
 }
 

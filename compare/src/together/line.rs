@@ -1,4 +1,4 @@
-//! A call and its effect as a line of the vectors' format (the README of the vectors has it), read and written.
+//! A call and its effect as a line of the vectors' format (the README of the vectors of 01 has it), read and written.
 
 use super::call::{Call, Effect, Sides, Spacing, Step, LENT_FLOAT, LENT_NUMBER};
 use crate::json::{parse, Json};

@@ -9,7 +9,7 @@ use counts::answer::RoundAnswer;
 use counts::answer::SolveAnswer;
 use regions::region::RECORD_SIZE;
 
-// The longest lists of any case: 130 records, 320 edges.
+// Room for 130 records and 320 edges; no case has more.
 const RECORDS: usize = 130 * RECORD_SIZE;
 
 const EDGES: usize = 320;

@@ -1,4 +1,4 @@
-//! 01's limits: each with one below and one above.
+//! 01's and 02's limits: each with one below and one above.
 
 use super::Sink;
 use crate::farm::{grid, record, rows, Farm};
