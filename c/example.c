@@ -1,5 +1,5 @@
-/* Calls the library from C: cases of the bench table, counts within ranges, a full side, records of before, a grid, a lay, a mesh,
- * refusals, and the borders that the header guards. What it prints is compared with the file `expected`. */
+/* Calls the library from C: cases of the bench table, counts within ranges, search limits, a full side, records of before, a grid, a lay, a
+ * mesh, refusals, and the borders that the header guards. What it prints is compared with the file `expected`. */
 #include "../include/juplatsk.h"
 
 #include <math.h>
@@ -66,15 +66,15 @@ static void solver(void)
     uint32_t answer[4];
     double value[1];
     farm(regions);
-    tell("A", jp_solve_counts(regions, LENGTH(regions), ideals, 7, counts, 8, answer), answer, 3);
+    tell("A", jp_solve_counts(regions, LENGTH(regions), ideals, 7, counts, 8, jp_limit_expansions(100000), answer), answer, 3);
     tell_counts(counts, 8);
     tell("hold", jp_constraints_hold(regions, LENGTH(regions), counts, 7, answer), answer, 3);
     tell("energy", jp_energy(counts, 7, ideals, 7, answer, value), answer, 2);
     tell_values("sum", value, 1);
-    tell("round", jp_round(regions, LENGTH(regions), ideals, 7, counts, 7, 100000, answer, value), answer, 4);
+    tell("round", jp_round(regions, LENGTH(regions), ideals, 7, counts, 7, jp_limit_expansions(100000), answer, value), answer, 4);
     counts[0] = 0;
-    tell("K, limit 0", jp_round(NULL, 0, ideals, 1, counts, 1, 0, answer, value), answer, 4);
-    tell("K, limit 1", jp_round(NULL, 0, ideals, 1, counts, 1, 1, answer, value), answer, 4);
+    tell("K, limit 0", jp_round(NULL, 0, ideals, 1, counts, 1, jp_limit_expansions(0), answer, value), answer, 4);
+    tell("K, limit 1", jp_round(NULL, 0, ideals, 1, counts, 1, jp_limit_expansions(1), answer, value), answer, 4);
     tell_values("cost", value, 1);
     tell_counts(counts, 1);
 }
@@ -85,21 +85,121 @@ static void ranges(void)
     static const double least[4] = {2, 1, 3, 1};
     static const double most[4] = {5, 4, 4, 4};
     static const double reversed[4] = {2, 1, 5, 1};
+    const jp_search_limit limit = jp_limit_default();
     uint16_t regions[2 * JP_RECORD];
     uint32_t counts[5] = {9, 9, 9, 9, 9};
     uint32_t answer[4];
     double cost[1];
     farm(regions);
-    tell("within ranges", jp_solve_counts_within(regions, JP_RECORD, least, 4, most, 4, counts, 5, answer), answer, 3);
+    tell("within ranges", jp_solve_counts_within(regions, JP_RECORD, least, 4, most, 4, counts, 5, limit, answer), answer, 3);
     tell_counts(counts, 5);
     counts[0] = counts[2] = 2;
-    tell("round within ranges", jp_round_within(regions, JP_RECORD, least, 4, most, 4, counts, 4, 100000, answer, cost), answer, 4);
+    tell("round within ranges", jp_round_within(regions, JP_RECORD, least, 4, most, 4, counts, 4, limit, answer, cost), answer, 4);
     tell_values("cost", cost, 1);
     tell_counts(counts, 5);
-    tell("edge 2 from 5 to 4", jp_solve_counts_within(regions, JP_RECORD, reversed, 4, most, 4, counts, 5, answer), answer, 3);
-    tell("so in a round", jp_round_within(regions, JP_RECORD, reversed, 4, most, 4, counts, 4, 100000, answer, cost), answer, 4);
-    tell("edge 3 without a most", jp_solve_counts_within(regions, JP_RECORD, least, 4, most, 3, counts, 5, answer), answer, 3);
+    tell("edge 2 from 5 to 4", jp_solve_counts_within(regions, JP_RECORD, reversed, 4, most, 4, counts, 5, limit, answer), answer, 3);
+    tell("so in a round", jp_round_within(regions, JP_RECORD, reversed, 4, most, 4, counts, 4, limit, answer, cost), answer, 4);
+    tell("edge 3 without a most", jp_solve_counts_within(regions, JP_RECORD, least, 4, most, 3, counts, 5, limit, answer), answer, 3);
     tell_counts(counts, 5);
+}
+
+/* The four functions that search, each with this limit, on two edges that lie in no region. The third count is past the needed ones. */
+static void with_limit(const char *name, jp_search_limit limit)
+{
+    static const double wanted[2] = {2, 3};
+    uint32_t solved[3] = {9, 9, 9}, within[3] = {9, 9, 9};
+    uint32_t moved[3] = {0, 0, 9}, moved_within[3] = {0, 0, 9};
+    uint32_t answer[4];
+    double cost[1];
+    printf("%s\n", name);
+    tell("solve", jp_solve_counts(NULL, 0, wanted, 2, solved, 3, limit, answer), answer, 3);
+    tell_counts(solved, 3);
+    tell("solve within ranges", jp_solve_counts_within(NULL, 0, wanted, 2, wanted, 2, within, 3, limit, answer), answer, 3);
+    tell_counts(within, 3);
+    tell("round", jp_round(NULL, 0, wanted, 2, moved, 2, limit, answer, cost), answer, 4);
+    tell_counts(moved, 3);
+    tell("round within ranges", jp_round_within(NULL, 0, wanted, 2, wanted, 2, moved_within, 2, limit, answer, cost), answer, 4);
+    tell_counts(moved_within, 3);
+}
+
+/* A limit may be stated or not. 0 is stated: no search finds anything. What is above 100,000 is refused, and the counts stay. */
+static void limits(void)
+{
+    const jp_search_limit all_zero = {0};
+    with_limit("no limit stated", jp_limit_default());
+    with_limit("all zero", all_zero);
+    with_limit("limit 0", jp_limit_expansions(0));
+    with_limit("limit 100,000", jp_limit_expansions(100000));
+    with_limit("limit 100,001", jp_limit_expansions(100001));
+    with_limit("limit 2^32", jp_limit_expansions((uint64_t)1 << 32));
+}
+
+/* A limit of 100,001 with a second fault: 10 comes behind 1 (a record that is cut off), and before 8, 11, 2 and 35. */
+static void limit_and_more(void)
+{
+    static const double bad[2] = {2, -1};
+    static const double least[2] = {2, 3};
+    static const double most[2] = {2, 1};
+    const jp_search_limit over = jp_limit_expansions(100001);
+    const uint16_t cut[JP_RECORD - 1] = {0};
+    uint32_t counts[2] = {9, 9};
+    uint32_t answer[4];
+    double cost[1];
+    tell("solve, cut record", jp_solve_counts(cut, LENGTH(cut), bad, 2, counts, 2, over, answer), answer, 3);
+    tell("solve, short counts", jp_solve_counts(NULL, 0, bad, 2, counts, 1, over, answer), answer, 3);
+    tell("solve, bad ideal", jp_solve_counts(NULL, 0, bad, 2, counts, 2, over, answer), answer, 3);
+    tell("within ranges, cut record", jp_solve_counts_within(cut, LENGTH(cut), least, 2, most, 2, counts, 2, over, answer), answer, 3);
+    tell("within ranges, short most", jp_solve_counts_within(NULL, 0, least, 2, most, 1, counts, 2, over, answer), answer, 3);
+    tell("within ranges, short counts", jp_solve_counts_within(NULL, 0, least, 2, most, 2, counts, 1, over, answer), answer, 3);
+    tell("within ranges, bad least", jp_solve_counts_within(NULL, 0, bad, 2, most, 2, counts, 2, over, answer), answer, 3);
+    tell("within ranges, edge 1 reversed", jp_solve_counts_within(NULL, 0, least, 2, most, 2, counts, 2, over, answer), answer, 3);
+    tell("round, cut record", jp_round(cut, LENGTH(cut), bad, 2, counts, 2, over, answer, cost), answer, 4);
+    tell("round, short counts", jp_round(NULL, 0, bad, 2, counts, 1, over, answer, cost), answer, 4);
+    tell("round, bad ideal", jp_round(NULL, 0, bad, 2, counts, 2, over, answer, cost), answer, 4);
+    tell("round within ranges, cut record", jp_round_within(cut, LENGTH(cut), least, 2, most, 2, counts, 2, over, answer, cost), answer, 4);
+    tell("round within ranges, short most", jp_round_within(NULL, 0, least, 2, most, 1, counts, 2, over, answer, cost), answer, 4);
+    tell("round within ranges, bad least", jp_round_within(NULL, 0, bad, 2, most, 2, counts, 2, over, answer, cost), answer, 4);
+    tell("round within ranges, edge 1 reversed", jp_round_within(NULL, 0, least, 2, most, 2, counts, 2, over, answer, cost), answer, 4);
+    tell_counts(counts, 2);
+}
+
+/* Nine strips side by side, whose ten borders have 25 edges. The last edge of each border wants one piece, the others a fifth of one. One
+ * move pays, through the last edges, and a search comes to it behind all others: from the left end as its expansion 10,935, from the right
+ * end later still. So a solve without a stated limit makes no move; a round after it, with the same limit, tells that a search was cut. */
+static void nine_strips(void)
+{
+    enum { STRIPS = 9, EDGES = 25 };
+    static const uint16_t on_border[STRIPS + 1] = {1, 2, 3, 3, 3, 3, 3, 3, 3, 1};
+    const jp_search_limit high = jp_limit_expansions(100000);
+    uint16_t regions[STRIPS * JP_RECORD] = {0};
+    uint16_t edges[EDGES];
+    double wanted[EDGES];
+    uint32_t counts[EDGES];
+    uint32_t answer[4];
+    double cost[1];
+    size_t border, i, first = 0;
+    for (i = 0; i < EDGES; i++) {
+        edges[i] = (uint16_t)i;
+        wanted[i] = 0.2;
+    }
+    for (border = 0; border <= STRIPS; border++) {
+        if (border > 0) {
+            jp_set_side(regions + (border - 1) * JP_RECORD, 1, edges + first, on_border[border]);
+        }
+        if (border < STRIPS) {
+            jp_set_side(regions + border * JP_RECORD, 3, edges + first, on_border[border]);
+        }
+        first += on_border[border];
+        wanted[first - 1] = 1;
+    }
+    tell("nine strips", jp_solve_counts(regions, LENGTH(regions), wanted, EDGES, counts, EDGES, jp_limit_default(), answer), answer, 3);
+    tell_counts(counts, EDGES);
+    tell("hold", jp_constraints_hold(regions, LENGTH(regions), counts, EDGES, answer), answer, 3);
+    tell("round", jp_round(regions, LENGTH(regions), wanted, EDGES, counts, EDGES, jp_limit_default(), answer, cost), answer, 4);
+    tell("limit 100,000", jp_solve_counts(regions, LENGTH(regions), wanted, EDGES, counts, EDGES, high, answer), answer, 3);
+    tell_counts(counts, EDGES);
+    tell("hold", jp_constraints_hold(regions, LENGTH(regions), counts, EDGES, answer), answer, 3);
+    tell("round", jp_round(regions, LENGTH(regions), wanted, EDGES, counts, EDGES, high, answer, cost), answer, 4);
 }
 
 /* As many edges along the bottom as a side has places, opposite one edge that is to have as many pieces as all of them. */
@@ -118,7 +218,8 @@ static void full_side(void)
     wanted[JP_PLACES] = JP_PLACES;
     jp_set_side(region, 0, edges, JP_PLACES);
     one_edge(region, 2, JP_PLACES);
-    tell("a full side", jp_solve_counts(region, JP_RECORD, wanted, JP_PLACES + 1, counts, JP_PLACES + 1, answer), answer, 3);
+    tell("a full side", jp_solve_counts(region, JP_RECORD, wanted, JP_PLACES + 1, counts, JP_PLACES + 1, jp_limit_default(), answer),
+         answer, 3);
     tell_counts(counts, JP_PLACES + 1);
     tell("hold", jp_constraints_hold(region, JP_RECORD, counts, JP_PLACES + 1, answer), answer, 3);
 }
@@ -130,19 +231,20 @@ static void records_of_before(void)
 {
     enum { OLD_SIDE = 1 + 16, OLD_RECORD = JP_SIDES * OLD_SIDE };
     static const double wanted[2] = {3, 3};
+    const jp_search_limit limit = jp_limit_default();
     uint16_t old[33 * OLD_RECORD] = {0};
     uint32_t counts[2] = {9, 9};
     uint32_t answer[3];
     old[OLD_SIDE] = 1;
-    tell("33 records of before, one edge", jp_solve_counts(old, LENGTH(old), wanted, 1, counts, 1, answer), answer, 3);
+    tell("33 records of before, one edge", jp_solve_counts(old, LENGTH(old), wanted, 1, counts, 1, limit, answer), answer, 3);
     tell_counts(counts, 2);
     old[OLD_SIDE] = 0;
     old[0] = 1;
     old[2 * OLD_SIDE] = 1;
     old[2 * OLD_SIDE + 1] = 1;
-    tell("one record of before", jp_solve_counts(old, OLD_RECORD, wanted, 2, counts, 2, answer), answer, 3);
+    tell("one record of before", jp_solve_counts(old, OLD_RECORD, wanted, 2, counts, 2, limit, answer), answer, 3);
     tell_counts(counts, 2);
-    tell("33 records of before", jp_solve_counts(old, LENGTH(old), wanted, 2, counts, 2, answer), answer, 3);
+    tell("33 records of before", jp_solve_counts(old, LENGTH(old), wanted, 2, counts, 2, limit, answer), answer, 3);
     tell_counts(counts, 2);
 }
 
@@ -186,19 +288,20 @@ static void grids(void)
 
 static void refusals(void)
 {
+    const jp_search_limit limit = jp_limit_default();
     uint16_t regions[2 * JP_RECORD];
     uint32_t counts[7] = {9, 9, 9, 9, 9, 9, 9};
     uint32_t answer[3];
     double root[1];
     double bad[7];
     farm(regions);
-    tell("cut record", jp_solve_counts(regions, JP_RECORD - 1, ideals, 7, counts, 7, answer), answer, 3);
-    tell("edge 6 without an ideal", jp_solve_counts(regions, LENGTH(regions), ideals, 6, counts, 7, answer), answer, 3);
+    tell("cut record", jp_solve_counts(regions, JP_RECORD - 1, ideals, 7, counts, 7, limit, answer), answer, 3);
+    tell("edge 6 without an ideal", jp_solve_counts(regions, LENGTH(regions), ideals, 6, counts, 7, limit, answer), answer, 3);
     memcpy(bad, ideals, sizeof bad);
     bad[3] = NAN;
-    tell("ideal 3 is a NaN", jp_solve_counts(regions, LENGTH(regions), bad, 7, counts, 7, answer), answer, 3);
+    tell("ideal 3 is a NaN", jp_solve_counts(regions, LENGTH(regions), bad, 7, counts, 7, limit, answer), answer, 3);
     one_edge(regions, 2, 0);
-    tell("G", jp_solve_counts(regions, JP_RECORD, ideals, 7, counts, 7, answer), answer, 3);
+    tell("G", jp_solve_counts(regions, JP_RECORD, ideals, 7, counts, 7, limit, answer), answer, 3);
     tell_counts(counts, 7);
     printf("root of 2: %u,", jp_root(2, root));
     printf(" %.17g\n", root[0]);
@@ -218,25 +321,26 @@ static void borders(void)
         uint32_t numbers[16];
         unsigned char bytes[2 * JP_RECORD + 2];
     } shared;
+    const jp_search_limit limit = jp_limit_default();
     uint16_t record[JP_RECORD + 3] = {1, 0};
     uint32_t counts[7] = {9, 9, 9, 9, 9, 9, 9};
     uint32_t answer[3] = {5, 5, 5};
     double sum[1] = {5};
     memset(&shared, 0, sizeof shared);
-    tell("D: no regions, no ideals, no counts", jp_solve_counts(NULL, 0, NULL, 0, NULL, 0, answer), answer, 3);
+    tell("D: no regions, no ideals, no counts", jp_solve_counts(NULL, 0, NULL, 0, NULL, 0, limit, answer), answer, 3);
     answer[0] = answer[1] = answer[2] = 5;
-    tell("NULL with a length", jp_solve_counts(NULL, JP_RECORD, ideals, 7, counts, 7, answer), answer, 3);
-    tell("NULL ideals", jp_solve_counts(NULL, 0, NULL, 7, counts, 7, answer), answer, 3);
-    tell("NULL most", jp_solve_counts_within(NULL, 0, ideals, 7, NULL, 7, counts, 7, answer), answer, 3);
-    tell("NULL counts", jp_solve_counts(NULL, 0, ideals, 7, NULL, 7, answer), answer, 3);
-    printf("NULL answer: %u\n", jp_solve_counts(NULL, 0, ideals, 7, counts, 7, NULL));
+    tell("NULL with a length", jp_solve_counts(NULL, JP_RECORD, ideals, 7, counts, 7, limit, answer), answer, 3);
+    tell("NULL ideals", jp_solve_counts(NULL, 0, NULL, 7, counts, 7, limit, answer), answer, 3);
+    tell("NULL most", jp_solve_counts_within(NULL, 0, ideals, 7, NULL, 7, counts, 7, limit, answer), answer, 3);
+    tell("NULL counts", jp_solve_counts(NULL, 0, ideals, 7, NULL, 7, limit, answer), answer, 3);
+    printf("NULL answer: %u\n", jp_solve_counts(NULL, 0, ideals, 7, counts, 7, limit, NULL));
     printf("NULL root: %u\n", jp_root(2, NULL));
     tell("odd pointer", jp_energy(counts, 7, (const double *)(const void *)(shared.bytes + 1), 7, answer, sum), answer, 2);
     tell("too long", jp_energy(counts, SIZE_MAX / 2, ideals, 7, answer, sum), answer, 2);
-    tell("counts in the ideals", jp_solve_counts(NULL, 0, shared.values, 7, shared.numbers + 13, 3, answer), answer, 3);
-    tell("counts in most", jp_solve_counts_within(NULL, 0, ideals, 7, shared.values, 7, shared.numbers + 13, 3, answer), answer, 3);
-    tell("counts after the ideals", jp_solve_counts(NULL, 0, shared.values, 1, shared.numbers + 2, 1, answer), answer, 3);
-    printf("answer in the counts: %u\n", jp_solve_counts(NULL, 0, ideals, 7, counts, 7, counts + 4));
+    tell("counts in the ideals", jp_solve_counts(NULL, 0, shared.values, 7, shared.numbers + 13, 3, limit, answer), answer, 3);
+    tell("counts in most", jp_solve_counts_within(NULL, 0, ideals, 7, shared.values, 7, shared.numbers + 13, 3, limit, answer), answer, 3);
+    tell("counts after the ideals", jp_solve_counts(NULL, 0, shared.values, 1, shared.numbers + 2, 1, limit, answer), answer, 3);
+    printf("answer in the counts: %u\n", jp_solve_counts(NULL, 0, ideals, 7, counts, 7, limit, counts + 4));
     printf("edges in their own record: %u,", jp_set_side(record, 0, record, 3));
     printf(" %u %u %u %u\n", record[0], record[1], record[2], record[3]);
     printf("edges after their record: %u\n", jp_set_side(record, 0, record + JP_RECORD, 3));
@@ -252,6 +356,9 @@ int main(void)
 {
     solver();
     ranges();
+    limits();
+    limit_and_more();
+    nine_strips();
     full_side();
     records_of_before();
     grids();

@@ -19,9 +19,10 @@ uint32_t juplatsk_root(double x, double root[1])
 }
 
 uint32_t juplatsk_solve_counts(const uint16_t *regions, size_t regions_len, const double *ideals, size_t ideals_len, uint32_t *counts,
-                               size_t counts_len, uint32_t answer[3])
+                               size_t counts_len, bool stated, uint32_t limit, uint32_t answer[3])
 {
-    (void)regions, (void)regions_len, (void)ideals, (void)ideals_len, (void)counts, (void)counts_len, (void)answer;
+    (void)regions, (void)regions_len, (void)ideals, (void)ideals_len, (void)counts, (void)counts_len, (void)stated, (void)limit;
+    (void)answer;
     abort();
 }
 
@@ -36,7 +37,7 @@ static void with_version(uint32_t version)
     printf(" root %u", jp_root(2, root));
     printf(" (%g)", root[0]);
     if (!jp_version_fits()) {
-        printf(", solve %u", jp_solve_counts(NULL, 0, ideals, 1, counts, 1, answer));
+        printf(", solve %u", jp_solve_counts(NULL, 0, ideals, 1, counts, 1, jp_limit_default(), answer));
         printf(" (%u, %u %u %u)", counts[0], answer[0], answer[1], answer[2]);
     }
     printf("\n");

@@ -10,8 +10,9 @@
  * juplatsk_NAME  the functions of the archive. Conditions, which nothing tests: the versions fit, that is, jp_version_fits() is 1; no
  *                pointer is NULL, not even with length 0; each is aligned for its type; each list lies within one object, and has less
  *                than 2^63 bytes; a list or array that is written overlaps no other one of the call. They call nothing back, keep no
- *                pointer, use no heap and no global variable, and end. Any values are fine: what is wrong with them is refused. Several
- *                threads may call at once, each with at least 256 KB of stack (rust/tests/stack.rs makes the largest calls in that).
+ *                pointer, use no heap and no global variable, and end. Any values are fine: what is wrong with them is refused; `limit` is
+ *                read only if `stated`. Several threads may call at once, each with at least 256 KB of stack (rust/tests/stack.rs makes
+ *                the largest calls in that).
  *
  * Lists
  * -----
@@ -45,6 +46,17 @@
  * 0, and no least above its most. They need not be whole, and a range need not hold a whole number. Ranges with equal ends give what
  * these ends as ideals give.
  *
+ * Search limits
+ * -------------
+ * A round looks for its move by searches, one or two from each edge, and a solve is round after round. A search goes from edge to edge, and
+ * each entry to an edge is one expansion. How many each search may make, a call is told by a jp_search_limit:
+ *   jp_limit_default()           none is stated, and it is 10,000
+ *   jp_limit_expansions(100000)  this one, from 0 to 100,000; above is refused with 10
+ * A jp_search_limit that is all zero is the default. jp_limit_expansions(0) is a limit: every search is turned back at once, and no move is
+ * made. A search that is turned back at its limit is cut: it may miss a move, or keep a dearer one. With a higher limit a call may take
+ * longer. At any limit opposite sides of a solve's counts add up to the same, and a round leaves their differences as they were. Up to
+ * version 0.3.0 every solve had 100,000: state that where the counts of then are wanted.
+ *
  * Curves
  * ------
  * A curve is a list x, y, x, y, .. of 2 to 1,024 points. bottom runs from left to right, right from bottom to top, top from right to
@@ -63,9 +75,12 @@
  *   Two tiles work out the pegs of their common edge each for itself, and the last bits may differ; a peg at half a millimetre may then be
  *     rounded up in one and down in the other. Tiles of 31.502 by 9 m above each other, four pieces: 7.875499999999998 and 7.8755.
  *     Take the pegs of a common edge from one of its tiles.
- *   On wide farms the searches of a solve are cut, edges that want many pieces may be left at 0, and the solve does not tell: 16 strips of
- *     45 by 9 m side by side, each border between two cut into 9, 9 and 27 m, leave all 15 edges of 27 m at 0. After a solve make one
- *     jp_round with limit 100,000 on the counts (jp_round_within after a solve within ranges) and look at its cut mark.
+ *   On wide farms the searches of a solve are cut, edges that want many pieces may be left at 0, and the solve does not tell: 13 strips of
+ *     45 by 9 m side by side, each border between two cut into 9, 9 and 27 m, leave all 12 edges of 27 m at 0 if no limit is stated, and
+ *     none with 100,000; 16 strips leave all 15 with either. After a solve make one jp_round on its counts with its own limit
+ *     (jp_round_within after a solve within ranges). It makes no move. If its cut mark is 0, no unit move costs less than -2e-12; if it is
+ *     1, there may be one: solve again with a higher limit, or make rounds with a higher one on these counts. Where 100,000 does not do,
+ *     compare with balanced counts of your own, for ideals by jp_energy.
  *   A loop of 8 points or more has each corner twice. If it ends just where it began, its last point is dropped: a b b c c d d a is refused
  *     with 12. Put the first point once more at the end; it counts for the limit of 4,096, so each curve then has at most 1,023 points.
  *   Far from the origin areas drown in rounding: a square of 1 m at (1e8, 1e8) is refused with 17, one of 9 m at (1e9, 1e9) cut into 10
@@ -74,6 +89,9 @@
 #ifndef JUPLATSK_H
 #define JUPLATSK_H
 
+#ifndef __cplusplus
+#include <stdbool.h>
+#endif
 #include <stddef.h>
 #include <stdint.h>
 
@@ -130,25 +148,27 @@ enum {
 
 enum { JP_SIDES = 4, JP_RECORD = JP_SIDES * (JP_PLACES + 1) };
 
-/* The version of this header, as one number JP_VERSION. A new major or minor may read lists, records or answers in another way, and is not
- * called by a header of another one; a new patch reads them as before. */
+/* The version of this header, as one number JP_VERSION. A new major or minor may take other arguments, or read lists, records or answers in
+ * another way, and is not called by a header of another one; a new patch is called and read as before. */
 #define JP_VERSION_MAJOR 0
-#define JP_VERSION_MINOR 3
+#define JP_VERSION_MINOR 4
 #define JP_VERSION_PATCH 0
 #define JP_VERSION (10000 * JP_VERSION_MAJOR + 100 * JP_VERSION_MINOR + JP_VERSION_PATCH)
 
-/* ---- the functions of the archive; their conditions stand above, and what each does stands at its jp_NAME below */
+/* ---- the functions of the archive; their conditions stand above, and what each does stands at its jp_NAME below. A jp_search_limit is
+ * handed to them in its two parts, `stated` and `limit`. */
 
 /* The version of the archive, as one number like JP_VERSION. It may be called whatever the versions. */
 uint32_t juplatsk_version(void);
 uint32_t juplatsk_solve_counts(const uint16_t *regions, size_t regions_len, const double *ideals, size_t ideals_len, uint32_t *counts,
-                               size_t counts_len, uint32_t answer[3]);
+                               size_t counts_len, bool stated, uint32_t limit, uint32_t answer[3]);
 uint32_t juplatsk_round(const uint16_t *regions, size_t regions_len, const double *ideals, size_t ideals_len, uint32_t *counts,
-                        size_t counts_len, uint32_t limit, uint32_t answer[4], double cost[1]);
+                        size_t counts_len, bool stated, uint32_t limit, uint32_t answer[4], double cost[1]);
 uint32_t juplatsk_solve_counts_within(const uint16_t *regions, size_t regions_len, const double *least, size_t least_len,
-                                      const double *most, size_t most_len, uint32_t *counts, size_t counts_len, uint32_t answer[3]);
+                                      const double *most, size_t most_len, uint32_t *counts, size_t counts_len, bool stated,
+                                      uint32_t limit, uint32_t answer[3]);
 uint32_t juplatsk_round_within(const uint16_t *regions, size_t regions_len, const double *least, size_t least_len, const double *most,
-                               size_t most_len, uint32_t *counts, size_t counts_len, uint32_t limit, uint32_t answer[4],
+                               size_t most_len, uint32_t *counts, size_t counts_len, bool stated, uint32_t limit, uint32_t answer[4],
                                double cost[1]);
 uint32_t juplatsk_energy(const uint32_t *counts, size_t counts_len, const double *ideals, size_t ideals_len, uint32_t answer[2],
                          double sum[1]);
@@ -189,7 +209,7 @@ static inline int jp_version_fits(void)
 /* What is wrong and what to do, for a number that one of these functions returned; `first` and `second` in it are the two places. It is
  * never NULL, and nobody need free it. A call:
  *     uint32_t answer[3] = {0};
- *     uint32_t number = jp_solve_counts(regions, regions_len, ideals, ideals_len, counts, counts_len, answer);
+ *     uint32_t number = jp_solve_counts(regions, regions_len, ideals, ideals_len, counts, counts_len, jp_limit_default(), answer);
  *     if (number != JP_ACCEPTED) {
  *         fprintf(stderr, "refusal %u, first %u, second %u: %s\n", number, answer[0], answer[1], jp_refusal_text(number));
  *     }
@@ -399,63 +419,105 @@ static inline uint32_t jp_set_side(uint16_t record[JP_RECORD], unsigned side, co
     return JP_ACCEPTED;
 }
 
+/* ---- search limits */
+
+/* How many expansions each search of a call may make ("Search limits", above). Make it by one of the two functions below; `expansions` is
+ * read only if `stated`. */
+typedef struct {
+    bool stated;
+    uint32_t expansions;
+} jp_search_limit;
+
+/* No limit stated: each search may make 10,000 expansions. A call:
+ *     jp_search_limit limit = jp_limit_default();
+ */
+static inline jp_search_limit jp_limit_default(void)
+{
+    const jp_search_limit limit = {false, 0};
+    return limit;
+}
+
+/* This limit, 0 to 100,000; a round or a solve that is given more, also more than 32 bits hold, is refused with JP_LIMIT_TOO_LARGE, if with
+ * nothing that is tested before. A call:
+ *     jp_search_limit limit = jp_limit_expansions(100000);
+ */
+static inline jp_search_limit jp_limit_expansions(uint64_t expansions)
+{
+    const uint32_t most = 0xffffffffu;
+    const jp_search_limit limit = {true, expansions < most ? (uint32_t)expansions : most};
+    return limit;
+}
+
 /* ---- counts */
 
-/* The counts of every edge: from zeros, round after round with limit 100,000, until one finds no move. A count may be 0, and where searches
- * were cut there may be a better answer ("Before pegs are set", above). A long solve can be made by hand, with progress and a way to stop:
+/* The counts of every edge: from zeros, round after round with this limit, until one finds no move. A count may be 0, and where searches
+ * were cut there may be a better answer ("Before pegs are set", above). A call without a stated limit, and one with the highest:
+ *     jp_solve_counts(regions, regions_len, ideals, edges, counts, edges, jp_limit_default(), answer);
+ *     jp_solve_counts(regions, regions_len, ideals, edges, counts, edges, jp_limit_expansions(100000), answer);
+ * A long solve can be made by hand, with progress and a way to stop; go_on is a function of yours:
+ *     jp_search_limit limit = jp_limit_default();
+ *     uint32_t moves, number, answer[4];
+ *     double cost[1];
  *     memset(counts, 0, edges * sizeof *counts);
  *     for (moves = 0; moves < 200000 && go_on(moves, counts); moves++) {
- *         number = jp_round(regions, regions_len, ideals, edges, counts, edges, 100000, answer, cost);
+ *         number = jp_round(regions, regions_len, ideals, edges, counts, edges, limit, answer, cost);
  *         if (number != JP_ACCEPTED || answer[2] == 0) {
  *             break;
  *         }
  *     }
- * makes the same moves, and after every round opposite sides add up to the same. It takes longer: each round searches anew.
- * Reads   regions, ideals (one for each edge).
+ * makes the moves that a solve with the same limit makes, and after every round opposite sides add up to the same. It may take longer,
+ * since each round searches anew.
+ * Reads   regions, ideals (one for each edge), limit.
  * Writes  counts: as many as there are ideals; answer: place, place, number of moves.
- * Refuses 1, 11, 2, 3 to 6, 7; 7 sets the needed counts to 0. */
+ * Refuses in this order 1, 10, 11, 2, 3 to 5 by region and pair of sides, 6, 7. 7 sets the needed counts to 0, the others leave the counts
+ *         as they were. */
 static inline uint32_t jp_solve_counts(const uint16_t *regions, size_t regions_len, const double *ideals, size_t ideals_len,
-                                       uint32_t *counts, size_t counts_len, uint32_t answer[3])
+                                       uint32_t *counts, size_t counts_len, jp_search_limit limit, uint32_t answer[3])
 {
     const jp_buffer lent[] = {JP_READ(regions), JP_READ(ideals), JP_WRITTEN(counts), JP_ARRAY(answer, 3)};
     const uint32_t kept_back = jp_kept_back(lent, JP_COUNT(lent));
     if (kept_back) {
         return kept_back;
     }
-    return juplatsk_solve_counts(jp_u16(regions), regions_len, jp_f64(ideals), ideals_len, jp_u32_out(counts), counts_len, answer);
+    return juplatsk_solve_counts(jp_u16(regions), regions_len, jp_f64(ideals), ideals_len, jp_u32_out(counts), counts_len, limit.stated,
+                                 limit.expansions, answer);
 }
 
-/* One round: the move found, if there is one, is made on the counts. Its cost is below -1e-12.
- * Reads   regions, ideals (one for each edge), limit: how many entries to edges each search may make, at most 100,000.
+/* One round: the move found, if there is one, is made on the counts. Its cost is below -1e-12. A call without a stated limit, and one with
+ * the highest:
+ *     jp_round(regions, regions_len, ideals, edges, counts, edges, jp_limit_default(), answer, cost);
+ *     jp_round(regions, regions_len, ideals, edges, counts, edges, jp_limit_expansions(100000), answer, cost);
+ * Reads   regions, ideals (one for each edge), limit.
  * Changes counts, as many as ideals.
  * Writes  answer: place, place, 1 if a move was made, 1 if a search was cut, that is, an entry past the limit was turned back; cost: of
  *         the move made, +0.0 if none was.
- * Refuses 1, 10, 8, 2, 9, 3 to 6. */
+ * Refuses in this order 1, 10, 8, 2, 9, 3 to 5 by region and pair of sides, 6. Every refusal leaves the counts as they were. */
 static inline uint32_t jp_round(const uint16_t *regions, size_t regions_len, const double *ideals, size_t ideals_len, uint32_t *counts,
-                                size_t counts_len, uint32_t limit, uint32_t answer[4], double cost[1])
+                                size_t counts_len, jp_search_limit limit, uint32_t answer[4], double cost[1])
 {
     const jp_buffer lent[] = {JP_READ(regions), JP_READ(ideals), JP_WRITTEN(counts), JP_ARRAY(answer, 4), JP_ARRAY(cost, 1)};
     const uint32_t kept_back = jp_kept_back(lent, JP_COUNT(lent));
     if (kept_back) {
         return kept_back;
     }
-    return juplatsk_round(jp_u16(regions), regions_len, jp_f64(ideals), ideals_len, jp_u32_out(counts), counts_len, limit, answer, cost);
+    return juplatsk_round(jp_u16(regions), regions_len, jp_f64(ideals), ideals_len, jp_u32_out(counts), counts_len, limit.stated,
+                          limit.expansions, answer, cost);
 }
 
 /* jp_solve_counts with a range for each edge in place of an ideal.
- * Reads   regions, least and most (one of each for each edge).
+ * Reads   regions, least and most (one of each for each edge), limit.
  * Writes  counts: as many as there are ranges; answer: place, place, number of moves.
- * Refuses in this order 1, 8 (least and most are not equally long), 11, 2, 35, 3 to 5 by region and pair of sides, 6, 7. 2 is tested for
- *         all edges, then 35, and each names the lowest edge. 7 sets the needed counts to 0, the others leave the counts as they were.
+ * Refuses in this order 1, 10, 8 (least and most are not equally long), 11, 2, 35, 3 to 5 by region and pair of sides, 6, 7. 2 is tested
+ *         for all edges, then 35, and each names the lowest edge. 7 sets the needed counts to 0, the others leave the counts as they were.
  * A call, for a tile with the edges 0 to 3, one on each side; tile is its record:
  *     double least[4] = {2, 1, 3, 1};
  *     double most[4] = {5, 4, 4, 4};
  *     uint32_t counts[4], answer[3];
- *     jp_solve_counts_within(tile, JP_RECORD, least, 4, most, 4, counts, 4, answer);
+ *     jp_solve_counts_within(tile, JP_RECORD, least, 4, most, 4, counts, 4, jp_limit_default(), answer);
  * It returns 0; answer is 0, 0, 4 and counts 3, 1, 3, 1: with three pieces bottom and top are in their ranges, with two the top is not. */
 static inline uint32_t jp_solve_counts_within(const uint16_t *regions, size_t regions_len, const double *least, size_t least_len,
                                               const double *most, size_t most_len, uint32_t *counts, size_t counts_len,
-                                              uint32_t answer[3])
+                                              jp_search_limit limit, uint32_t answer[3])
 {
     const jp_buffer lent[] = {JP_READ(regions), JP_READ(least), JP_READ(most), JP_WRITTEN(counts), JP_ARRAY(answer, 3)};
     const uint32_t kept_back = jp_kept_back(lent, JP_COUNT(lent));
@@ -463,11 +525,11 @@ static inline uint32_t jp_solve_counts_within(const uint16_t *regions, size_t re
         return kept_back;
     }
     return juplatsk_solve_counts_within(jp_u16(regions), regions_len, jp_f64(least), least_len, jp_f64(most), most_len,
-                                        jp_u32_out(counts), counts_len, answer);
+                                        jp_u32_out(counts), counts_len, limit.stated, limit.expansions, answer);
 }
 
 /* jp_round with a range for each edge in place of an ideal.
- * Reads   regions, least and most (one of each for each edge), limit, as jp_round does.
+ * Reads   regions, least and most (one of each for each edge), limit.
  * Changes counts, as many as ranges.
  * Writes  answer and cost, as jp_round does.
  * Refuses in this order 1, 10, 8 (least, most and counts are not equally long), 2, 35, 9, 3 to 5 by region and pair of sides, 6. 2 is
@@ -475,11 +537,11 @@ static inline uint32_t jp_solve_counts_within(const uint16_t *regions, size_t re
  * A call, on the tile and the ranges above:
  *     uint32_t counts[4] = {2, 1, 2, 1}, answer[4];
  *     double cost[1];
- *     jp_round_within(tile, JP_RECORD, least, 4, most, 4, counts, 4, 100000, answer, cost);
+ *     jp_round_within(tile, JP_RECORD, least, 4, most, 4, counts, 4, jp_limit_default(), answer, cost);
  * It returns 0; answer is 0, 0, 1, 0, counts are 3, 1, 3, 1, and cost[0] is about -1/9: only the top was outside its range. */
 static inline uint32_t jp_round_within(const uint16_t *regions, size_t regions_len, const double *least, size_t least_len,
-                                       const double *most, size_t most_len, uint32_t *counts, size_t counts_len, uint32_t limit,
-                                       uint32_t answer[4], double cost[1])
+                                       const double *most, size_t most_len, uint32_t *counts, size_t counts_len,
+                                       jp_search_limit limit, uint32_t answer[4], double cost[1])
 {
     const jp_buffer lent[] = {JP_READ(regions),   JP_READ(least),      JP_READ(most),
                               JP_WRITTEN(counts), JP_ARRAY(answer, 4), JP_ARRAY(cost, 1)};
@@ -488,7 +550,7 @@ static inline uint32_t jp_round_within(const uint16_t *regions, size_t regions_l
         return kept_back;
     }
     return juplatsk_round_within(jp_u16(regions), regions_len, jp_f64(least), least_len, jp_f64(most), most_len, jp_u32_out(counts),
-                                 counts_len, limit, answer, cost);
+                                 counts_len, limit.stated, limit.expansions, answer, cost);
 }
 
 /* The energy of counts: the sum of (count/ideal - 1)^2 over the edges.

@@ -2,11 +2,13 @@
 //!
 //!     cargo run --release --example rounds [ROWS [TILES [SECONDS [LIMIT]]]]
 //!
-//! The farm is a wall of bricks: ROWS rows of TILES tiles, each row shifted by half a tile against the one below. It stops after SECONDS, and could
-//! as well stop when somebody presses a key: whenever it does, opposite sides of every tile add up to the same, since they did at the start
-//! and every round keeps that. Rounds with limit 100,000 make the moves that `solve` makes; as each searches anew, they take longer.
+//! The farm is a wall of bricks: ROWS rows of TILES tiles, each row shifted by half a tile against the one below, and 4 rows of 6 if nothing is said.
+//! It stops when a round finds no move, or after SECONDS, 10 if nothing is said, and could as well stop when somebody presses a key: whenever it
+//! does, opposite sides of every tile add up to the same, since they did at the start and every round keeps that. LIMIT is how many expansions each
+//! search may make, 0 to 100,000; if it is left out, none is stated, and it is 10,000. The rounds make the moves that `solve` with the same
+//! limit makes; as each searches anew, they may take longer.
 
-use juplatsk::{constraints_hold, energy, round, Refusal, Region};
+use juplatsk::{constraints_hold, energy, round, Refusal, Region, SearchLimit};
 use std::env;
 use std::process::ExitCode;
 use std::time::{Duration, Instant};
@@ -47,7 +49,7 @@ impl Wall {
     }
 }
 
-fn solve_by_rounds(wall: &Wall, time: Duration, limit: usize) -> Result<(), Refusal> {
+fn solve_by_rounds(wall: &Wall, time: Duration, limit: SearchLimit) -> Result<(), Refusal> {
     let (regions, ideals) = (wall.regions(), wall.ideals());
     let mut counts = vec![0; wall.edges()];
     let (start, mut moves, mut told) = (Instant::now(), 0, Duration::ZERO);
@@ -75,13 +77,15 @@ fn solve_by_rounds(wall: &Wall, time: Duration, limit: usize) -> Result<(), Refu
 
 fn main() -> ExitCode {
     let words: Vec<String> = env::args().skip(1).collect();
-    let number = |at: usize, default: u32| words.get(at).map_or(Ok(default), |word| word.parse());
-    let (Ok(rows), Ok(tiles), Ok(seconds), Ok(limit)) = (number(0, 4), number(1, 6), number(2, 10), number(3, 100_000)) else {
+    let number = |at: usize| words.get(at).map(|word| word.parse::<u32>()).transpose();
+    let (Ok(rows), Ok(tiles), Ok(seconds), Ok(limit)) = (number(0), number(1), number(2), number(3)) else {
         eprintln!("rounds: ROWS, TILES, SECONDS and LIMIT are whole numbers");
         return ExitCode::FAILURE;
     };
-    let wall = Wall { rows: rows as usize, tiles: tiles as usize };
-    match solve_by_rounds(&wall, Duration::from_secs(seconds.into()), limit as usize) {
+    let wall = Wall { rows: rows.unwrap_or(4) as usize, tiles: tiles.unwrap_or(6) as usize };
+    let time = Duration::from_secs(seconds.unwrap_or(10).into());
+    let limit = limit.map_or(SearchLimit::Default, |limit| SearchLimit::Expansions(limit as usize));
+    match solve_by_rounds(&wall, time, limit) {
         Ok(()) => ExitCode::SUCCESS,
         Err(refusal) => {
             eprintln!("rounds: {refusal}");

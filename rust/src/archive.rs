@@ -13,6 +13,8 @@ extern "C" {
         ideals_len: usize,
         counts: *mut u32,
         counts_len: usize,
+        stated: bool,
+        limit: u32,
         answer: *mut [u32; 3],
     ) -> u32;
     fn juplatsk_round(
@@ -22,6 +24,7 @@ extern "C" {
         ideals_len: usize,
         counts: *mut u32,
         counts_len: usize,
+        stated: bool,
         limit: u32,
         answer: *mut [u32; 4],
         cost: *mut [f64; 1],
@@ -35,6 +38,8 @@ extern "C" {
         most_len: usize,
         counts: *mut u32,
         counts_len: usize,
+        stated: bool,
+        limit: u32,
         answer: *mut [u32; 3],
     ) -> u32;
     fn juplatsk_round_within(
@@ -46,6 +51,7 @@ extern "C" {
         most_len: usize,
         counts: *mut u32,
         counts_len: usize,
+        stated: bool,
         limit: u32,
         answer: *mut [u32; 4],
         cost: *mut [f64; 1],
@@ -175,23 +181,28 @@ pub fn version() -> u32 {
 /// Four lists by side: bottom, right, top, left.
 pub type BySide<'a> = [&'a [f64]; 4];
 
-pub fn solve_counts(regions: &[u16], ideals: &[f64], counts: &mut [u32], answer: Answer) -> u32 {
-    unsafe {
-        juplatsk_solve_counts(regions.as_ptr(), regions.len(), ideals.as_ptr(), ideals.len(), counts.as_mut_ptr(), counts.len(), answer)
-    }
+/// A search limit, if one is stated.
+pub type SearchLimit = Option<u32>;
+
+pub fn solve_counts(regions: &[u16], ideals: &[f64], counts: &mut [u32], limit: SearchLimit, answer: Answer) -> u32 {
+    let (lent, length) = (counts.as_mut_ptr(), counts.len());
+    let (stated, limit) = (limit.is_some(), limit.unwrap_or(0));
+    unsafe { juplatsk_solve_counts(regions.as_ptr(), regions.len(), ideals.as_ptr(), ideals.len(), lent, length, stated, limit, answer) }
 }
 
-pub fn round(regions: &[u16], ideals: &[f64], counts: &mut [u32], limit: u32, answer: &mut [u32; 4], cost: &mut [f64; 1]) -> u32 {
+pub fn round(regions: &[u16], ideals: &[f64], counts: &mut [u32], limit: SearchLimit, answer: &mut [u32; 4], cost: &mut [f64; 1]) -> u32 {
     let (lent, length) = (counts.as_mut_ptr(), counts.len());
-    unsafe { juplatsk_round(regions.as_ptr(), regions.len(), ideals.as_ptr(), ideals.len(), lent, length, limit, answer, cost) }
+    let (stated, limit) = (limit.is_some(), limit.unwrap_or(0));
+    unsafe { juplatsk_round(regions.as_ptr(), regions.len(), ideals.as_ptr(), ideals.len(), lent, length, stated, limit, answer, cost) }
 }
 
 /// A least and a most for each edge.
 pub type Ends<'a> = [&'a [f64]; 2];
 
-pub fn solve_counts_within(regions: &[u16], ends: Ends, counts: &mut [u32], answer: Answer) -> u32 {
+pub fn solve_counts_within(regions: &[u16], ends: Ends, counts: &mut [u32], limit: SearchLimit, answer: Answer) -> u32 {
     let [least, most] = ends;
     let (lent, length) = (counts.as_mut_ptr(), counts.len());
+    let (stated, limit) = (limit.is_some(), limit.unwrap_or(0));
     unsafe {
         juplatsk_solve_counts_within(
             regions.as_ptr(),
@@ -202,14 +213,24 @@ pub fn solve_counts_within(regions: &[u16], ends: Ends, counts: &mut [u32], answ
             most.len(),
             lent,
             length,
+            stated,
+            limit,
             answer,
         )
     }
 }
 
-pub fn round_within(regions: &[u16], ends: Ends, counts: &mut [u32], limit: u32, answer: &mut [u32; 4], cost: &mut [f64; 1]) -> u32 {
+pub fn round_within(
+    regions: &[u16],
+    ends: Ends,
+    counts: &mut [u32],
+    limit: SearchLimit,
+    answer: &mut [u32; 4],
+    cost: &mut [f64; 1],
+) -> u32 {
     let [least, most] = ends;
     let (lent, length) = (counts.as_mut_ptr(), counts.len());
+    let (stated, limit) = (limit.is_some(), limit.unwrap_or(0));
     unsafe {
         juplatsk_round_within(
             regions.as_ptr(),
@@ -220,6 +241,7 @@ pub fn round_within(regions: &[u16], ends: Ends, counts: &mut [u32], limit: u32,
             most.len(),
             lent,
             length,
+            stated,
             limit,
             answer,
             cost,

@@ -26,13 +26,14 @@
 //! | There | Here |
 //! |---|---|
 //! | `Result<_, String>` | `Result<_, Refusal>`; a [`Refusal`] turns into a `String` by `?` or `into()` |
-//! | `solve_counts`, `energy`, `coons_from_parameters`, `coons_curves`, `coons_checked`, `mesh_tile`, `mesh_tile_curves` | the same |
+//! | `solve_counts(..)` lets each search make 100,000 expansions | the same call lets it make 10,000; `solve(.., SearchLimit::Expansions(100_000))?.counts` is what it gives there |
+//! | `energy`, `coons_from_parameters`, `coons_curves`, `coons_checked`, `mesh_tile`, `mesh_tile_curves` | the same |
 //! | `Region`, `BoundaryCurves`, `from_corners`, `from_loop`, `signed_area` | the same |
 //! | `constraints_hold(..)` is a `bool` | it is a `Result`: there are limits; `constraints_hold(..) == Ok(true)` |
 //! | `coons(..)` hides errors | `coons_checked(..).unwrap_or_default()` |
 //! | `mesh.cells[i].nodes` is a `Vec`, beside a `kind` | an array of four, all cells are quads |
-//! | no limits | at most 128 regions, 32 edges a side, 256 edges; counts up to 1,000,000 in a round and in `energy`; curves of 1,024 points, loops of 4,096, seams of 1,025 values, 1,024 cells along a side |
-//! | | new: [`round`], [`solve`] (with the number of moves), [`lay_region`], [`root`] |
+//! | no limits of size | at most 128 regions, 32 edges a side, 256 edges; counts up to 1,000,000 in a round and in `energy`; curves of 1,024 points, loops of 4,096, seams of 1,025 values, 1,024 cells along a side |
+//! | | new: [`solve`] (with a [`SearchLimit`], and the number of moves), [`round`], [`lay_region`], [`root`] |
 //! | | new: a range for each edge, as `2.0..=5.0`, in place of an ideal count: [`solve_counts_within`], [`solve_within`], [`round_within`] |
 //!
 //! # Before pegs are set
@@ -63,9 +64,33 @@
 //! - **A peg on a common edge has two versions**, one of each tile, and their last bits may differ. Two tiles of 31.502 m by 9 m, one above the other,
 //!   in four pieces: 7.875499999999998 and 7.8755 m, which round to 7,875 and 7,876 mm. Take the pegs of a common edge from one of its tiles, as
 //!   `examples/farm` does.
-//! - **A solve may be cut, and does not tell.** On wide farms its searches are turned back at the limit, and edges that want many pieces may be left
-//!   at 0: of 16 strips of 45 m by 9 m side by side, each border between two cut into edges of 9, 9 and 27 m, all 15 edges of 27 m are. After a solve
-//!   make one [`round`] with limit 100,000 on the counts ([`round_within`] after a solve within ranges), and look at [`Round::cut`].
+//! - **A solve may be cut, and does not tell.** On wide farms its searches are turned back at their limit ([`SearchLimit`]), and edges that want
+//!   many pieces may be left at 0. Of 13 strips of 45 m by 9 m side by side, each border between two cut into edges of 9, 9 and 27 m, all 12 edges
+//!   of 27 m are if no limit is stated, and none with 100,000; of 16 strips all 15 are with either. After a solve make one [`round`] on its counts
+//!   with its own limit ([`round_within`] after a solve within ranges). It makes no move. If it was not cut, no unit move costs less than -2e-12; if
+//!   it was, there may be one: solve again with a higher limit, or make rounds with a higher one on these counts. Where 100,000 does not do,
+//!   compare with balanced counts of your own, for ideals by [`energy`].
+//!
+//!   ```
+//!   use juplatsk::{round, solve, Region, SearchLimit};
+//!
+//!   // nine strips side by side; the last edge of each border wants a piece, the others a fifth of one
+//!   let borders: [&[usize]; 10] = [
+//!       &[0], &[1, 2], &[3, 4, 5], &[6, 7, 8], &[9, 10, 11], &[12, 13, 14], &[15, 16, 17], &[18, 19, 20], &[21, 22, 23], &[24],
+//!   ];
+//!   let strips: Vec<Region> =
+//!       borders.windows(2).map(|pair| Region::new([vec![], pair[1].to_vec(), vec![], pair[0].to_vec()])).collect();
+//!   let mut ideals = [0.2; 25];
+//!   borders.iter().for_each(|border| ideals[border[border.len() - 1]] = 1.0);
+//!
+//!   let mut solved = solve(&strips, &ideals, SearchLimit::Default)?;
+//!   assert_eq!((&solved.counts[..], solved.moves), (&[0; 25][..], 0));
+//!   if round(&strips, &ideals, &mut solved.counts, SearchLimit::Default)?.cut {
+//!       solved = solve(&strips, &ideals, SearchLimit::Expansions(100_000))?;
+//!   }
+//!   assert_eq!(solved.counts, ideals.map(|ideal| if ideal == 1.0 { 1 } else { 0 }));
+//!   # Ok::<(), juplatsk::Refusal>(())
+//!   ```
 //! - **A loop of 8 points or more has each corner twice** and, if it ends just where it began, its first point once more behind that:
 //!   [`BoundaryCurves::from_loop`].
 //! - **Far from the origin areas drown in rounding**, and good tiles are refused by 17 or 25: a square of 1 m at (1e8, 1e8), one of 9 m at (1e9, 1e9) cut
@@ -73,22 +98,23 @@
 //!
 //! # A long solve
 //!
-//! A solve tells nothing before it ends, which on wide farms takes seconds or minutes. [`round`] from zeros with limit 100,000 makes the same moves one by
-//! one, each with a search anew, so that it takes longer in all: show how far it is, and stop when you like, or at 200,000 moves, after which a solve makes
-//! none (and is refused by 7 if it finds one). Opposite sides agree after every round, since they do at the start. `examples/rounds.rs` is a program
-//! that does so.
+//! A solve tells nothing before it ends, which on wide farms takes seconds or minutes. [`round`] from zeros with the same limit makes the same moves
+//! one by one, each with a search anew, so that it may take longer in all: show how far it is, and stop when you like, or at 200,000 moves, after
+//! which a solve makes none (and is refused by 7 if it finds one). Opposite sides agree after every round, since they do at the start.
+//! `examples/rounds.rs` is a program that does so.
 //!
 //! ```
-//! use juplatsk::{constraints_hold, round, solve, Region};
+//! use juplatsk::{constraints_hold, round, solve, Region, SearchLimit};
 //!
 //! let regions = [Region::new([vec![0], vec![1], vec![2, 3], vec![4]])];
 //! let ideals = [4.0, 1.0, 2.0, 2.0, 1.0];
+//! let limit = SearchLimit::Default;
 //! let (mut counts, mut moves) = (vec![0; ideals.len()], 0);
-//! while moves < 200_000 && round(&regions, &ideals, &mut counts, 100_000)?.cost.is_some() {
+//! while moves < 200_000 && round(&regions, &ideals, &mut counts, limit)?.cost.is_some() {
 //!     moves += 1; // show it, or leave the loop
 //!     assert_eq!(constraints_hold(&regions, &counts), Ok(true));
 //! }
-//! let solved = solve(&regions, &ideals)?;
+//! let solved = solve(&regions, &ideals, limit)?;
 //! assert_eq!((counts, moves), (solved.counts, solved.moves));
 //! # Ok::<(), juplatsk::Refusal>(())
 //! ```
@@ -117,7 +143,8 @@ pub use geometry::{
 pub use limit::{Limit, Limited};
 pub use refusal::Refusal;
 pub use solver::{
-    constraints_hold, energy, round, round_within, solve, solve_counts, solve_counts_within, solve_within, Region, Round, Solved,
+    constraints_hold, energy, round, round_within, solve, solve_counts, solve_counts_within, solve_within, Region, Round, SearchLimit,
+    Solved,
 };
 pub use version::{archive_version, check_version, VERSION};
 

@@ -17,7 +17,7 @@ const MAX_SEAM: usize = 1025;
 pub(crate) const MAX_CELLS: usize = 1024;
 const MAX_COUNT: usize = u32::MAX as usize;
 
-/// A limit that a call exceeded.
+/// A limit that a call exceeded, and was refused by 1. [`SearchLimit`](crate::SearchLimit) is none of these: it has 10.
 #[derive(Clone, Copy, Debug, PartialEq, Eq, Hash)]
 #[non_exhaustive]
 pub struct Limit {

@@ -1,6 +1,6 @@
 //! The functions of the archive with a `Result`: what they tell, or the refusal.
 
-use crate::archive::{self, Answer, BySide, Ends};
+use crate::archive::{self, Answer, BySide, Ends, SearchLimit};
 use crate::refusal::Refusal;
 use crate::version::check_version;
 
@@ -20,12 +20,12 @@ fn told(call: impl FnOnce(Answer) -> u32) -> Result<u32, Refusal> {
 }
 
 /// The number of moves.
-pub fn solve_counts(regions: &[u16], ideals: &[f64], counts: &mut [u32]) -> Result<u32, Refusal> {
-    told(|answer| archive::solve_counts(regions, ideals, counts, answer))
+pub fn solve_counts(regions: &[u16], ideals: &[f64], counts: &mut [u32], limit: SearchLimit) -> Result<u32, Refusal> {
+    told(|answer| archive::solve_counts(regions, ideals, counts, limit, answer))
 }
 
-pub fn solve_counts_within(regions: &[u16], ends: Ends, counts: &mut [u32]) -> Result<u32, Refusal> {
-    told(|answer| archive::solve_counts_within(regions, ends, counts, answer))
+pub fn solve_counts_within(regions: &[u16], ends: Ends, counts: &mut [u32], limit: SearchLimit) -> Result<u32, Refusal> {
+    told(|answer| archive::solve_counts_within(regions, ends, counts, limit, answer))
 }
 
 /// The cost of the move, if one was made, and whether a search was cut.
@@ -37,11 +37,11 @@ fn made(call: impl FnOnce(&mut [u32; 4], &mut [f64; 1]) -> u32) -> Result<Made, 
     Ok(((moved == 1).then_some(cost), cut == 1))
 }
 
-pub fn round(regions: &[u16], ideals: &[f64], counts: &mut [u32], limit: u32) -> Result<Made, Refusal> {
+pub fn round(regions: &[u16], ideals: &[f64], counts: &mut [u32], limit: SearchLimit) -> Result<Made, Refusal> {
     made(|answer, cost| archive::round(regions, ideals, counts, limit, answer, cost))
 }
 
-pub fn round_within(regions: &[u16], ends: Ends, counts: &mut [u32], limit: u32) -> Result<Made, Refusal> {
+pub fn round_within(regions: &[u16], ends: Ends, counts: &mut [u32], limit: SearchLimit) -> Result<Made, Refusal> {
     made(|answer, cost| archive::round_within(regions, ends, counts, limit, answer, cost))
 }
 

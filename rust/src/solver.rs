@@ -74,6 +74,43 @@ fn plain_counts(counts: &[u32]) -> impl Iterator<Item = usize> + '_ {
     counts.iter().map(|&n| n as usize)
 }
 
+/// How many expansions each search of a round or of a solve may make: stated, or left to the library.
+///
+/// A round looks for its move by searches, one or two from each edge, and a solve is round after round. A search goes from edge to edge, and
+/// each entry to an edge is one expansion. One that is turned back at its limit is cut: it may miss a move, or keep a dearer one, and
+/// [`Round::cut`] tells. With a higher limit a call may take longer. At any limit opposite sides of a solve's counts add up to the same, and a
+/// round leaves their differences as they were.
+///
+/// ```
+/// use juplatsk::{solve, SearchLimit};
+///
+/// // 2 and 3 pieces for two edges that no tile names
+/// assert_eq!(solve(&[], &[2.0, 3.0], SearchLimit::Default)?.counts, [2, 3]);
+/// assert_eq!(solve(&[], &[2.0, 3.0], SearchLimit::Expansions(100_000))?.counts, [2, 3]);
+/// // 0 is a limit: every search is turned back at once
+/// assert_eq!(solve(&[], &[2.0, 3.0], SearchLimit::Expansions(0))?.counts, [0, 0]);
+/// assert_eq!(solve(&[], &[2.0, 3.0], SearchLimit::Expansions(100_001)).unwrap_err().number, 10);
+/// # Ok::<(), juplatsk::Refusal>(())
+/// ```
+#[derive(Clone, Copy, Debug, Default, PartialEq, Eq, Hash)]
+pub enum SearchLimit {
+    /// None stated: 10,000.
+    #[default]
+    Default,
+    /// So many, 0 to 100,000; more is refused by 10. `simons_qgp` has 100,000, and so had every solve of this package up to version 0.3.0.
+    Expansions(usize),
+}
+
+impl SearchLimit {
+    /// As the archive is told.
+    fn stated(self) -> Option<u32> {
+        match self {
+            SearchLimit::Default => None,
+            SearchLimit::Expansions(limit) => Some(wide(limit)),
+        }
+    }
+}
+
 /// What a solve finds.
 #[derive(Clone, Debug, PartialEq, Eq)]
 pub struct Solved {
@@ -95,9 +132,10 @@ fn ends(ranges: &[RangeInclusive<f64>]) -> (Vec<f64>, Vec<f64>) {
     ranges.iter().map(|range| (*range.start(), *range.end())).unzip()
 }
 
-/// The counts of every edge: from zeros, round after round with limit 100,000, until one finds no move. `edge_ideal` has an ideal count
-/// for each edge. Opposite sides of every region then add up to the same. A count may be 0, and where searches were cut there may be a better
-/// answer: see [Before pegs are set](crate#before-pegs-are-set).
+/// The counts of every edge: [`solve`] with no limit stated, so that each search makes 10,000 expansions at most, and without the number of moves.
+/// Up to version 0.3.0, and in `simons_qgp`, it is 100,000: on wide farms the counts may be others. `edge_ideal` has an ideal count for each edge.
+/// Opposite sides of every region then add up to the same. A count may be 0, and where searches were cut there may be a better answer, which a
+/// solve does not tell: see [Before pegs are set](crate#before-pegs-are-set).
 ///
 /// ```
 /// use juplatsk::{solve_counts, Region};
@@ -112,24 +150,35 @@ fn ends(ranges: &[RangeInclusive<f64>]) -> (Vec<f64>, Vec<f64>) {
 /// # Ok::<(), juplatsk::Refusal>(())
 /// ```
 ///
-/// Refused by 1, 2, 3 to 6, 7.
+/// Refused as [`solve`], but never by 10.
 pub fn solve_counts(regions: &[Region], edge_ideal: &[f64]) -> Result<Vec<usize>, Refusal> {
-    solve(regions, edge_ideal).map(|solved| solved.counts)
+    solve(regions, edge_ideal, SearchLimit::Default).map(|solved| solved.counts)
 }
 
-/// [`solve_counts`], with the number of moves.
+/// The counts of every edge, with the number of moves: from zeros, round after round with this limit, until one finds no move. `edge_ideal` has an
+/// ideal count for each edge. With `SearchLimit::Expansions(100_000)` the counts are those of `simons_qgp`. Opposite sides of every region then add up
+/// to the same, at any limit. A count may be 0, and where searches were cut there may be a better answer, which a solve does not tell: see
+/// [Before pegs are set](crate#before-pegs-are-set).
 ///
 /// ```
-/// let solved = juplatsk::solve(&[], &[2.0, 3.0])?;
-/// assert_eq!((solved.counts, solved.moves), (vec![2, 3], 5));
+/// use juplatsk::{solve, Region, SearchLimit};
+///
+/// let tile = [Region::new([vec![0], vec![1], vec![2], vec![3]])];
+/// let solved = solve(&tile, &[5.0, 3.0, 1.0, 3.0], SearchLimit::Default)?;
+/// assert_eq!((solved.counts, solved.moves), (vec![1, 3, 1, 3], 4));
+///
+/// let solved = solve(&tile, &[5.0, 3.0, 1.0, 3.0], SearchLimit::Expansions(100_000))?;
+/// assert_eq!((solved.counts, solved.moves), (vec![1, 3, 1, 3], 4));
 /// # Ok::<(), juplatsk::Refusal>(())
 /// ```
-pub fn solve(regions: &[Region], edge_ideal: &[f64]) -> Result<Solved, Refusal> {
+///
+/// Refused by 1, 10, 2, 3 to 5 by region and pair of sides, 6, 7, in this order.
+pub fn solve(regions: &[Region], edge_ideal: &[f64], limit: SearchLimit) -> Result<Solved, Refusal> {
     let exceeded = || limit::of_regions(regions, &[edge_ideal.len()]);
-    naming(exceeded, solved(edge_ideal.len(), |counts| raw::solve_counts(&records(regions), edge_ideal, counts)))
+    naming(exceeded, solved(edge_ideal.len(), |counts| raw::solve_counts(&records(regions), edge_ideal, counts, limit.stated())))
 }
 
-/// [`solve_counts`] with a range for each edge in place of an ideal count.
+/// [`solve_counts`] with a range for each edge in place of an ideal count. No limit is stated.
 ///
 /// A range goes from the least to the most pieces that are wanted. A count in it, ends included, costs nothing; one below costs
 /// (count / least - 1)², one above (count / most - 1)². The ends must be finite and above 0, and the least not above the most. They need not
@@ -148,24 +197,29 @@ pub fn solve(regions: &[Region], edge_ideal: &[f64]) -> Result<Solved, Refusal> 
 /// # Ok::<(), juplatsk::Refusal>(())
 /// ```
 ///
-/// Refused by 1, 2, 35 (a least above its most), 3 to 5 by region and pair of sides, 6, 7, in this order. 2 is tested for all edges, then 35,
-/// and each names the lowest edge. The ranges are one list, so least and most are always equally many.
+/// Refused as [`solve_within`], but never by 10.
 pub fn solve_counts_within(regions: &[Region], ranges: &[RangeInclusive<f64>]) -> Result<Vec<usize>, Refusal> {
-    solve_within(regions, ranges).map(|solved| solved.counts)
+    solve_within(regions, ranges, SearchLimit::Default).map(|solved| solved.counts)
 }
 
-/// [`solve_counts_within`], with the number of moves.
+/// [`solve`] with a range for each edge in place of an ideal count; [`solve_counts_within`] says what a range means.
 ///
 /// ```
+/// use juplatsk::{solve_within, SearchLimit};
+///
 /// // no whole number lies from 2.2 to 2.8
-/// let solved = juplatsk::solve_within(&[], &[2.0..=5.0, 2.2..=2.8])?;
+/// let solved = solve_within(&[], &[2.0..=5.0, 2.2..=2.8], SearchLimit::Default)?;
 /// assert_eq!((solved.counts, solved.moves), (vec![2, 3], 5));
 /// # Ok::<(), juplatsk::Refusal>(())
 /// ```
-pub fn solve_within(regions: &[Region], ranges: &[RangeInclusive<f64>]) -> Result<Solved, Refusal> {
+///
+/// Refused by 1, 10, 2, 35 (a least above its most), 3 to 5 by region and pair of sides, 6, 7, in this order. 2 is tested for all edges, then
+/// 35, and each names the lowest edge. The ranges are one list, so least and most are always equally many.
+pub fn solve_within(regions: &[Region], ranges: &[RangeInclusive<f64>], limit: SearchLimit) -> Result<Solved, Refusal> {
     let (least, most) = ends(ranges);
     let exceeded = || limit::of_regions(regions, &[ranges.len()]);
-    naming(exceeded, solved(ranges.len(), |counts| raw::solve_counts_within(&records(regions), [&least, &most], counts)))
+    let call = |counts: &mut [u32]| raw::solve_counts_within(&records(regions), [&least, &most], counts, limit.stated());
+    naming(exceeded, solved(ranges.len(), call))
 }
 
 /// What a round did.
@@ -187,37 +241,42 @@ fn round_on(counts: &mut [usize], call: impl FnOnce(&mut [u32]) -> Result<Made, 
     Ok(Round { cost, cut })
 }
 
-/// One round of the solver: the move found, if there is one, is made on the counts. Each search makes at most `limit` entries to edges;
-/// `limit` is at most 100,000.
+/// One round of the solver: the move found, if there is one, is made on the counts.
 ///
 /// ```
-/// use juplatsk::{round, Region};
+/// use juplatsk::{round, Region, SearchLimit};
 ///
 /// let tile = [Region::new([vec![0], vec![1], vec![2], vec![3]])];
 /// let mut counts = [0, 0, 0, 0];
-/// let made = round(&tile, &[1.0, 2.0, 1.0, 2.0], &mut counts, 100_000)?;
-/// assert_eq!(made.cost, Some(-2.0));
+/// let made = round(&tile, &[1.0, 2.0, 1.0, 2.0], &mut counts, SearchLimit::Default)?;
+/// assert_eq!((made.cost, made.cut), (Some(-2.0), false));
+/// assert_eq!(counts, [1, 0, 1, 0]);
+///
+/// // one expansion takes a search no further than its first edge
+/// let made = round(&tile, &[1.0, 2.0, 1.0, 2.0], &mut counts, SearchLimit::Expansions(1))?;
+/// assert_eq!((made.cost, made.cut), (None, true));
 /// assert_eq!(counts, [1, 0, 1, 0]);
 /// # Ok::<(), juplatsk::Refusal>(())
 /// ```
 ///
-/// Refused by 1, 10, 8, 2, 9, 3 to 6, and then the counts are as they were.
-pub fn round(regions: &[Region], edge_ideal: &[f64], counts: &mut [usize], limit: usize) -> Result<Round, Refusal> {
+/// Refused by 1, 10, 8 (more or fewer counts than ideals), 2, 9, 3 to 5 by region and pair of sides, 6, in this order, and then the counts are as
+/// they were.
+pub fn round(regions: &[Region], edge_ideal: &[f64], counts: &mut [usize], limit: SearchLimit) -> Result<Round, Refusal> {
     let edges = [edge_ideal.len(), counts.len()];
     let exceeded = || limit::of_regions(regions, &edges);
-    naming(exceeded, round_on(counts, |counts| raw::round(&records(regions), edge_ideal, counts, wide(limit))))
+    naming(exceeded, round_on(counts, |counts| raw::round(&records(regions), edge_ideal, counts, limit.stated())))
 }
 
 /// [`round`] with a range for each edge in place of an ideal count; [`solve_counts_within`] says what a range means.
 ///
 /// ```
-/// use juplatsk::{round_within, Region};
+/// use juplatsk::{round_within, Region, SearchLimit};
 ///
 /// // only the top is outside its range
 /// let tile = [Region::new([vec![0], vec![1], vec![2], vec![3]])];
 /// let ranges = [2.0..=5.0, 1.0..=4.0, 4.0..=4.0, 1.0..=4.0];
 /// let mut counts = [2, 1, 2, 1];
-/// let made = round_within(&tile, &ranges, &mut counts, 100_000)?;
+/// let made = round_within(&tile, &ranges, &mut counts, SearchLimit::Default)?;
 /// assert_eq!(made.cost, Some(0.0625 - 0.25));
 /// assert_eq!(counts, [3, 1, 3, 1]);
 /// # Ok::<(), juplatsk::Refusal>(())
@@ -225,11 +284,16 @@ pub fn round(regions: &[Region], edge_ideal: &[f64], counts: &mut [usize], limit
 ///
 /// Refused by 1, 10, 8 (more or fewer counts than ranges), 2, 35 (a least above its most), 9, 3 to 5 by region and pair of sides, 6, in this
 /// order, and then the counts are as they were. 2 is tested for all edges, then 35, then 9, and each names the lowest edge.
-pub fn round_within(regions: &[Region], ranges: &[RangeInclusive<f64>], counts: &mut [usize], limit: usize) -> Result<Round, Refusal> {
+pub fn round_within(
+    regions: &[Region],
+    ranges: &[RangeInclusive<f64>],
+    counts: &mut [usize],
+    limit: SearchLimit,
+) -> Result<Round, Refusal> {
     let (least, most) = ends(ranges);
     let edges = [ranges.len(), counts.len()];
     let exceeded = || limit::of_regions(regions, &edges);
-    naming(exceeded, round_on(counts, |counts| raw::round_within(&records(regions), [&least, &most], counts, wide(limit))))
+    naming(exceeded, round_on(counts, |counts| raw::round_within(&records(regions), [&least, &most], counts, limit.stated())))
 }
 
 /// The energy of counts: the sum of (count / ideal - 1)² over the edges.

@@ -1,5 +1,5 @@
-//! The bench table through the package; every refusal that a caller in Rust can meet, with its places; and numbers that the library's
-//! own do not hold.
+//! The bench table through the package; every refusal that a caller in Rust can meet, with its places; search limits, stated and not; and
+//! numbers that the library's own do not hold.
 
 use juplatsk::*;
 use std::ops::RangeInclusive;
@@ -16,24 +16,33 @@ fn square() -> BoundaryCurves {
     BoundaryCurves::from_corners([[0.0, 0.0], [1.0, 0.0], [1.0, 1.0], [0.0, 1.0]])
 }
 
+/// A stated limit.
+fn at(limit: usize) -> SearchLimit {
+    SearchLimit::Expansions(limit)
+}
+
+const UNSTATED: SearchLimit = SearchLimit::Default;
+
 fn refusal<T: std::fmt::Debug>(answer: Result<T, Refusal>) -> (u32, u32, u32) {
     let refusal = answer.expect_err("the call is refused");
     assert_eq!(refusal.limit.is_some(), refusal.number == 1, "{refusal}");
     (refusal.number, refusal.first, refusal.second)
 }
 
+/// It states the limit of the Rust that it is held against.
 #[test]
 fn bench_table() {
+    let counts = |regions: &[Region], ideals: &[f64]| solve(regions, ideals, at(100_000)).map(|solved| solved.counts);
     let two = [tile(), region([&[4], &[5], &[6], &[1]])];
-    assert_eq!(solve_counts(&two, &[4.0, 2.0, 4.0, 2.0, 2.0, 2.0, 2.0]), Ok(vec![4, 2, 4, 2, 2, 2, 2]));
-    assert_eq!(solve_counts(&[tile()], &[5.0, 3.0, 1.0, 3.0]), Ok(vec![1, 3, 1, 3]));
+    assert_eq!(counts(&two, &[4.0, 2.0, 4.0, 2.0, 2.0, 2.0, 2.0]), Ok(vec![4, 2, 4, 2, 2, 2, 2]));
+    assert_eq!(counts(&[tile()], &[5.0, 3.0, 1.0, 3.0]), Ok(vec![1, 3, 1, 3]));
     let split = [region([&[0], &[1], &[2, 3], &[4]])];
-    assert_eq!(solve(&split, &[4.0, 1.0, 2.0, 2.0, 1.0]), Ok(Solved { counts: vec![4, 1, 2, 2, 1], moves: 5 }));
-    assert_eq!(solve_counts(&[], &[]), Ok(vec![]));
-    assert_eq!(solve_counts(&[region([&[0], &[], &[], &[]])], &[3.0]), Ok(vec![0]));
+    assert_eq!(solve(&split, &[4.0, 1.0, 2.0, 2.0, 1.0], at(100_000)), Ok(Solved { counts: vec![4, 1, 2, 2, 1], moves: 5 }));
+    assert_eq!(counts(&[], &[]), Ok(vec![]));
+    assert_eq!(counts(&[region([&[0], &[], &[], &[]])], &[3.0]), Ok(vec![0]));
     let twice = region([&[0], &[], &[1], &[]]);
-    assert_eq!(solve_counts(&[twice.clone(), twice], &[1.0, 1.0]), Ok(vec![1, 1]));
-    assert_eq!(refusal(solve_counts(&[region([&[0], &[1], &[0], &[2]])], &[1.0; 3])), (5, 0, 0));
+    assert_eq!(counts(&[twice.clone(), twice], &[1.0, 1.0]), Ok(vec![1, 1]));
+    assert_eq!(refusal(counts(&[region([&[0], &[1], &[0], &[2]])], &[1.0; 3])), (5, 0, 0));
 
     let quads = coons_curves(&square(), 2, 2).unwrap();
     assert_eq!(quads.iter().map(signed_area).collect::<Vec<_>>(), [0.25; 4]);
@@ -42,9 +51,9 @@ fn bench_table() {
     assert_eq!(refusal(coons_from_parameters(&square(), &early, &late, &early, &late)), (23, 1, 1));
 
     let mut count = [0];
-    assert_eq!(round(&[], &[1.0], &mut count, 0), Ok(Round { cost: None, cut: true }));
+    assert_eq!(round(&[], &[1.0], &mut count, at(0)), Ok(Round { cost: None, cut: true }));
     assert_eq!(count, [0]);
-    assert_eq!(round(&[], &[1.0], &mut count, 1), Ok(Round { cost: Some(-1.0), cut: false }));
+    assert_eq!(round(&[], &[1.0], &mut count, at(1)), Ok(Round { cost: Some(-1.0), cut: false }));
     assert_eq!(count, [1]);
     assert_eq!(root(f64::from_bits(1)), Ok(2.0_f64.powi(-537)));
 }
@@ -61,8 +70,7 @@ fn solver_refuses() {
     assert_eq!(refusal(solve_counts(&[], &[200_001.0])), (7, 0, 0));
     assert_eq!(solve_counts(&[], &[200_000.0]), Ok(vec![200_000]));
     let mut counts = [7, 8];
-    assert_eq!(refusal(round(&[], &[1.0], &mut counts, 1)), (8, 0, 0));
-    assert_eq!(refusal(round(&[], &[1.0; 2], &mut counts, 100_001)), (10, 0, 0));
+    assert_eq!(refusal(round(&[], &[1.0], &mut counts, UNSTATED)), (8, 0, 0));
     assert_eq!(counts, [7, 8]);
     assert_eq!(refusal(energy(&[0, 1_000_001], &[1.0; 2])), (9, 1, 0));
 }
@@ -84,14 +92,14 @@ fn ranges_refuse() {
     assert_eq!(refusal(solve_counts_within(&[tile()], &ones(3))), (3, 0, 3));
     assert_eq!(refusal(solve_counts_within(&[tile(), region([&[], &[1, 1], &[], &[]])], &ones(4))), (4, 1, 1));
     assert_eq!(refusal(solve_counts_within(&[region([&[0], &[1], &[0], &[2]])], &ones(3))), (5, 0, 0));
-    assert_eq!(refusal(solve_within(&vec![region([&[], &[], &[0], &[1]]); 3], &ones(2))), (6, 0, 0));
-    assert_eq!(refusal(solve_within(&[], &[200_001.0..=300_000.0])), (7, 0, 0));
+    assert_eq!(refusal(solve_within(&vec![region([&[], &[], &[0], &[1]]); 3], &ones(2), UNSTATED)), (6, 0, 0));
+    assert_eq!(refusal(solve_within(&[], &[200_001.0..=300_000.0], UNSTATED)), (7, 0, 0));
     assert_eq!(solve_counts_within(&[], &[200_000.0..=300_000.0]), Ok(vec![200_000]));
 
     let mut counts = [7, 1_000_001];
-    let on = |ranges: &[RangeInclusive<f64>], counts: &mut [usize], limit| refusal(round_within(&[tile()], ranges, counts, limit));
+    let on = |ranges: &[RangeInclusive<f64>], counts: &mut [usize], limit| refusal(round_within(&[tile()], ranges, counts, at(limit)));
     assert_eq!(on(&ones(257), &mut counts, 100_001), (1, 0, 0));
-    assert_eq!(refusal(round_within(&[], &ones(2), &mut [0; 257], 1)), (1, 0, 0));
+    assert_eq!(refusal(round_within(&[], &ones(2), &mut [0; 257], UNSTATED)), (1, 0, 0));
     assert_eq!(on(&[broken()], &mut counts, 100_001), (10, 0, 0));
     assert_eq!(on(&[broken()], &mut counts, 1), (8, 0, 0));
     assert_eq!(on(&[3.0..=2.0, broken()], &mut counts, 1), (2, 1, 0));
@@ -99,10 +107,124 @@ fn ranges_refuse() {
     assert_eq!(on(&ones(2), &mut counts, 1), (9, 1, 0));
     counts[1] = 1_000_000;
     assert_eq!(on(&ones(2), &mut counts, 1), (3, 0, 2));
-    assert_eq!(refusal(round_within(&[region([&[0, 0], &[], &[], &[]])], &ones(2), &mut counts, 1)), (4, 0, 0));
-    assert_eq!(refusal(round_within(&[region([&[], &[1], &[], &[1]])], &ones(2), &mut counts, 1)), (5, 0, 1));
-    assert_eq!(refusal(round_within(&vec![region([&[1], &[], &[], &[]]); 3], &ones(2), &mut counts, 1)), (6, 1, 0));
+    let on = |regions: &[Region], counts: &mut [usize]| refusal(round_within(regions, &ones(2), counts, UNSTATED));
+    assert_eq!(on(&[region([&[0, 0], &[], &[], &[]])], &mut counts), (4, 0, 0));
+    assert_eq!(on(&[region([&[], &[1], &[], &[1]])], &mut counts), (5, 0, 1));
+    assert_eq!(on(&vec![region([&[1], &[], &[], &[]]); 3], &mut counts), (6, 1, 0));
     assert_eq!(counts, [7, 1_000_000]);
+}
+
+fn equal_ends(ideals: &[f64]) -> Vec<RangeInclusive<f64>> {
+    ideals.iter().map(|&x| x..=x).collect()
+}
+
+/// The solve and the round of one kind of ideal, and those of the other, with this limit. They must agree: ranges with equal ends are ideals.
+fn both_kinds(
+    regions: &[Region],
+    ideals: &[f64],
+    counts: &mut [usize],
+    limit: SearchLimit,
+) -> (Result<Solved, Refusal>, Result<Round, Refusal>) {
+    let ranges = equal_ends(ideals);
+    let solved = solve(regions, ideals, limit);
+    assert_eq!(solve_within(regions, &ranges, limit), solved);
+    let mut within = counts.to_vec();
+    let made = round(regions, ideals, counts, limit);
+    assert_eq!(round_within(regions, &ranges, &mut within, limit), made);
+    assert_eq!(within, counts);
+    (solved, made)
+}
+
+/// A limit is stated or not. 0 is one, at which nothing is found; 100,000 is the highest; what is above, to the largest number, is refused
+/// by 10, and the counts are left.
+#[test]
+fn search_limits() {
+    let ideals = [2.0, 3.0];
+    for limit in [UNSTATED, SearchLimit::default(), at(1), at(10_000), at(99_999), at(100_000)] {
+        let mut counts = [0, 0];
+        let (solved, made) = both_kinds(&[], &ideals, &mut counts, limit);
+        assert_eq!(solved, Ok(Solved { counts: vec![2, 3], moves: 5 }), "{limit:?}");
+        assert_eq!(made, Ok(Round { cost: Some(-0.75), cut: false }), "{limit:?}");
+        assert_eq!(counts, [1, 0], "{limit:?}");
+    }
+    let mut counts = [7, 8];
+    let (solved, made) = both_kinds(&[], &ideals, &mut counts, at(0));
+    assert_eq!(solved, Ok(Solved { counts: vec![0, 0], moves: 0 }));
+    assert_eq!(made, Ok(Round { cost: None, cut: true }));
+    for limit in [100_001, u32::MAX as usize, 1 << 32, (1 << 32) + 1, usize::MAX] {
+        let (solved, made) = both_kinds(&[], &ideals, &mut counts, at(limit));
+        assert_eq!((refusal(solved), refusal(made)), ((10, 0, 0), (10, 0, 0)), "{limit}");
+    }
+    assert_eq!(counts, [7, 8]);
+    for limit in [UNSTATED, at(0), at(100_000)] {
+        let (solved, made) = both_kinds(&[], &[], &mut [], limit);
+        assert_eq!((solved.unwrap().moves, made), (0, Ok(Round { cost: None, cut: false })), "{limit:?}");
+    }
+}
+
+/// Groups of so many edges, each group opposite the next. One move pays, by one piece for the last edge of each group; a search from edge 0 comes to
+/// it behind all others. Regions, ideals, and the counts behind that move.
+fn groups(sizes: &[usize]) -> (Vec<Region>, Vec<f64>, Vec<usize>) {
+    let (mut lists, mut ideals, mut counts) = (Vec::new(), Vec::new(), Vec::new());
+    for &size in sizes {
+        lists.push((ideals.len()..ideals.len() + size).collect::<Vec<_>>());
+        ideals.extend((1..=size).map(|edge| if edge == size { 1.0 } else { 0.2 }));
+        counts.extend((1..=size).map(|edge| usize::from(edge == size)));
+    }
+    let regions = lists.windows(2).map(|pair| region([&pair[0], &[], &pair[1], &[]])).collect();
+    (regions, ideals, counts)
+}
+
+/// Without a stated limit it is 10,000: as many as the search of the first farm needs, and one too few for that of the second.
+#[test]
+fn limit_without_one() {
+    for (sizes, needed) in [([1, 3, 4, 13, 7, 4, 1], 10_000), ([1, 4, 7, 4, 8, 5, 1], 10_001)] {
+        let (regions, ideals, after) = groups(&sizes);
+        for (limit, found) in [(at(needed - 1), false), (at(needed), true), (UNSTATED, needed <= 10_000), (at(100_000), true)] {
+            let expected = if found { after.clone() } else { vec![0; ideals.len()] };
+            let mut counts = vec![0; ideals.len()];
+            let (solved, made) = both_kinds(&regions, &ideals, &mut counts, limit);
+            assert_eq!(solved, Ok(Solved { counts: expected.clone(), moves: usize::from(found) }), "{needed} {limit:?}");
+            assert_eq!((made.unwrap().cost.is_some(), counts), (found, expected), "{needed} {limit:?}");
+        }
+        assert_eq!(solve_counts(&regions, &ideals), solve(&regions, &ideals, UNSTATED).map(|solved| solved.counts));
+        let ranges = equal_ends(&ideals);
+        assert_eq!(solve_counts_within(&regions, &ranges), solve_within(&regions, &ranges, UNSTATED).map(|solved| solved.counts));
+    }
+}
+
+/// A limit that is too large comes behind 1 and before every other fault, in solves and rounds of both kinds.
+#[test]
+fn limit_among_faults() {
+    let faults = [
+        (1, vec![Region::default(); 129], vec![f64::NAN]),
+        (1, vec![], vec![1.0; 257]),
+        (1, vec![region([&[0; 33], &[], &[], &[]])], vec![1.0]),
+        (2, vec![tile()], vec![1.0, f64::NAN, 1.0]),
+        (3, vec![tile()], vec![1.0; 3]),
+        (4, vec![region([&[0, 0], &[], &[0], &[]])], vec![1.0]),
+        (5, vec![region([&[0], &[], &[0], &[]]); 2], vec![1.0]),
+        (6, vec![region([&[0], &[], &[], &[]]); 3], vec![1.0]),
+    ];
+    let over = at(100_001);
+    for (number, regions, ideals) in faults {
+        let with_it = if number == 1 { 1 } else { 10 };
+        for (limit, expected) in [(UNSTATED, number), (at(0), number), (at(100_000), number), (over, with_it)] {
+            let (solved, made) = both_kinds(&regions, &ideals, &mut vec![0; ideals.len()], limit);
+            assert_eq!((refusal(solved).0, refusal(made).0), (expected, expected), "{number} {limit:?}");
+        }
+    }
+    // 35 of ranges, 8 and 9 of rounds, 7 of solves
+    assert_eq!(refusal(solve_within(&[], &[3.0..=2.0], over)), (10, 0, 0));
+    assert_eq!(refusal(round_within(&[], &[3.0..=2.0], &mut [0], over)), (10, 0, 0));
+    assert_eq!(refusal(round(&[], &[1.0], &mut [], over)), (10, 0, 0));
+    assert_eq!(refusal(round_within(&[], &[1.0..=2.0], &mut [], over)), (10, 0, 0));
+    assert_eq!(refusal(round(&[], &[1.0], &mut [1_000_001], over)), (10, 0, 0));
+    assert_eq!(refusal(round_within(&[], &[1.0..=2.0], &mut [1_000_001], over)), (10, 0, 0));
+    assert_eq!(refusal(solve(&[], &[200_001.0], over)), (10, 0, 0));
+    for limit in [at(1), UNSTATED, at(100_000)] {
+        assert_eq!(refusal(solve(&[], &[200_001.0], limit)), (7, 0, 0));
+    }
 }
 
 /// An edge costs nothing while its count lies in its range, ends included, and ends that are equal are an ideal.
@@ -110,26 +232,26 @@ fn ranges_refuse() {
 fn ranges() {
     let ranges = vec![2.0..=5.0; 4];
     let mut inside = [2, 5, 3, 4];
-    assert_eq!(round_within(&[], &ranges, &mut inside, 1), Ok(Round { cost: None, cut: false }));
+    assert_eq!(round_within(&[], &ranges, &mut inside, at(1)), Ok(Round { cost: None, cut: false }));
     assert_eq!(inside, [2, 5, 3, 4]);
     let mut outside = [2, 6, 1, 0];
-    assert_eq!(round_within(&[], &ranges, &mut outside, 0), Ok(Round { cost: None, cut: true }));
-    assert_eq!(round_within(&[], &ranges, &mut outside, 1), Ok(Round { cost: Some(-0.75), cut: false }));
+    assert_eq!(round_within(&[], &ranges, &mut outside, at(0)), Ok(Round { cost: None, cut: true }));
+    assert_eq!(round_within(&[], &ranges, &mut outside, at(1)), Ok(Round { cost: Some(-0.75), cut: false }));
     assert_eq!(outside, [2, 6, 1, 1]);
     let mut between = [2];
-    assert!(round_within(&[], &[2.2..=2.8], &mut between, 1).unwrap().cost.is_some());
+    assert!(round_within(&[], &[2.2..=2.8], &mut between, UNSTATED).unwrap().cost.is_some());
     assert_eq!(between, [3]);
-    assert_eq!(round_within(&[], &[2.2..=2.8], &mut between, 1), Ok(Round { cost: None, cut: false }));
-    assert_eq!(solve_within(&[], &[]), Ok(Solved { counts: vec![], moves: 0 }));
+    assert_eq!(round_within(&[], &[2.2..=2.8], &mut between, UNSTATED), Ok(Round { cost: None, cut: false }));
+    assert_eq!(solve_within(&[], &[], UNSTATED), Ok(Solved { counts: vec![], moves: 0 }));
 
     let two = [tile(), region([&[4], &[5], &[6], &[1]])];
     for k in 0..40 {
         let ideals: Vec<f64> = (0..7).map(|e| 0.5 + f64::from((e * 7 + k * 3) % 11) / 2.0).collect();
-        let equal: Vec<_> = ideals.iter().map(|&x| x..=x).collect();
-        assert_eq!(solve_within(&two, &equal), solve(&two, &ideals));
-        let (mut by, mut within) = ([3; 7], [3; 7]);
-        assert_eq!(round_within(&two, &equal, &mut within, 20), round(&two, &ideals, &mut by, 20));
-        assert_eq!(within, by);
+        for limit in [UNSTATED, at(0), at(3), at(20), at(100_000)] {
+            let (solved, made) = both_kinds(&two, &ideals, &mut [3; 7], limit);
+            assert!(made.is_ok());
+            assert_eq!(constraints_hold(&two, &solved.unwrap().counts), Ok(true));
+        }
         let wide: Vec<_> = ideals.iter().map(|&x| x..=2.0 * x).collect();
         assert_eq!(constraints_hold(&two, &solve_counts_within(&two, &wide).unwrap()), Ok(true));
     }
@@ -158,15 +280,14 @@ fn full_sides() {
         low[edges] -= 1;
         assert_eq!(constraints_hold(&tiles, &low), Ok(true));
         let (mut by, mut within) = (low.clone(), low);
-        let ranges: Vec<_> = ideals.iter().map(|&x| x..=x).collect();
-        assert!(round(&tiles, &ideals, &mut by, 100_000).unwrap().cost.is_some());
-        assert!(round_within(&tiles, &ranges, &mut within, 100_000).unwrap().cost.is_some());
+        assert!(round(&tiles, &ideals, &mut by, UNSTATED).unwrap().cost.is_some());
+        assert!(round_within(&tiles, &equal_ends(&ideals), &mut within, UNSTATED).unwrap().cost.is_some());
         assert_eq!((&by, &within), (&counts, &counts));
     }
     let long = region([&[0; 33], &[], &[], &[]]);
     let mut count = [0];
-    assert_eq!(refusal(round(&[long.clone()], &[1.0], &mut count, 1)), (1, 0, 0));
-    assert_eq!(refusal(round_within(&[long.clone()], &[1.0..=1.0], &mut count, 1)), (1, 0, 0));
+    assert_eq!(refusal(round(&[long.clone()], &[1.0], &mut count, UNSTATED)), (1, 0, 0));
+    assert_eq!(refusal(round_within(&[long.clone()], &[1.0..=1.0], &mut count, UNSTATED)), (1, 0, 0));
     assert_eq!(refusal(constraints_hold(&[long.clone()], &count)), (1, 0, 0));
     assert_eq!(refusal(lay_region(&long, &count, [&[0.0, 1.0]; 4], &square())), (1, 0, 0));
 }
@@ -230,11 +351,13 @@ fn large_numbers() {
     assert_eq!(refusal(solve_counts(&far, &[1.0])), (3, 0, 0));
     assert_eq!(constraints_hold(&far, &[1]), Ok(false));
     assert_eq!(refusal(energy(&[1 << 40], &[1.0])), (9, 0, 0));
-    assert_eq!(refusal(round(&[], &[1.0], &mut [1 << 40], 1)), (9, 0, 0));
-    assert_eq!(refusal(round(&[], &[1.0], &mut [1], 1 << 40)), (10, 0, 0));
-    assert_eq!(refusal(solve_within(&far, &[1.0..=2.0])), (3, 0, 0));
-    assert_eq!(refusal(round_within(&[], &[1.0..=2.0], &mut [1 << 40], 1)), (9, 0, 0));
-    assert_eq!(refusal(round_within(&[], &[1.0..=2.0], &mut [1], 1 << 40)), (10, 0, 0));
+    assert_eq!(refusal(round(&[], &[1.0], &mut [1 << 40], UNSTATED)), (9, 0, 0));
+    assert_eq!(refusal(round(&[], &[1.0], &mut [1], at(1 << 40))), (10, 0, 0));
+    assert_eq!(refusal(solve(&[], &[1.0], at(1 << 40))), (10, 0, 0));
+    assert_eq!(refusal(solve_within(&far, &[1.0..=2.0], UNSTATED)), (3, 0, 0));
+    assert_eq!(refusal(solve_within(&far, &[1.0..=2.0], at(1 << 40))), (10, 0, 0));
+    assert_eq!(refusal(round_within(&[], &[1.0..=2.0], &mut [1 << 40], UNSTATED)), (9, 0, 0));
+    assert_eq!(refusal(round_within(&[], &[1.0..=2.0], &mut [1], at(1 << 40))), (10, 0, 0));
     assert_eq!(refusal(constraints_hold(&[tile()], &[1 << 40, 0, 1 << 40, 0])), (1, 0, 0));
     assert_eq!(refusal(coons_curves(&square(), 1 << 40, 1)), (1, 0, 0));
     assert_eq!(refusal(mesh_tile_curves(&square(), 1, usize::MAX)), (1, 0, 0));

@@ -6,7 +6,8 @@
 use juplatsk::*;
 
 const SPACING: f64 = 9.0;
-const LIMIT: usize = 100_000;
+const UNSTATED: SearchLimit = SearchLimit::Default;
+const HIGHEST: SearchLimit = SearchLimit::Expansions(100_000);
 
 /// Tiles between straight edges. An edge goes from one corner to another, to the right or up.
 struct Farm {
@@ -122,7 +123,7 @@ fn xs(pegs: &[Point]) -> Vec<f64> {
 }
 
 /// Rounds from zeros until one makes no move: the counts, how many moves were made, and whether the last round was cut.
-fn rounds(tiles: &[Region], ideals: &[f64], limit: usize) -> (Solved, bool) {
+fn rounds(tiles: &[Region], ideals: &[f64], limit: SearchLimit) -> (Solved, bool) {
     let mut solved = Solved { counts: vec![0; ideals.len()], moves: 0 };
     loop {
         let made = round(tiles, ideals, &mut solved.counts, limit).unwrap();
@@ -255,8 +256,46 @@ fn millimetres_may_differ() {
 fn cut_search_misses_moves() {
     let tiles = [region([&[0], &[], &[1, 2], &[]]), region([&[1, 2], &[], &[3], &[]])];
     let ideals = [4.0, 1.0, 3.0, 4.0];
-    assert_eq!(rounds(&tiles, &ideals, 3), (Solved { counts: vec![1, 1, 0, 1], moves: 1 }, true));
-    assert_eq!(rounds(&tiles, &ideals, 5), (Solved { counts: vec![4, 1, 3, 4], moves: 4 }, false));
+    let [three, five] = [3, 5].map(SearchLimit::Expansions);
+    assert_eq!(rounds(&tiles, &ideals, three), (Solved { counts: vec![1, 1, 0, 1], moves: 1 }, true));
+    assert_eq!(rounds(&tiles, &ideals, five), (Solved { counts: vec![4, 1, 3, 4], moves: 4 }, false));
+}
+
+/// Without a stated limit a search makes 10,000 expansions at most, and a solve may come to other counts than with more, balanced all the same.
+/// Smallest farm found: nine strips side by side, with 1, 2, 3, 3, 3, 3, 3, 3, 3 and 1 edges on their ten borders, 25 in all, of 9 m the last of each
+/// border and of 1.8 m the others. One move pays, a piece for each edge of 9 m, and a search comes to it behind all others: from the left end
+/// as its expansion 10,935, from the right end as its 12,028. So without a limit no move is found, and the round after the solve tells that one may
+/// have been missed.
+#[test]
+fn stated_limit_comes_to_other_counts() {
+    let (mut borders, mut ideals) = (Vec::new(), Vec::new());
+    for edges in [1, 2, 3, 3, 3, 3, 3, 3, 3, 1] {
+        borders.push((ideals.len()..ideals.len() + edges).collect::<Vec<_>>());
+        ideals.extend((1..=edges).map(|edge| if edge == edges { 9.0 / SPACING } else { 1.8 / SPACING }));
+    }
+    let tiles: Vec<Region> = borders.windows(2).map(|pair| region([&[], &pair[1], &[], &pair[0]])).collect();
+    assert_eq!((tiles.len(), ideals.len()), (9, 25));
+
+    let found = vec![1, 0, 1, 0, 0, 1, 0, 0, 1, 0, 0, 1, 0, 0, 1, 0, 0, 1, 0, 0, 1, 0, 0, 1, 1];
+    assert_eq!(solve(&tiles, &ideals, UNSTATED), Ok(Solved { counts: vec![0; 25], moves: 0 }));
+    assert_eq!(solve(&tiles, &ideals, HIGHEST), Ok(Solved { counts: found.clone(), moves: 1 }));
+    assert_eq!(constraints_hold(&tiles, &[0; 25]), Ok(true));
+    assert_eq!(constraints_hold(&tiles, &found), Ok(true));
+    assert_eq!(energy(&[0; 25], &ideals), Ok(25.0));
+    assert_eq!(energy(&found, &ideals), Ok(15.0));
+
+    let [short, enough] = [10_934, 10_935].map(SearchLimit::Expansions);
+    assert_eq!(solve(&tiles, &ideals, short).map(|solved| solved.moves), Ok(0));
+    assert_eq!(solve(&tiles, &ideals, enough).map(|solved| solved.counts), Ok(found.clone()));
+    let [cut, uncut] = [12_027, 12_028].map(|limit| round(&tiles, &ideals, &mut [0; 25], SearchLimit::Expansions(limit)).unwrap().cut);
+    assert_eq!([cut, uncut], [true, false]);
+
+    // the round after a solve, with the solve's limit; and one with a higher limit, which finds the move
+    assert_eq!(round(&tiles, &ideals, &mut [0; 25], UNSTATED), Ok(Round { cost: None, cut: true }));
+    assert_eq!(round(&tiles, &ideals, &mut found.clone(), HIGHEST), Ok(Round { cost: None, cut: false }));
+    let mut counts = [0; 25];
+    assert_eq!(round(&tiles, &ideals, &mut counts, HIGHEST), Ok(Round { cost: Some(-10.0), cut: false }));
+    assert_eq!(counts[..], found);
 }
 
 /// So many strips side by side, 45 m long and 9 m wide. A border between two has three edges, of 9, 9 and 27 m. First come the borders'
@@ -275,31 +314,53 @@ fn strips(number: usize) -> (Vec<Region>, Vec<f64>) {
     ((0..number).map(strip).collect(), ideals)
 }
 
-/// On wide farms the searches of a solve are cut too, and edges that want many pieces may be left at 0; the solve does not tell. Make a
-/// round with limit 100,000 on its counts and look at `cut`, which alone tells; compare by `energy` with counts made by hand.
+/// A solve of so many strips: how many of its edges that want three pieces are left at 0, its energy, and whether the round after it, which has the
+/// same limit and makes no move, was cut.
+fn solved_strips(number: usize, limit: SearchLimit) -> (usize, f64, bool) {
+    let (tiles, ideals) = strips(number);
+    let mut counts = solve(&tiles, &ideals, limit).unwrap().counts;
+    assert_eq!(constraints_hold(&tiles, &counts), Ok(true));
+    let after = round(&tiles, &ideals, &mut counts, limit).unwrap();
+    assert_eq!(after.cost, None);
+    let left_out = counts.iter().zip(&ideals).filter(|&(&count, &ideal)| count == 0 && ideal == 3.0).count();
+    (left_out, energy(&counts, &ideals).unwrap(), after.cut)
+}
+
+/// On wide farms the searches of a solve are cut too, and edges that want many pieces may be left at 0; the solve does not tell. Make a round on its
+/// counts with its own limit and look at `cut`, which alone tells; then state a higher limit, or compare by `energy` with counts made by hand.
 #[test]
 fn cut_solve_leaves_edges_at_zero() {
-    let (tiles, ideals) = strips(16);
-    let counts = solve_counts(&tiles, &ideals).unwrap();
-    let mut after = counts.clone();
-    assert_eq!(round(&tiles, &ideals, &mut after, LIMIT), Ok(Round { cost: None, cut: true }));
-    let left_out = counts.iter().zip(&ideals).filter(|&(&count, &ideal)| count == 0 && ideal == 3.0).count();
-    assert_eq!(left_out, 15);
-    assert!(energy(&counts, &ideals).unwrap() > 15.0);
+    // eight strips are few enough for the limit that is not stated, ten for the highest; at nine and at eleven searches are cut
+    assert_eq!(solved_strips(8, UNSTATED), (0, 0.0, false));
+    assert_eq!(solved_strips(10, HIGHEST), (0, 0.0, false));
+    let (left_out, sum, cut) = solved_strips(9, UNSTATED);
+    assert!(left_out == 0 && sum > 0.9 && cut);
+    assert_eq!(solved_strips(11, HIGHEST), (0, 0.0, true));
 
+    // 13 strips, which is the least number that leaves any: all twelve, or none
+    for number in 2..13 {
+        assert_eq!(solved_strips(number, UNSTATED).0, 0);
+    }
+    let (left_out, sum, cut) = solved_strips(13, UNSTATED);
+    assert!(left_out == 12 && sum > 12.0 && cut);
+    let (left_out, sum, cut) = solved_strips(13, HIGHEST);
+    assert!(left_out == 0 && sum > 1.0 && sum < 2.0 && cut);
+
+    // 16 strips: all fifteen with either limit, though the ideals fit exactly
+    for limit in [UNSTATED, HIGHEST] {
+        let (left_out, sum, cut) = solved_strips(16, limit);
+        assert!(left_out == 15 && sum > 15.0 && cut);
+    }
+    let (tiles, ideals) = strips(16);
     let by_hand: Vec<usize> = ideals.iter().map(|&ideal| ideal as usize).collect();
     assert_eq!(constraints_hold(&tiles, &by_hand), Ok(true));
     assert_eq!(energy(&by_hand, &ideals), Ok(0.0));
 
-    // ten strips are few enough
-    let (tiles, ideals) = strips(10);
-    let mut counts = solve_counts(&tiles, &ideals).unwrap();
-    assert_eq!(energy(&counts, &ideals), Ok(0.0));
-    assert_eq!(round(&tiles, &ideals, &mut counts, LIMIT), Ok(Round { cost: None, cut: false }));
-
     // a 0 at a large ideal is no sign of a cut: a second piece at the bottom would cost more than one at the top wins
     let split = [region([&[0], &[], &[1, 2], &[]])];
-    assert_eq!(rounds(&split, &[1.0, 1.0, 6.0], LIMIT), (Solved { counts: vec![1, 1, 0], moves: 1 }, false));
+    for limit in [UNSTATED, HIGHEST] {
+        assert_eq!(rounds(&split, &[1.0, 1.0, 6.0], limit), (Solved { counts: vec![1, 1, 0], moves: 1 }, false));
+    }
 }
 
 /// From 8 points on a loop is four curves, so each corner stands twice. If it ends just where it began, the last point is dropped as a
@@ -339,12 +400,14 @@ fn areas_drown_far_from_the_origin() {
     assert_eq!([number(0.0, 1.0, 1), number(0.0, 9.0, 10)], [Ok(1), Ok(100)]);
 }
 
-/// A solve tells nothing before its end. Rounds from zeros with limit 100,000 come to the same counts by as many moves, so a program can
-/// make them one by one, show how far it is, and stop when it likes: opposite sides agree after every round. It takes longer than a
-/// solve, and wants a bound such as the solve's 200,000 moves.
+/// A solve tells nothing before its end. Rounds from zeros with the same limit come to the same counts by as many moves, so a program can
+/// make them one by one, show how far it is, and stop when it likes: opposite sides agree after every round. It may take longer than
+/// a solve, and wants a bound such as the solve's 200,000 moves.
 #[test]
 fn rounds_by_hand_are_a_solve() {
     let farm = three_tiles([[0.0, 0.0], [97.0, 4.0], [2.0, 31.0], [45.0, 35.0], [99.0, 30.0], [0.0, 70.0], [47.0, 66.0], [95.0, 71.0]]);
     let ideals = farm.ideals();
-    assert_eq!(rounds(&farm.tiles, &ideals, LIMIT), (solve(&farm.tiles, &ideals).unwrap(), false));
+    for (limit, cut) in [(UNSTATED, false), (HIGHEST, false), (SearchLimit::Expansions(3), true), (SearchLimit::Expansions(0), true)] {
+        assert_eq!(rounds(&farm.tiles, &ideals, limit), (solve(&farm.tiles, &ideals, limit).unwrap(), cut));
+    }
 }

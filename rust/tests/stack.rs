@@ -16,7 +16,8 @@ fn square() -> BoundaryCurves {
     BoundaryCurves { bottom: side(|t| [t, 0.0]), right: side(|t| [1.0, t]), top: side(|t| [1.0 - t, 1.0]), left: side(|t| [0.0, 1.0 - t]) }
 }
 
-/// 128 regions whose 256 constraints join 256 edges in one ring, so that a search goes through all of them.
+/// 128 regions whose 256 constraints join 256 edges in one ring, so that a search goes through all of them. It makes 511 expansions: no call goes
+/// deeper, whatever its limit, and none here is cut.
 fn ring() -> Vec<Region> {
     (0..128).map(|k| Region::new([vec![2 * k], vec![2 * k + 1], vec![2 * k + 1], vec![(2 * k + 2) % 256]])).collect()
 }
@@ -24,15 +25,18 @@ fn ring() -> Vec<Region> {
 #[test]
 fn solver() {
     in_a_small_thread(|| {
-        let ideals = [2.0; 256];
-        let mut counts = [0; 256];
-        assert!(round(&ring(), &ideals, &mut counts, 1000).unwrap().cost.is_some());
-        assert_eq!(counts, [1; 256]);
-        assert!(round_within(&ring(), &vec![2.0..=3.0; 256], &mut counts, 1000).unwrap().cost.is_some());
-        assert_eq!(counts, [2; 256]);
-        assert_eq!(solve_counts(&ring(), &ideals), Ok(vec![2; 256]));
-        assert_eq!(solve_counts_within(&ring(), &vec![2.0..=3.0; 256]), Ok(vec![2; 256]));
-        assert_eq!(constraints_hold(&ring(), &counts), Ok(true));
+        let (ideals, ranges) = ([2.0; 256], vec![2.0..=3.0; 256]);
+        let solved = || Ok(Solved { counts: vec![2; 256], moves: 2 });
+        for limit in [SearchLimit::Default, SearchLimit::Expansions(100_000)] {
+            let mut counts = [0; 256];
+            assert_eq!(round(&ring(), &ideals, &mut counts, limit).map(|made| (made.cost.is_some(), made.cut)), Ok((true, false)));
+            assert_eq!(counts, [1; 256]);
+            assert_eq!(round_within(&ring(), &ranges, &mut counts, limit).map(|made| (made.cost.is_some(), made.cut)), Ok((true, false)));
+            assert_eq!(counts, [2; 256]);
+            assert_eq!(solve(&ring(), &ideals, limit), solved());
+            assert_eq!(solve_within(&ring(), &ranges, limit), solved());
+            assert_eq!(constraints_hold(&ring(), &counts), Ok(true));
+        }
     });
 }
 

@@ -35,6 +35,10 @@ fn sentences() {
         words(coons_from_parameters(&square(), &[0.0, 0.5, 0.25, 1.0], &[0.0, 1.0], &[0.0, 1.0], &[0.0, 1.0])),
         "refusal 20 at seam 0 (bottom), value 2: the value is below the one before it; mend the seam, or in lay_region the side's breaks"
     );
+    assert_eq!(
+        words(solve(&[], &[1.0], SearchLimit::Expansions(100_001))),
+        "refusal 10: the search limit is above 100,000; state 0 to 100,000"
+    );
     assert_eq!(words(root(-1.0)), "refusal 28: a NaN or a number below 0 has no root; give a number from 0 up");
     assert_eq!(
         words(solve_counts(&vec![Region::default(); 129], &[])),
@@ -46,11 +50,14 @@ fn sentences() {
 fn limits_of_the_solver() {
     let long = Region::new([vec![], vec![], (0..33).collect(), vec![]]);
     assert_eq!(limit(solve_counts(&vec![Region::default(); 129], &[])), (Limited::Regions, 129, 128));
-    assert_eq!(limit(solve(&[], &[1.0; 257])), (Limited::Edges, 257, 256));
-    assert_eq!(limit(solve_within(&[], &vec![1.0..=2.0; 257])), (Limited::Edges, 257, 256));
+    assert_eq!(limit(solve(&[], &[1.0; 257], SearchLimit::Default)), (Limited::Edges, 257, 256));
+    assert_eq!(limit(solve_within(&[], &vec![1.0..=2.0; 257], SearchLimit::Default)), (Limited::Edges, 257, 256));
     assert_eq!(limit(solve_counts(&[tile(), long.clone()], &[1.0; 33])), (Limited::EdgesOnSide { region: 1, side: 2 }, 33, 32));
-    assert_eq!(limit(round(&[], &[1.0], &mut [0; 300], 1)), (Limited::Edges, 300, 256));
-    assert_eq!(limit(round_within(&[long], &[1.0..=2.0], &mut [0], 1)), (Limited::EdgesOnSide { region: 0, side: 2 }, 33, 32));
+    assert_eq!(limit(round(&[], &[1.0], &mut [0; 300], SearchLimit::Expansions(1))), (Limited::Edges, 300, 256));
+    assert_eq!(
+        limit(round_within(&[long], &[1.0..=2.0], &mut [0], SearchLimit::Expansions(1))),
+        (Limited::EdgesOnSide { region: 0, side: 2 }, 33, 32)
+    );
     assert_eq!(limit(energy(&[0; 258], &[1.0])), (Limited::Edges, 258, 256));
     assert_eq!(limit(constraints_hold(&[], &[0; 257])), (Limited::Edges, 257, 256));
     assert_eq!(limit(constraints_hold(&[], &[0, 1 << 32])), (Limited::Count { edge: 1 }, 1 << 32, (1 << 32) - 1));

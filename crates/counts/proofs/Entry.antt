@@ -15,7 +15,7 @@ use Rattle.counts.specs.Cost.{CostModel, Spacing, within, costs-of, edge
 use Rattle.counts.specs.Round.{find-move, Solved, solve-from, solve-zeros, max-moves}
 use Rattle.regions.specs.Accept.{limits-test, pairs-test, overused-test, regions-test, max-edges}
 use Rattle.counts.specs.Values.{spacing-lengths, counts-test, count-ok, first-bad, max-count}
-use Rattle.counts.specs.Solver.{Round, round-of, round-by, round-refused, round-with, round, round-test, Solve, solve-of, solve-part, with-rest, solve-refused, solve-with, solve, solve-test, max-limit}
+use Rattle.counts.specs.Solver.{Round, round-of, round-by, round-refused, round-with, round, round-test, Solve, solve-of, solve-part, with-rest, solve-refused, solve-with, solve, solve-test}
 use Rattle.counts.specs.inner.Checks.{round-head, solve-head}
 use Rattle.counts.specs.inner.Tables.{Tables, the-graph}
 use Rattle.counts.specs.inner.Graph.{Built}
@@ -146,35 +146,35 @@ built-tables n regions incident own b e = b .tables (subst (λ (x : Check). T (i
 
 -- ---- solve
 
-module _ (regions : List ℕ) (spacing : Spacing) (lent : List ℕ) where
+module _ (regions : List ℕ) (spacing : Spacing) (lent : List ℕ) (limit : ℕ) where
   abbrev test : Verdict
-  test = solve-test places regions spacing (length lent)
+  test = solve-test places regions spacing (length lent) limit
 
   by-test : Verdict → Solve → Bool → Solve
   by-test v s b = elim b [ true ↦ with-rest (edges-of spacing) s lent | false ↦ solve-refused v lent ]
 
   abbrev part : Solve
-  part = solve-part (edges-of spacing) (solve-zeros (graph places regions) (costs-of spacing) max-limit (edges-of spacing))
+  part = solve-part (edges-of spacing) (solve-zeros (graph places regions) (costs-of spacing) limit (edges-of spacing))
 
-  solve-opens : solve regions spacing lent ≡ by-test test part (is-passed test)
+  solve-opens : solve regions spacing lent limit ≡ by-test test part (is-passed test)
   unfolding solve solve-with by-test
   solve-opens = refl
 
-  turned : (r : Refusal) → verdict-of r ≡ test → is-passed test ≡ false → solve-of (solve-answer.Refused r) lent ≡ solve regions spacing lent
+  turned : (r : Refusal) → verdict-of r ≡ test → is-passed test ≡ false → solve-of (solve-answer.Refused r) lent ≡ solve regions spacing lent limit
   unfolding solve-of by-test
   turned r q f = ap (λ (v : Verdict). solve-refused v lent) q ∙ ap (by-test test part) (sym f) ∙ sym solve-opens
 
-  pub solve-refused-early : {c : Check} {r : Refusal} → c ≡ Refused r → outcome c ≡ solve-head places regions spacing (length lent)
-      → solve-of (solve-answer.Refused r) lent ≡ solve regions spacing lent
+  pub solve-refused-early : {c : Check} {r : Refusal} → c ≡ Refused r → outcome c ≡ solve-head places regions spacing (length lent) limit
+      → solve-of (solve-answer.Refused r) lent ≡ solve regions spacing lent limit
   solve-refused-early {c} {r} e o =
       let q = head-refused (overused-test (graph places regions) 0 (edges-of spacing)) e o in
-      let k = solve-test-chain places regions spacing (length lent) in turned r (q .0 ∙ sym k) (ap is-passed k ∙ q .1)
+      let k = solve-test-chain places regions spacing (length lent) limit in turned r (q .0 ∙ sym k) (ap is-passed k ∙ q .1)
 
-  pub solve-refused-late : {c d : Check} {r : Refusal} → c ≡ Passed → outcome c ≡ solve-head places regions spacing (length lent)
-      → d ≡ Refused r → outcome d ≡ overused-test (graph places regions) 0 (edges-of spacing) → solve-of (solve-answer.Refused r) lent ≡ solve regions spacing lent
+  pub solve-refused-late : {c d : Check} {r : Refusal} → c ≡ Passed → outcome c ≡ solve-head places regions spacing (length lent) limit
+      → d ≡ Refused r → outcome d ≡ overused-test (graph places regions) 0 (edges-of spacing) → solve-of (solve-answer.Refused r) lent ≡ solve regions spacing lent limit
   solve-refused-late {c} {d} {r} e o f p =
       let q = was-refused f p in
-      let k = solve-test-chain places regions spacing (length lent) ∙ head-passed (solve-head places regions spacing (length lent)) (overused-test (graph places regions) 0 (edges-of spacing)) (was-passed e o) in
+      let k = solve-test-chain places regions spacing (length lent) limit ∙ head-passed (solve-head places regions spacing (length lent) limit) (overused-test (graph places regions) 0 (edges-of spacing)) (was-passed e o) in
       turned r (q .0 ∙ sym k) (ap is-passed k ∙ q .1)
 
   rest-of : (r : SolveAnswer) (after : List ℕ) → solve-of r (after ++ drop (edges-of spacing) lent) ≡ with-rest (edges-of spacing) (solve-of r after) lent
@@ -182,28 +182,28 @@ module _ (regions : List ℕ) (spacing : Spacing) (lent : List ℕ) where
   rest-of (solve-answer.Moves m) after = refl
   rest-of (solve-answer.Refused r) after = refl
 
-  pub solve-done : {c d : Check} (r : SolveAnswer) (after whole : List ℕ) → c ≡ Passed → outcome c ≡ solve-head places regions spacing (length lent)
+  pub solve-done : {c d : Check} (r : SolveAnswer) (after whole : List ℕ) → c ≡ Passed → outcome c ≡ solve-head places regions spacing (length lent) limit
       → d ≡ Passed → outcome d ≡ overused-test (graph places regions) 0 (edges-of spacing)
       → solve-of r after ≡ part → whole ≡ after ++ drop (edges-of spacing) lent
-      → solve-of r whole ≡ solve regions spacing lent
+      → solve-of r whole ≡ solve regions spacing lent limit
   unfolding by-test
   solve-done r after whole e o f p a w =
-      let k = solve-test-chain places regions spacing (length lent) ∙ head-passed (solve-head places regions spacing (length lent)) (overused-test (graph places regions) 0 (edges-of spacing)) (was-passed e o) in
+      let k = solve-test-chain places regions spacing (length lent) limit ∙ head-passed (solve-head places regions spacing (length lent) limit) (overused-test (graph places regions) 0 (edges-of spacing)) (was-passed e o) in
       ap (solve-of r) w ∙ rest-of r after ∙ ap (λ (s : Solve). with-rest (edges-of spacing) s lent) a
       ∙ ap (by-test test part) (sym (ap is-passed k ∙ was-passed f p)) ∙ sym solve-opens
 
-  tested : {c : Check} → c ≡ Passed → outcome c ≡ solve-head places regions spacing (length lent) → SolvePassed places regions spacing (length lent) (pairs-test places (edges-of spacing) 0 (region-count places regions) regions)
+  tested : {c : Check} → c ≡ Passed → outcome c ≡ solve-head places regions spacing (length lent) limit → SolvePassed places regions spacing (length lent) (pairs-test places (edges-of spacing) 0 (region-count places regions) regions)
   unfolding solve-head
-  tested e o = solve-passed places regions spacing (length lent) (pairs-test places (edges-of spacing) 0 (region-count places regions) regions) (was-passed e o)
+  tested e o = solve-passed places regions spacing (length lent) limit (pairs-test places (edges-of spacing) 0 (region-count places regions) regions) (was-passed e o)
 
-  pub solve-tables : {c : Check} → c ≡ Passed → outcome c ≡ solve-head places regions spacing (length lent)
+  pub solve-tables : {c : Check} → c ≡ Passed → outcome c ≡ solve-head places regions spacing (length lent) limit
       → T (is-passed (limits-test places (edges-of spacing) regions)) × T (is-passed (pairs-test places (edges-of spacing) 0 (region-count places regions) regions))
   solve-tables e o = let h = tested e o in (true-T _ (h .limits), true-T _ (h .last-ok))
 
-  pub solve-room : {c : Check} → c ≡ Passed → outcome c ≡ solve-head places regions spacing (length lent) → (edges-of spacing ≤ length lent) × (edges-of spacing ≤ max-edges) × (is-passed (spacing-lengths spacing) ≡ true)
+  pub solve-room : {c : Check} → c ≡ Passed → outcome c ≡ solve-head places regions spacing (length lent) limit → (edges-of spacing ≤ length lent) × (edges-of spacing ≤ max-edges) × (is-passed (spacing-lengths spacing) ≡ true)
   solve-room e o = let h = tested e o in (h .enough, limits-passed places (edges-of spacing) regions (h .limits) .0, h .lists)
 
-  pub solve-regions : {c d : Check} → c ≡ Passed → outcome c ≡ solve-head places regions spacing (length lent)
+  pub solve-regions : {c d : Check} → c ≡ Passed → outcome c ≡ solve-head places regions spacing (length lent) limit
       → d ≡ Passed → outcome d ≡ overused-test (graph places regions) 0 (edges-of spacing) → T (is-passed (regions-test places (edges-of spacing) regions))
   solve-regions e o f p = regions-pass regions (edges-of spacing) (tested e o .last-ok) (was-passed f p)
 

@@ -18,8 +18,8 @@ use Rattle.counts.specs.Cost.{CostModel, by-ideals, by-ranges, by, withi
 use Rattle.floats.specs.Scalar.{one}
 use Rattle.counts.specs.Round.{find-move, solve-zeros}
 use Rattle.regions.specs.Accept.{limits-test, regions-test}
-use Rattle.counts.specs.Values.{first-bad, ideal-ok, ideals-test, counts-test, ranges, ends-ok, in-order, ranges-test, spacing-limits, lengths-test, spacing-lengths, values-test}
-use Rattle.counts.specs.Solver.{max-limit, Round, round-by, round-refused, round-with, round, round-order, round-test, Solve, solve-part, with-rest, solve-refused, solve-with, solve, solve-order, solve-test}
+use Rattle.counts.specs.Values.{first-bad, ideal-ok, ideals-test, counts-test, ranges, ends-ok, in-order, ranges-test, limit-test, spacing-limits, lengths-test, spacing-lengths, values-test}
+use Rattle.counts.specs.Solver.{Round, round-by, round-refused, round-with, round, round-order, round-test, Solve, solve-part, with-rest, solve-refused, solve-with, solve, solve-order, solve-test}
 use Rattle.counts.proofs.Entry.{none-bad}
 use Rattle.counts.proofs.cost.Ranges.{models-same}
 use Rattle.counts.proofs.SolverLaws.{round-passed, solve-passed}
@@ -92,19 +92,20 @@ round-tests-same : (p : ℕ) (regions : List ℕ) (ideals : List Float) (counts 
 unfolding round-test round-order
 round-tests-same p regions ideals counts limit =
     let r = regions-test p (length ideals) regions in
-    let rest : Verdict → Verdict = λ v. then-test (limits-test p (length counts) regions) (then-test (refuse-if (ltb max-limit limit) (refused 10 0 0)) (then-test v r)) in
+    let rest : Verdict → Verdict = λ v. then-test (limits-test p (length counts) regions) (then-test (limit-test limit) (then-test v r)) in
     ap (λ (v : Verdict). then-test v (rest (values-test counts (within ideals ideals)))) (limits-same p regions ideals)
     ∙ ap (λ (v : Verdict). then-test (limits-test p (length ideals) regions) (rest v)) (values-same counts ideals)
 
-solve-tests-same : (p : ℕ) (regions : List ℕ) (ideals : List Float) (room : ℕ) → solve-test p regions (within ideals ideals) room ≡ solve-test p regions (by ideals) room
+solve-tests-same : (p : ℕ) (regions : List ℕ) (ideals : List Float) (room limit : ℕ) → solve-test p regions (within ideals ideals) room limit ≡ solve-test p regions (by ideals) room limit
 unfolding solve-test solve-order
-solve-tests-same p regions ideals room =
-    let a = limits-test p (length ideals) regions in
+solve-tests-same p regions ideals room limit =
     let r = regions-test p (length ideals) regions in
     let rest : Verdict → Verdict = λ v. then-test (refuse-if (ltb room (length ideals)) (refused 11 0 0)) (then-test v r) in
-    ap (λ (v : Verdict). then-test v (then-test (spacing-lengths (within ideals ideals)) (rest (ranges-test ideals ideals)))) (limits-same p regions ideals)
-    ∙ ap (λ (v : Verdict). then-test a (then-test v (rest (ranges-test ideals ideals)))) (lists-same ideals)
-    ∙ ap (λ (v : Verdict). then-test a (rest v)) (ranges-same ideals)
+    let tests : Verdict → Verdict → Verdict → Verdict = λ a b c. then-test a (then-test (limit-test limit) (then-test b (rest c))) in
+    let a = limits-test p (length ideals) regions in
+    ap (λ (v : Verdict). tests v (spacing-lengths (within ideals ideals)) (ranges-test ideals ideals)) (limits-same p regions ideals)
+    ∙ ap (λ (v : Verdict). tests a v (ranges-test ideals ideals)) (lists-same ideals)
+    ∙ ap (tests a passed) (ranges-same ideals)
 
 -- ---- the costs, once the tests have passed
 
@@ -148,12 +149,12 @@ solve-costs p v m m' regions n limit lent h = go (is-passed v) h
     go true h = ap (λ (model : CostModel). out model true) (h refl)
     go false h = refl
 
-pub solve-same : (regions : List ℕ) (ideals : List Float) (lent : List ℕ) → solve regions (within ideals ideals) lent ≡ solve regions (by ideals) lent
+pub solve-same : (regions : List ℕ) (ideals : List Float) (lent : List ℕ) (limit : ℕ) → solve regions (within ideals ideals) lent limit ≡ solve regions (by ideals) lent limit
 unfolding solve
-solve-same regions ideals lent =
-    ap (λ (v : Verdict). solve-with places v (by-ranges ideals ideals) regions (length ideals) max-limit lent) (solve-tests-same places regions ideals (length lent))
-    ∙ solve-costs places (solve-test places regions (by ideals) (length lent)) (by-ranges ideals ideals) (by-ideals ideals) regions (length ideals) max-limit lent
+solve-same regions ideals lent limit =
+    ap (λ (v : Verdict). solve-with places v (by-ranges ideals ideals) regions (length ideals) limit lent) (solve-tests-same places regions ideals (length lent) limit)
+    ∙ solve-costs places (solve-test places regions (by ideals) (length lent) limit) (by-ranges ideals ideals) (by-ideals ideals) regions (length ideals) limit lent
     (λ h. costs-same ideals (accepted-ideals h))
   where
-    accepted-ideals : is-passed (solve-test places regions (by ideals) (length lent)) ≡ true → is-passed (ideals-test ideals) ≡ true
-    accepted-ideals h = unfold solve-test in solve-passed places regions (by ideals) (length lent) (regions-test places (length ideals) regions) h .spacing-ok
+    accepted-ideals : is-passed (solve-test places regions (by ideals) (length lent) limit) ≡ true → is-passed (ideals-test ideals) ≡ true
+    accepted-ideals h = unfold solve-test in solve-passed places regions (by ideals) (length lent) limit (regions-test places (length ideals) regions) h .spacing-ok

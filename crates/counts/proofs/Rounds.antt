@@ -20,7 +20,7 @@ use Rattle.counts.specs.Cost.{CostModel}
 use Rattle.counts.specs.Search.{eps, two-eps}
 use Rattle.counts.specs.Round.{Found, find-move}
 use Rattle.regions.specs.Accept.{accepted}
-use Rattle.counts.specs.Solver.{Round, round-made, round-by, round-refused, round-with, round, round-test}
+use Rattle.counts.specs.Solver.{Round, round-made, round-by, round-refused, round-with, expansions, round, round-test}
 use Rattle.counts.specs.Demand.{left, left-by-all, RoundClaim, RoundClaims, Demand, Request, answer-to, request-costs}
 use Rattle.counts.proofs.Accepted.{Accepted, accepted-ok}
 use Rattle.counts.proofs.Balance.{move-balance}
@@ -216,16 +216,17 @@ module _ {Request : Type 0} (regions : List ℕ) (answer : Request → List ℕ 
 -- ---- the public rounds, of either kind
 
 abbrev pub test-of : List ℕ → Request → List ℕ → Verdict
-test-of regions request counts = round-test places regions (request .spacing) counts (request .limit)
+test-of regions request counts = round-test places regions (request .spacing) counts (expansions (request .limit))
 
 abbrev pub limit-of : Request → ℕ
-limit-of request = request .limit
+limit-of request = expansions (request .limit)
 
 pub answer-to-is : (regions : List ℕ) (request : Request) (counts : List ℕ) → answer-to regions request counts ≡ round-with places (test-of regions request counts) (request-costs request) regions counts (limit-of request)
 unfolding round
 answer-to-is regions request counts = refl
 
--- Demand 3's claim on the public rounds: for accepted regions, any starting counts and any list of rounds, each of either kind.
+-- Demand 3's claim on the public rounds: for accepted regions, any starting counts and any list of rounds, each of either kind, its limit stated
+-- or not.
 pub demand-3-rounds : (regions counts : List ℕ) (requests : List Request) → T (accepted places (length counts) regions)
     → Demand regions (answer-to regions) request-costs counts requests
 demand-3-rounds regions counts requests t = rounds-as-demanded regions (answer-to regions) request-costs (test-of regions) limit-of (answer-to-is regions) counts requests t

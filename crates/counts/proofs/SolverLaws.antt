@@ -14,8 +14,8 @@ use Rattle.base.specs.declared.verdict.Verdict.{Verdict}
 use Rattle.base.specs.Refusal.{passed, refused, outcome, is-passed, then-test, refuse-if}
 use Rattle.counts.specs.Cost.{Spacing, by, within, edges-of, energy-from}
 use Rattle.regions.specs.Accept.{limits-test, pairs-test, overused-test, regions-test}
-use Rattle.counts.specs.Values.{counts-test, spacing-limits, lengths-test, spacing-lengths, spacing-test, values-test}
-use Rattle.counts.specs.Solver.{max-limit, round-order, round-test, solve-order, solve-test, Energy, energy-of, energy-test, energy, Hold, hold-of, side-in-range, constraint-holds, constraints-hold}
+use Rattle.counts.specs.Values.{counts-test, limit-test, spacing-limits, lengths-test, spacing-lengths, spacing-test, values-test}
+use Rattle.counts.specs.Solver.{round-order, round-test, solve-order, solve-test, Energy, energy-of, energy-test, energy, Hold, hold-of, side-in-range, constraint-holds, constraints-hold}
 use Rattle.counts.specs.inner.Checks.{round-head, solve-head, sum-of-side}
 use Rattle.counts.specs.declared.answer.EnergyAnswer.the-variants as energy-answer
 use Rattle.counts.specs.declared.answer.HoldAnswer.the-variants as hold-answer
@@ -38,9 +38,6 @@ module _ (p : ℕ) (regions : List ℕ) (spacing : Spacing) where
   abbrev pairs-of-regions : Verdict
   pairs-of-regions = pairs-test p (edges-of spacing) 0 (region-count p regions) regions
 
-  abbrev ten : ℕ → Verdict
-  ten limit = refuse-if (ltb max-limit limit) (refused 10 0 0)
-
   abbrev eleven : ℕ → Verdict
   eleven room = refuse-if (ltb room (edges-of spacing)) (refused 11 0 0)
 
@@ -50,14 +47,33 @@ module _ (p : ℕ) (regions : List ℕ) (spacing : Spacing) where
       let v = values-test counts spacing in
       onto (spacing-limits p spacing regions) _ six
       (onto (limits-test p (length counts) regions) _ six
-      (onto (ten limit) (then-test v pairs-of-regions) six (sym (then-test-assoc v pairs-of-regions six))))
+      (onto (limit-test limit) (then-test v pairs-of-regions) six (sym (then-test-assoc v pairs-of-regions six))))
 
-  pub solve-test-chain : (room : ℕ) → solve-test p regions spacing room ≡ then-test (solve-head p regions spacing room) six
+  pub solve-test-chain : (room limit : ℕ) → solve-test p regions spacing room limit ≡ then-test (solve-head p regions spacing room limit) six
   unfolding solve-test solve-head solve-order regions-test
-  solve-test-chain room =
+  solve-test-chain room limit =
       let v = spacing-test spacing in
       onto (spacing-limits p spacing regions) _ six
-      (onto (spacing-lengths spacing) _ six (onto (eleven room) (then-test v pairs-of-regions) six (sym (then-test-assoc v pairs-of-regions six))))
+      (onto (limit-test limit) _ six
+      (onto (spacing-lengths spacing) _ six (onto (eleven room) (then-test v pairs-of-regions) six (sym (then-test-assoc v pairs-of-regions six)))))
+
+-- the code puts the first tests together, and then goes on
+pub round-limits-first : (p : ℕ) (regions : List ℕ) (spacing : Spacing) (counts : List ℕ) (limit : ℕ) (last : Verdict)
+    → then-test (then-test (then-test (spacing-limits p spacing regions) (limits-test p (length counts) regions)) (limit-test limit)) (then-test (values-test counts spacing) last)
+    ≡ round-order p regions spacing counts limit last
+unfolding round-order
+round-limits-first p regions spacing counts limit last =
+    let a = spacing-limits p spacing regions in
+    let b = limits-test p (length counts) regions in
+    let rest = then-test (values-test counts spacing) last in
+    then-test-assoc (then-test a b) (limit-test limit) rest ∙ then-test-assoc a b (then-test (limit-test limit) rest)
+
+pub solve-limits-first : (p : ℕ) (regions : List ℕ) (spacing : Spacing) (room limit : ℕ) (last : Verdict)
+    → then-test (then-test (spacing-limits p spacing regions) (limit-test limit))
+    (then-test (spacing-lengths spacing) (then-test (refuse-if (ltb room (edges-of spacing)) (refused 11 0 0)) (then-test (spacing-test spacing) last)))
+    ≡ solve-order p regions spacing room limit last
+unfolding solve-order
+solve-limits-first p regions spacing room limit last = then-test-assoc (spacing-limits p spacing regions) (limit-test limit) _
 
 -- ---- what the tests let by
 
@@ -100,11 +116,11 @@ pub round-passed : (p : ℕ) (regions : List ℕ) (spacing : Spacing) (counts : 
 unfolding round-order
 round-passed p regions spacing counts limit last h =
     let c = then-test (values-test counts spacing) last in
-    let b = then-test (ten p regions spacing limit) c in
+    let b = then-test (limit-test limit) c in
     let a = then-test (limits-test p (length counts) regions) b in
     let h1 = then-passed (spacing-limits p spacing regions) a h in
     let h2 = then-passed (limits-test p (length counts) regions) b (h1 .1) in
-    let h3 = then-passed (ten p regions spacing limit) c (h2 .1) in
+    let h3 = then-passed (limit-test limit) c (h2 .1) in
     let h4 = then-passed (values-test counts spacing) last (h3 .1) in
     record { limits = limits-of-edges p regions spacing (h1 .0); values = values-passed counts spacing (h4 .0); last-ok = h4 .1 }
 
@@ -115,22 +131,25 @@ pub record SolvePassed (p : ℕ) (regions : List ℕ) (spacing : Spacing) (room 
   pub spacing-ok : is-passed (spacing-test spacing) ≡ true
   pub last-ok : is-passed last ≡ true
 
-pub solve-passed : (p : ℕ) (regions : List ℕ) (spacing : Spacing) (room : ℕ) (last : Verdict) → is-passed (solve-order p regions spacing room last) ≡ true → SolvePassed p regions spacing room last
+pub solve-passed : (p : ℕ) (regions : List ℕ) (spacing : Spacing) (room limit : ℕ) (last : Verdict) → is-passed (solve-order p regions spacing room limit last) ≡ true
+    → SolvePassed p regions spacing room last
 unfolding solve-order
-solve-passed p regions spacing room last h =
-    let c = then-test (spacing-test spacing) last in
-    let b = then-test (eleven p regions spacing room) c in
-    let a = then-test (spacing-lengths spacing) b in
+solve-passed p regions spacing room limit last h =
+    let d = then-test (spacing-test spacing) last in
+    let c = then-test (eleven p regions spacing room) d in
+    let b = then-test (spacing-lengths spacing) c in
+    let a = then-test (limit-test limit) b in
     let h1 = then-passed (spacing-limits p spacing regions) a h in
-    let h2 = then-passed (spacing-lengths spacing) b (h1 .1) in
-    let h3 = then-passed (eleven p regions spacing room) c (h2 .1) in
-    let h4 = then-passed (spacing-test spacing) last (h3 .1) in
+    let h2 = then-passed (limit-test limit) b (h1 .1) in
+    let h3 = then-passed (spacing-lengths spacing) c (h2 .1) in
+    let h4 = then-passed (eleven p regions spacing room) d (h3 .1) in
+    let h5 = then-passed (spacing-test spacing) last (h4 .1) in
     record {
       limits = limits-of-edges p regions spacing (h1 .0);
-      lists = h2 .0;
-      enough = ltb-false room (edges-of spacing) (go (ltb room (edges-of spacing)) (h3 .0));
-      spacing-ok = h4 .0;
-      last-ok = h4 .1;
+      lists = h3 .0;
+      enough = ltb-false room (edges-of spacing) (go (ltb room (edges-of spacing)) (h4 .0));
+      spacing-ok = h5 .0;
+      last-ok = h5 .1;
     }
   where
     go : (b : Bool) → is-passed (refuse-if b (refused 11 0 0)) ≡ true → b ≡ false

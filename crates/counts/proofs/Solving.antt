@@ -16,7 +16,8 @@ use Rattle.counts.specs.Move.{Change, apply-changes}
 use Rattle.counts.specs.Cost.{CostModel, Spacing, costs-of, edges-of}
 use Rattle.counts.specs.Round.{find-move, Solved, solve-by, solve-from, solve-zeros, max-moves}
 use Rattle.regions.specs.Accept.{accepted, limits-test, regions-test}
-use Rattle.counts.specs.Solver.{Solve, solve, solve-test, solve-with, solve-part, with-rest, solve-refused, max-limit}
+use Rattle.counts.specs.Solver.{Solve, expansions, solve, solve-test, solve-with, solve-part, with-rest, solve-refused}
+use Rattle.counts.specs.declared.search_limit.SearchLimit.{SearchLimit}
 use Rattle.counts.specs.Demand.{Balanced}
 use Rattle.counts.proofs.Accepted.{Accepted, accepted-ok}
 use Rattle.base.proofs.BoolLaws.{by-cases, clash, eq→eqb, or-left, or-right, true-T, T-true}
@@ -119,42 +120,43 @@ done v n s lent t = go (is-passed v) refl t
     go false e t = (subst T e t, absurd (subst T e t))
 
 -- an accepted solve: its regions are accepted, and its counts are those of the definition
-pub record SolveIs (regions : List ℕ) (spacing : Spacing) (lent : List ℕ) : Type 0 where
+pub record SolveIs (regions : List ℕ) (spacing : Spacing) (lent : List ℕ) (limit : ℕ) : Type 0 where
   pub regions-accepted : T (accepted places (edges-of spacing) regions)
-  pub counts-are : solve regions spacing lent .counts
-      ≡ solve-zeros (graph places regions) (costs-of spacing) max-limit (edges-of spacing) .counts ++ drop (edges-of spacing) lent
+  pub counts-are : solve regions spacing lent limit .counts
+      ≡ solve-zeros (graph places regions) (costs-of spacing) limit (edges-of spacing) .counts ++ drop (edges-of spacing) lent
 
-solve-opens : (regions : List ℕ) (spacing : Spacing) (lent : List ℕ)
-    → solve regions spacing lent
-    ≡ by-verdict (solve-test places regions spacing (length lent)) (edges-of spacing) (solve-zeros (graph places regions) (costs-of spacing) max-limit (edges-of spacing)) lent
+solve-opens : (regions : List ℕ) (spacing : Spacing) (lent : List ℕ) (limit : ℕ)
+    → solve regions spacing lent limit
+    ≡ by-verdict (solve-test places regions spacing (length lent) limit) (edges-of spacing) (solve-zeros (graph places regions) (costs-of spacing) limit (edges-of spacing)) lent
 unfolding solve solve-with
-solve-opens regions spacing lent = refl
+solve-opens regions spacing lent limit = refl
 
-test-accepts : (regions : List ℕ) (spacing : Spacing) (room : ℕ) → T (is-passed (solve-test places regions spacing room)) → T (accepted places (edges-of spacing) regions)
+test-accepts : (regions : List ℕ) (spacing : Spacing) (room limit : ℕ) → T (is-passed (solve-test places regions spacing room limit)) → T (accepted places (edges-of spacing) regions)
 unfolding solve-test accepted
-test-accepts regions spacing room u =
+test-accepts regions spacing room limit u =
     let l = limits-test places (edges-of spacing) regions in
     let r = regions-test places (edges-of spacing) regions in
-    let h = solve-passed places regions spacing room r (T-true _ u) in
+    let h = solve-passed places regions spacing room limit r (T-true _ u) in
     then-both l r (true-T _ (h .limits)) (true-T _ (h .last-ok))
 
-pub solve-is : (regions : List ℕ) (spacing : Spacing) (lent : List ℕ) → T (is-passed (solve regions spacing lent .verdict)) → SolveIs regions spacing lent
-solve-is regions spacing lent t =
-    let e = solve-opens regions spacing lent in
-    let d = done (solve-test places regions spacing (length lent)) (edges-of spacing) (solve-zeros (graph places regions) (costs-of spacing) max-limit (edges-of spacing)) lent
+pub solve-is : (regions : List ℕ) (spacing : Spacing) (lent : List ℕ) (limit : ℕ) → T (is-passed (solve regions spacing lent limit .verdict)) → SolveIs regions spacing lent limit
+solve-is regions spacing lent limit t =
+    let e = solve-opens regions spacing lent limit in
+    let d = done (solve-test places regions spacing (length lent) limit) (edges-of spacing) (solve-zeros (graph places regions) (costs-of spacing) limit (edges-of spacing)) lent
     (subst (λ (o : Solve). T (is-passed (o .verdict))) e t) in
-    record { regions-accepted = test-accepts regions spacing (length lent) (d .0); counts-are = ap (λ (o : Solve). o .counts) e ∙ d .1 }
+    record { regions-accepted = test-accepts regions spacing (length lent) limit (d .0); counts-are = ap (λ (o : Solve). o .counts) e ∙ d .1 }
 
--- Counts that an accepted solve wrote, by spacings of either kind, are balanced in every region.
-pub solve-balanced : (regions : List ℕ) (spacing : Spacing) (lent : List ℕ) → T (is-passed (solve regions spacing lent .verdict)) → Balanced regions (solve regions spacing lent .counts)
-solve-balanced regions spacing lent t =
+-- Counts that an accepted solve wrote, by spacings of either kind, are balanced in every region. 02: "Balance holds at any limit", stated or not.
+pub solve-balanced : (regions : List ℕ) (spacing : Spacing) (lent : List ℕ) (limit : SearchLimit)
+    → T (is-passed (solve regions spacing lent (expansions limit) .verdict)) → Balanced regions (solve regions spacing lent (expansions limit) .counts)
+solve-balanced regions spacing lent limit t =
     record {
       bottom-top = λ r h. at (r * 2) _ (constraint-at places (region-count places regions) regions r h .0);
       right-left = λ r h. at (suc (r * 2)) _ (constraint-at places (region-count places regions) regions r h .1);
     }
   where
-    s : SolveIs regions spacing lent
-    s = solve-is regions spacing lent t
+    s : SolveIs regions spacing lent (expansions limit)
+    s = solve-is regions spacing lent (expansions limit) t
 
     n : ℕ
     n = edges-of spacing
@@ -163,7 +165,7 @@ solve-balanced regions spacing lent t =
     g = graph places regions
 
     o : List ℕ
-    o = solve regions spacing lent .counts
+    o = solve regions spacing lent (expansions limit) .counts
 
     ok : Accepted n g
     ok = accepted-ok places n regions (s .regions-accepted)
@@ -171,7 +173,7 @@ solve-balanced regions spacing lent t =
     even : (i : ℕ) → side-sum o (constraint g i .a) ≡ side-sum o (constraint g i .b)
     even i =
         subst (λ (l : List ℕ). side-sum l (constraint g i .a) ≡ side-sum l (constraint g i .b)) (sym (s .counts-are))
-        (level-append g n (solve-zeros g (costs-of spacing) max-limit n .counts) (drop n lent) ok (level-solved g n ok (costs-of spacing) max-limit) i)
+        (level-append g n (solve-zeros g (costs-of spacing) (expansions limit) n .counts) (drop n lent) ok (level-solved g n ok (costs-of spacing) (expansions limit)) i)
 
     at : (i : ℕ) (c : Constraint) → constraint g i ≡ c → side-sum o (c .a) ≡ side-sum o (c .b)
     at i c e = subst (λ (c : Constraint). side-sum o (c .a) ≡ side-sum o (c .b)) e (even i)

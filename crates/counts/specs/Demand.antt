@@ -13,7 +13,8 @@ use Rattle.regions.specs.Region.{places, graph, region-count, from-region, side
 use Rattle.counts.specs.Move.{Change, Reading, Makes, cost}
 use Rattle.counts.specs.Cost.{CostModel, Spacing, costs-of}
 use Rattle.counts.specs.Search.{eps, two-eps}
-use Rattle.counts.specs.Solver.{Round, round}
+use Rattle.counts.specs.Solver.{Round, expansions, round}
+use Rattle.counts.specs.declared.search_limit.SearchLimit.{SearchLimit}
 
 -- "A side adds up to the sum of its edges' counts (..); 0 and 2 are opposite, and 1 and 3": side k of region r
 abbrev pub sum-of : List ℕ → List ℕ → ℕ → ℕ → ℕ
@@ -51,14 +52,14 @@ module _ {Request : Type 0} (regions : List ℕ) (answer : Request → List ℕ 
         ↔ (sum-of regions (left-by-all counts requests) r 1 ≡ sum-of regions (left-by-all counts requests) r 3)
     pub rounds : RoundClaims counts requests
 
--- "ideals (also too few or too many) and limit are each round's own", the ideals of either kind
+-- "ideals (also too few or too many) and limit are each round's own", the ideals of either kind, the limit stated or not
 pub record Request : Type 0 where
   pub spacing : Spacing
-  pub limit : ℕ
+  pub limit : SearchLimit
 
 -- the public round
 abbrev pub answer-to : List ℕ → Request → List ℕ → Round
-answer-to regions request counts = round regions (request .spacing) counts (request .limit)
+answer-to regions request counts = round regions (request .spacing) counts (expansions (request .limit))
 
 abbrev pub request-costs : Request → CostModel
 request-costs request = costs-of (request .spacing)

@@ -13,7 +13,9 @@ use Rattle.counts.specs.Move.{Change, apply-changes}
 use Rattle.counts.specs.Cost.{CostModel, Spacing, by, costs-of, edges-of, energy-from}
 use Rattle.counts.specs.Round.{Found, find-move, Solved, solve-zeros}
 use Rattle.regions.specs.Accept.{limits-test, regions-test}
-use Rattle.counts.specs.Values.{spacing-limits, spacing-lengths, spacing-test, values-test}
+use Rattle.counts.specs.Values.{limit-test, spacing-limits, spacing-lengths, spacing-test, values-test}
+use Rattle.counts.specs.declared.search_limit.SearchLimit.{SearchLimit}
+use Rattle.counts.specs.declared.search_limit.SearchLimit.the-variants as search-limit
 use Rattle.counts.specs.declared.answer.RoundAnswer.{RoundAnswer}
 use Rattle.counts.specs.declared.answer.RoundAnswer.the-variants as round-answer
 use Rattle.counts.specs.declared.answer.SolveAnswer.{SolveAnswer}
@@ -22,6 +24,17 @@ use Rattle.counts.specs.declared.answer.EnergyAnswer.{EnergyAnswer}
 use Rattle.counts.specs.declared.answer.EnergyAnswer.the-variants as energy-answer
 use Rattle.counts.specs.declared.answer.HoldAnswer.{HoldAnswer}
 use Rattle.counts.specs.declared.answer.HoldAnswer.the-variants as hold-answer
+
+-- ---- the search limit, stated or not
+
+-- 02: "without one, either now gets 10,000"
+abbrev pub default-limit : ℕ
+default-limit = 10000
+
+-- how many expansions each search may make
+abbrev pub expansions : SearchLimit → ℕ
+expansions search-limit.Default = default-limit
+expansions (search-limit.Expansions stated) = stated
 
 -- ---- a round
 
@@ -43,18 +56,13 @@ round-of (round-answer.Moved cost cut) counts = record { verdict = passed; move 
 round-of (round-answer.Idle cut) counts = record { verdict = passed; move = none; cut = cut; counts = counts }
 round-of (round-answer.Refused r) counts = record { verdict = verdict-of r; move = none; cut = false; counts = counts }
 
--- "Limit 0 to 100,000"
-abbrev pub max-limit : ℕ
-max-limit = 100000
-
 -- "Order, solver: 1, 10, 8 (rounds), 11 (solve), 2, 9 (rounds); then by region and pair (..)": `last` is what is tested of the regions
 unfoldable pub round-order : ℕ → List ℕ → Spacing → List ℕ → ℕ → Verdict → Verdict
 unfolding limits-test
 round-order p regions spacing counts limit last =
     then-test (spacing-limits p spacing regions)
     (then-test (limits-test p (length counts) regions)
-    (then-test (refuse-if (ltb max-limit limit) (refused 10 0 0))
-    (then-test (values-test counts spacing) last)))
+    (then-test (limit-test limit) (then-test (values-test counts spacing) last)))
 
 unfoldable pub round-test : ℕ → List ℕ → Spacing → List ℕ → ℕ → Verdict
 unfolding round-order regions-test
@@ -97,17 +105,18 @@ solve-of (solve-answer.Moves moves) counts = record { verdict = passed; moves = 
 solve-of (solve-answer.Refused r) counts = record { verdict = verdict-of r; moves = 0; counts = counts }
 
 -- 11: the lent counts are output, and as many are needed as there are edges
-unfoldable pub solve-order : ℕ → List ℕ → Spacing → ℕ → Verdict → Verdict
+unfoldable pub solve-order : ℕ → List ℕ → Spacing → ℕ → ℕ → Verdict → Verdict
 unfolding limits-test
-solve-order p regions spacing room last =
+solve-order p regions spacing room limit last =
     then-test (spacing-limits p spacing regions)
+    (then-test (limit-test limit)
     (then-test (spacing-lengths spacing)
     (then-test (refuse-if (ltb room (edges-of spacing)) (refused 11 0 0))
-    (then-test (spacing-test spacing) last)))
+    (then-test (spacing-test spacing) last))))
 
-unfoldable pub solve-test : ℕ → List ℕ → Spacing → ℕ → Verdict
+unfoldable pub solve-test : ℕ → List ℕ → Spacing → ℕ → ℕ → Verdict
 unfolding solve-order regions-test
-solve-test p regions spacing room = solve-order p regions spacing room (regions-test p (edges-of spacing) regions)
+solve-test p regions spacing room limit = solve-order p regions spacing room limit (regions-test p (edges-of spacing) regions)
 
 abbrev pub solve-refused : Verdict → List ℕ → Solve
 solve-refused v lent = record { verdict = v; moves = 0; counts = lent }
@@ -129,11 +138,11 @@ solve-with p verdict costs regions n limit lent =
       | false ↦ solve-refused verdict lent
     ]
 
--- "with limit 100,000"
-unfoldable pub solve : List ℕ → Spacing → List ℕ → Solve
+-- 02: "Solve can be given a limit"
+unfoldable pub solve : List ℕ → Spacing → List ℕ → ℕ → Solve
 unfolding solve-test solve-with
-solve regions spacing lent =
-    solve-with places (solve-test places regions spacing (length lent)) (costs-of spacing) regions (edges-of spacing) max-limit lent
+solve regions spacing lent limit =
+    solve-with places (solve-test places regions spacing (length lent) limit) (costs-of spacing) regions (edges-of spacing) limit lent
 
 -- ---- energy and constraints_hold
 

@@ -1,4 +1,4 @@
--- 01, "Turned-away input", and 02's 35: the tests of the solver's values, 2, 8, 9 and 35, and of a spacing of either kind. Assumes nothing.
+-- 01, "Turned-away input", and 02's 35: the tests of the solver's values, 2, 8, 9, 10 and 35, and of a spacing of either kind. Assumes nothing.
 use mathlib.Core.Bool.{Bool, false, not, _&&_, cond}
 use mathlib.Core.List.{List, [], _∷_}
 use Prim.Native.Nat.{ℕ, suc}
@@ -34,6 +34,16 @@ ideals-test ideals = first-bad ideal-ok 2 0 ideals
 
 abbrev pub counts-test : List ℕ → Verdict
 counts-test counts = first-bad count-ok 9 0 counts
+
+-- ---- 10
+
+-- "Limit 0 to 100,000"
+abbrev pub max-limit : ℕ
+max-limit = 100000
+
+-- "search limit over 100,000"; 02: solve's is "tested as a round's"
+abbrev pub limit-test : ℕ → Verdict
+limit-test limit = refuse-if (ltb max-limit limit) (refused 10 0 0)
 
 -- ---- 2 and 35 of ranges
 

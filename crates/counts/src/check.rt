@@ -15,7 +15,7 @@ ghost use Rattle.regions.specs.Region.{places};
 ghost use Rattle.base.specs.Refusal.{outcome};
 ghost use Rattle.counts.specs.Cost.{within};
 ghost use Rattle.regions.specs.Accept.{limits-test, max-edges};
-ghost use Rattle.counts.specs.Values.{ideal-ok, first-bad, ranges, ends-ok, in-order, ranges-test, counts-test, spacing-limits, values-test};
+ghost use Rattle.counts.specs.Values.{ideal-ok, first-bad, ranges, ends-ok, in-order, ranges-test, counts-test, limit-test, spacing-limits, values-test};
 ghost use Rattle.counts.specs.inner.Checks.{round-head, solve-head};
 ghost use Rattle.counts.specs.Solver.{energy-test};
 
@@ -112,6 +112,16 @@ pub(crate) fn check_counts(counts: &[u32]) -> Check
     Check::Passed
 }
 
+// 10: a limit over 100,000.
+fn check_limit(limit: u32) -> Check
+    ensures { λ r. ⌜ outcome r ≡ limit-test limit ⌝ }
+{
+    if limit > MAX_LIMIT {
+        return Check::Refused(Refusal::LimitTooLarge);
+    }
+    Check::Passed
+}
+
 // 1, of both lists of ranges.
 fn check_spacing_limits(regions: &[u16], least: &[f64], most: &[f64]) -> Check
     ensures { λ r. ⌜ outcome r ≡ spacing-limits places (within (now (least .entry)) (now (most .entry))) (now (regions .entry)) ⌝ }
@@ -150,15 +160,12 @@ pub(crate) fn check_round(
     ensures { λ r. ⌜ outcome r ≡ round-head places (now (regions .entry)) (within (now (least .entry)) (now (most .entry))) (now (counts .entry)) limit ⌝ }
 {
     let of_spacing = check_spacing_limits(regions, least, most);
-    if let Check::Refused(_) = of_spacing {
-        return of_spacing;
-    }
     let of_counts = check_limits(regions, counts.len());
-    if let Check::Refused(_) = of_counts {
-        return of_counts;
-    }
-    if limit > MAX_LIMIT {
-        return Check::Refused(Refusal::LimitTooLarge);
+    let sizes = of_spacing.and(of_counts);
+    let of_limit = check_limit(limit);
+    let limits = sizes.and(of_limit);
+    if let Check::Refused(_) = limits {
+        return limits;
     }
     let values = check_values(counts, least, most);
     if let Check::Refused(_) = values {
@@ -168,12 +175,20 @@ pub(crate) fn check_round(
 }
 
 // What solve tests before it builds its tables; room is the length of the lent counts.
-pub(crate) fn check_solve(regions: &[u16], least: &[f64], most: &[f64], room: usize) -> Check
-    ensures { λ r. ⌜ outcome r ≡ solve-head places (now (regions .entry)) (within (now (least .entry)) (now (most .entry))) room ⌝ }
+pub(crate) fn check_solve(
+    regions: &[u16],
+    least: &[f64],
+    most: &[f64],
+    room: usize,
+    limit: u32,
+) -> Check
+    ensures { λ r. ⌜ outcome r ≡ solve-head places (now (regions .entry)) (within (now (least .entry)) (now (most .entry))) room limit ⌝ }
 {
     let of_spacing = check_spacing_limits(regions, least, most);
-    if let Check::Refused(_) = of_spacing {
-        return of_spacing;
+    let of_limit = check_limit(limit);
+    let limits = of_spacing.and(of_limit);
+    if let Check::Refused(_) = limits {
+        return limits;
     }
     if least.len() != most.len() {
         return Check::Refused(Refusal::LengthsDiffer);

@@ -8,6 +8,7 @@ mod cost;
 mod graph;
 mod limits;
 mod search;
+pub mod search_limit;
 mod solve;
 
 use crate::answer::EnergyAnswer;
@@ -21,15 +22,15 @@ use crate::constraint::regions_hold;
 use crate::cost::total_energy;
 use crate::graph::build_graph;
 use crate::limits::EDGE_SLOTS;
-use crate::limits::MAX_LIMIT;
 use crate::limits::NO_ENTRY;
+use crate::search_limit::SearchLimit;
 use crate::solve::make_round;
 use crate::solve::solve_from_zeros;
 use base::refusal::Check;
 use regions::accept::check_limits;
 ghost use mathlib.Core.Path.{_≡_};
 ghost use Rattle.counts.specs.Cost.{by, within};
-ghost use Rattle.counts.specs.Solver.{energy-of, energy, hold-of, constraints-hold, round-of, round, solve-of, solve};
+ghost use Rattle.counts.specs.Solver.{energy-of, energy, hold-of, constraints-hold, expansions, round-of, round, solve-of, solve};
 
 // One round, with a least and a most for each edge: the move found, if there is one, is made on the counts.
 pub fn round_within(
@@ -37,10 +38,11 @@ pub fn round_within(
     least: &[f64],
     most: &[f64],
     counts: &mut [u32],
-    limit: u32,
+    limit: SearchLimit,
 ) -> RoundAnswer
-    ensures { λ r. ⌜ round-of r (now (counts .exit)) ≡ round (now (regions .entry)) (within (now (least .entry)) (now (most .entry))) (now (counts .entry)) limit ⌝ }
+    ensures { λ r. ⌜ round-of r (now (counts .exit)) ≡ round (now (regions .entry)) (within (now (least .entry)) (now (most .entry))) (now (counts .entry)) (expansions limit) ⌝ }
 {
+    let limit = limit.expansions();
     if let Check::Refused(r) = check_round(regions, least, most, counts, limit) {
         return RoundAnswer::Refused(r);
     }
@@ -53,8 +55,8 @@ pub fn round_within(
 }
 
 // One round, with an ideal for each edge: a range whose ends are equal.
-pub fn round(regions: &[u16], ideals: &[f64], counts: &mut [u32], limit: u32) -> RoundAnswer
-    ensures { λ r. ⌜ round-of r (now (counts .exit)) ≡ round (now (regions .entry)) (by (now (ideals .entry))) (now (counts .entry)) limit ⌝ }
+pub fn round(regions: &[u16], ideals: &[f64], counts: &mut [u32], limit: SearchLimit) -> RoundAnswer
+    ensures { λ r. ⌜ round-of r (now (counts .exit)) ≡ round (now (regions .entry)) (by (now (ideals .entry))) (now (counts .entry)) (expansions limit) ⌝ }
 {
     round_within(regions, ideals, ideals, counts, limit)
 }
@@ -65,11 +67,13 @@ pub fn solve_counts_within(
     least: &[f64],
     most: &[f64],
     counts: &mut [u32],
+    limit: SearchLimit,
 ) -> SolveAnswer
-    ensures { λ r. ⌜ solve-of r (now (counts .exit)) ≡ solve (now (regions .entry)) (within (now (least .entry)) (now (most .entry))) (now (counts .entry)) ⌝ }
+    ensures { λ r. ⌜ solve-of r (now (counts .exit)) ≡ solve (now (regions .entry)) (within (now (least .entry)) (now (most .entry))) (now (counts .entry)) (expansions limit) ⌝ }
 {
+    let limit = limit.expansions();
     let room = counts.len();
-    if let Check::Refused(r) = check_solve(regions, least, most, room) {
+    if let Check::Refused(r) = check_solve(regions, least, most, room, limit) {
         return SolveAnswer::Refused(r);
     }
     let mut incident = [NO_ENTRY; EDGE_SLOTS];
@@ -85,15 +89,20 @@ pub fn solve_counts_within(
         least,
         most,
         &mut counts[..n],
-        MAX_LIMIT,
+        limit,
     )
 }
 
 // The counts of every edge, with an ideal for each.
-pub fn solve_counts(regions: &[u16], ideals: &[f64], counts: &mut [u32]) -> SolveAnswer
-    ensures { λ r. ⌜ solve-of r (now (counts .exit)) ≡ solve (now (regions .entry)) (by (now (ideals .entry))) (now (counts .entry)) ⌝ }
+pub fn solve_counts(
+    regions: &[u16],
+    ideals: &[f64],
+    counts: &mut [u32],
+    limit: SearchLimit,
+) -> SolveAnswer
+    ensures { λ r. ⌜ solve-of r (now (counts .exit)) ≡ solve (now (regions .entry)) (by (now (ideals .entry))) (now (counts .entry)) (expansions limit) ⌝ }
 {
-    solve_counts_within(regions, ideals, ideals, counts)
+    solve_counts_within(regions, ideals, ideals, counts, limit)
 }
 
 // The energy of the counts: the sum of (s/ideal - 1)² over the edges.

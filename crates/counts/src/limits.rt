@@ -1,11 +1,14 @@
-// The solver's limits, and the sizes of its tables, which follow from those of the regions. specs/Values.antt, Solver.antt and
+// The solver's limits, and the sizes of its tables, which follow from those of the regions. specs/Values.antt, Solver.antt, Round.antt and
 // inner/Tables.antt have the same.
 use regions::region::MAX_EDGES;
 use regions::region::MAX_REGIONS;
 
 pub(crate) const MAX_COUNT: u32 = 1_000_000;
 
+// Of a search: the greatest limit that may be stated, and the one where none is.
 pub(crate) const MAX_LIMIT: u32 = 100_000;
+
+pub(crate) const DEFAULT_LIMIT: u32 = 10_000;
 
 // Moves of a solve.
 pub(crate) const MAX_AUGMENTATIONS: u32 = 200_000;

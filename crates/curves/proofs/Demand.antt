@@ -15,7 +15,8 @@ use Rattle.base.specs.Lists.{In, member}
 use Rattle.regions.specs.Region.{Constraint, constraint, places, region-count, graph, side, side-sum}
 use Rattle.counts.specs.Round.{solve-zeros}
 use Rattle.counts.specs.Cost.{Spacing, costs-of, edges-of}
-use Rattle.counts.specs.Solver.{max-limit, solve}
+use Rattle.counts.specs.Solver.{expansions, solve}
+use Rattle.counts.specs.declared.search_limit.SearchLimit.{SearchLimit}
 use Rattle.counts.specs.Demand.{Request, answer-to, request-costs, left-by-all, Balanced, sum-of}
 use Rattle.counts.proofs.Accepted.{Accepted, accepted-ok}
 use Rattle.base.proofs.BoolLaws.{clash, eq→eqb, or-left, or-right}
@@ -60,14 +61,17 @@ module _ (regions counts : List ℕ) (h : Handed regions counts) where
   abbrev g : List Constraint
   g = graph places regions
 
+  abbrev limit : ℕ
+  limit = expansions (h .limit)
+
   abbrev written : List ℕ
-  written = solve regions (h .spacing) (h .lent) .counts
+  written = solve regions (h .spacing) (h .lent) limit .counts
 
   abbrev after : List ℕ
   after = left-by-all regions (answer-to regions) request-costs (h .begun) (h .requests)
 
-  is : SolveIs regions (h .spacing) (h .lent)
-  is = solve-is regions (h .spacing) (h .lent) (h .accepted-solve)
+  is : SolveIs regions (h .spacing) (h .lent) limit
+  is = solve-is regions (h .spacing) (h .lent) limit (h .accepted-solve)
 
   ok : Accepted n g
   ok = accepted-ok places n regions (is .regions-accepted)
@@ -75,8 +79,8 @@ module _ (regions counts : List ℕ) (h : Handed regions counts) where
   -- there are at least as many counts as the solve had edges
   long : n ≤ length (h .begun)
   long =
-      let part = solve-zeros g (costs-of (h .spacing)) max-limit n .counts in
-      let l = level-solved g n ok (costs-of (h .spacing)) max-limit .long in
+      let part = solve-zeros g (costs-of (h .spacing)) limit n .counts in
+      let l = level-solved g n ok (costs-of (h .spacing)) limit .long in
       let w : take n written ≡ part = ap (take n) (is .counts-are) ∙ take-at part (drop n (h .lent)) n l in
       let e : min n (length (h .begun)) ≡ n = sym (length-take n (h .begun)) ∙ ap length (h .wrote ∙ w) ∙ l in
       omega arith
@@ -115,7 +119,7 @@ module _ (regions counts : List ℕ) (h : Handed regions counts) where
 
   pub handed-balanced : Balanced regions counts
   handed-balanced =
-      let b = solve-balanced regions (h .spacing) (h .lent) (h .accepted-solve) in
+      let b = solve-balanced regions (h .spacing) (h .lent) (h .limit) (h .accepted-solve) in
       record {
         bottom-top = λ r l. still-even (r * 2) _ (constraint-at places (region-count places regions) regions r l .0) (b .bottom-top r l);
         right-left = λ r l. still-even (suc (r * 2)) _ (constraint-at places (region-count places regions) regions r l .1) (b .right-left r l);
@@ -123,21 +127,34 @@ module _ (regions counts : List ℕ) (h : Handed regions counts) where
 
 -- ---- the two ways to hand on what an accepted solve wrote, each with any list of rounds: the whole lent buffer, or the part that was written
 
-pub whole-buffer : (regions : List ℕ) (spacing : Spacing) (lent : List ℕ) (requests : List Request) → T (is-passed (solve regions spacing lent .verdict))
-    → Handed regions (left-by-all regions (answer-to regions) request-costs (solve regions spacing lent .counts) requests)
-whole-buffer regions spacing lent requests t =
-    record { spacing = spacing; lent = lent; accepted-solve = t; begun = solve regions spacing lent .counts; wrote = refl; requests = requests; left = refl }
-
-pub written-part : (regions : List ℕ) (spacing : Spacing) (lent : List ℕ) (requests : List Request) → T (is-passed (solve regions spacing lent .verdict))
-    → Handed regions (left-by-all regions (answer-to regions) request-costs (take (edges-of spacing) (solve regions spacing lent .counts)) requests)
-written-part regions spacing lent requests t =
-    let n = edges-of spacing in
+pub whole-buffer : (regions : List ℕ) (spacing : Spacing) (lent : List ℕ) (limit : SearchLimit) (requests : List Request)
+    → T (is-passed (solve regions spacing lent (expansions limit) .verdict))
+    → Handed regions (left-by-all regions (answer-to regions) request-costs (solve regions spacing lent (expansions limit) .counts) requests)
+whole-buffer regions spacing lent limit requests t =
     record {
       spacing = spacing;
       lent = lent;
+      limit = limit;
       accepted-solve = t;
-      begun = take n (solve regions spacing lent .counts);
-      wrote = take-take n n (solve regions spacing lent .counts) (omega arith);
+      begun = solve regions spacing lent (expansions limit) .counts;
+      wrote = refl;
+      requests = requests;
+      left = refl;
+    }
+
+pub written-part : (regions : List ℕ) (spacing : Spacing) (lent : List ℕ) (limit : SearchLimit) (requests : List Request)
+    → T (is-passed (solve regions spacing lent (expansions limit) .verdict))
+    → Handed regions (left-by-all regions (answer-to regions) request-costs (take (edges-of spacing) (solve regions spacing lent (expansions limit) .counts)) requests)
+written-part regions spacing lent limit requests t =
+    let n = edges-of spacing in
+    let out = solve regions spacing lent (expansions limit) .counts in
+    record {
+      spacing = spacing;
+      lent = lent;
+      limit = limit;
+      accepted-solve = t;
+      begun = take n out;
+      wrote = take-take n n out (omega arith);
       requests = requests;
       left = refl;
     }

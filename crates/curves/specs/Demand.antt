@@ -12,7 +12,8 @@ use Rattle.base.specs.Refusal.{is-passed}
 use Rattle.regions.specs.Region.{places, record-size, region-count, from-region}
 use Rattle.counts.specs.Cost.{Spacing, edges-of}
 use Rattle.regions.specs.Accept.{accepted}
-use Rattle.counts.specs.Solver.{solve}
+use Rattle.counts.specs.Solver.{expansions, solve}
+use Rattle.counts.specs.declared.search_limit.SearchLimit.{SearchLimit}
 use Rattle.counts.specs.Demand.{Request, answer-to, request-costs, left-by-all, Demand}
 use Rattle.curves.specs.Lay.{TileInput, lay}
 
@@ -28,11 +29,12 @@ Alike n counts others = take n counts ≡ take n others
 pub record Handed (regions counts : List ℕ) : Type 0 where
   pub spacing : Spacing
   pub lent : List ℕ
-  -- "an accepted solve", by ideals of either kind
-  pub accepted-solve : T (is-passed (solve regions spacing lent .verdict))
+  pub limit : SearchLimit
+  -- "an accepted solve", by ideals of either kind, at any limit, stated or not
+  pub accepted-solve : T (is-passed (solve regions spacing lent (expansions limit) .verdict))
   -- "begun on these": counts that begin with what was written, as many as there are edges
   pub begun : List ℕ
-  pub wrote : Alike (edges-of spacing) begun (solve regions spacing lent .counts)
+  pub wrote : Alike (edges-of spacing) begun (solve regions spacing lent (expansions limit) .counts)
   pub requests : List Request
   pub left : Alike (edges-of spacing) counts (left-by-all regions (answer-to regions) request-costs begun requests)
 

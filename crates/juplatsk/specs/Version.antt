@@ -5,11 +5,11 @@ abbrev pub major : ℕ
 major = 0
 
 abbrev pub minor : ℕ
-minor = 3
+minor = 4
 
 abbrev pub patch : ℕ
 patch = 0
 
--- "0.3.0" as one number
+-- "0.4.0" as one number
 abbrev pub version : ℕ
 version = 10000 * major + 100 * minor + patch

@@ -1,12 +1,13 @@
 // The public functions of the libraries below, for callers in C and Rust. include/juplatsk.h says what each is lent and leaves. A lent list
 // is a pointer and a length there. Each function returns the refusal's number, 0 if the call is accepted.
 mod answers;
+mod limit;
 mod version;
 
 ghost use mathlib.Core.Path.{_≡_};
 ghost use mathlib.Core.List.{[], _∷_};
 ghost use Rattle.counts.specs.Cost.{by, within};
-ghost use Rattle.counts.specs.Solver.{solve, round, energy, constraints-hold};
+ghost use Rattle.counts.specs.Solver.{expansions, solve, round, energy, constraints-hold};
 ghost use Rattle.base.specs.Answers.{verdict};
 ghost use Rattle.floats.specs.Root.{root-answer};
 ghost use Rattle.curves.specs.Grid.{seams};
@@ -14,6 +15,7 @@ ghost use Rattle.curves.specs.Coons.{coons-seamed, coons-quads};
 ghost use Rattle.curves.specs.Lay.{tile-input, lay};
 ghost use Rattle.mesh.specs.Mesh.{mesh-tile-curves};
 ghost use Rattle.mesh.specs.Tile.{coons-checked, mesh-tile};
+ghost use Rattle.juplatsk.specs.Limit.{limit-told};
 ghost use Rattle.juplatsk.specs.Version.{version};
 ghost use Rattle.juplatsk.specs.Stored.{solve-stored, hold-stored, energy-stored, round-stored, grid-stored, cost-of, root-value};
 use crate::answers::store_energy;
@@ -22,6 +24,7 @@ use crate::answers::store_hold;
 use crate::answers::store_root;
 use crate::answers::store_round;
 use crate::answers::store_solve;
+use crate::limit::search_limit;
 use crate::version::VERSION;
 
 #[no_mangle]
@@ -36,13 +39,16 @@ pub extern "C" fn juplatsk_solve_counts(
     regions: &[u16],
     ideals: &[f64],
     counts: &mut [u32],
+    stated: bool,
+    limit: u32,
     answer: &mut [u32; 3],
 ) -> u32
     ensures { λ r.
-        let o = solve (now (regions .entry)) (by (now (ideals .entry))) (now (counts .entry)) in
+        let o = solve (now (regions .entry)) (by (now (ideals .entry))) (now (counts .entry)) (expansions (limit-told stated limit)) in
         ⌜ (r ≡ o .verdict .number) × (now (answer .exit) ≡ solve-stored o) × (now (counts .exit) ≡ o .counts) ⌝ }
 {
-    let solved = counts::solve_counts(regions, ideals, counts);
+    let limit = search_limit(stated, limit);
+    let solved = counts::solve_counts(regions, ideals, counts, limit);
     store_solve(solved, answer)
 }
 
@@ -51,14 +57,16 @@ pub extern "C" fn juplatsk_round(
     regions: &[u16],
     ideals: &[f64],
     counts: &mut [u32],
+    stated: bool,
     limit: u32,
     answer: &mut [u32; 4],
     cost: &mut [f64; 1],
 ) -> u32
     ensures { λ r.
-        let o = round (now (regions .entry)) (by (now (ideals .entry))) (now (counts .entry)) limit in
+        let o = round (now (regions .entry)) (by (now (ideals .entry))) (now (counts .entry)) (expansions (limit-told stated limit)) in
         ⌜ (r ≡ o .verdict .number) × (now (answer .exit) ≡ round-stored o) × (now (cost .exit) ≡ cost-of (o .move) ∷ []) × (now (counts .exit) ≡ o .counts) ⌝ }
 {
+    let limit = search_limit(stated, limit);
     let made = counts::round(regions, ideals, counts, limit);
     store_round(made, answer, cost)
 }
@@ -69,13 +77,16 @@ pub extern "C" fn juplatsk_solve_counts_within(
     least: &[f64],
     most: &[f64],
     counts: &mut [u32],
+    stated: bool,
+    limit: u32,
     answer: &mut [u32; 3],
 ) -> u32
     ensures { λ r.
-        let o = solve (now (regions .entry)) (within (now (least .entry)) (now (most .entry))) (now (counts .entry)) in
+        let o = solve (now (regions .entry)) (within (now (least .entry)) (now (most .entry))) (now (counts .entry)) (expansions (limit-told stated limit)) in
         ⌜ (r ≡ o .verdict .number) × (now (answer .exit) ≡ solve-stored o) × (now (counts .exit) ≡ o .counts) ⌝ }
 {
-    let solved = counts::solve_counts_within(regions, least, most, counts);
+    let limit = search_limit(stated, limit);
+    let solved = counts::solve_counts_within(regions, least, most, counts, limit);
     store_solve(solved, answer)
 }
 
@@ -85,14 +96,16 @@ pub extern "C" fn juplatsk_round_within(
     least: &[f64],
     most: &[f64],
     counts: &mut [u32],
+    stated: bool,
     limit: u32,
     answer: &mut [u32; 4],
     cost: &mut [f64; 1],
 ) -> u32
     ensures { λ r.
-        let o = round (now (regions .entry)) (within (now (least .entry)) (now (most .entry))) (now (counts .entry)) limit in
+        let o = round (now (regions .entry)) (within (now (least .entry)) (now (most .entry))) (now (counts .entry)) (expansions (limit-told stated limit)) in
         ⌜ (r ≡ o .verdict .number) × (now (answer .exit) ≡ round-stored o) × (now (cost .exit) ≡ cost-of (o .move) ∷ []) × (now (counts .exit) ≡ o .counts) ⌝ }
 {
+    let limit = search_limit(stated, limit);
     let made = counts::round_within(regions, least, most, counts, limit);
     store_round(made, answer, cost)
 }

@@ -14,4 +14,4 @@ use Rattle.mesh.specs.Cases.{areas, All-hold, bench}
 pub bench-holds : All-hold bench
 unfolding solve round edge-delta range-delta first-bad constraints coons-curves coons-from-parameters cumulative-of row-of areas root-answer ofBits ofInt
 bench-holds =
-    (refl, (refl, (refl, (refl, (refl, (refl, (refl, (refl, (refl, (refl, (refl, (refl, (refl, (refl, (refl, (refl, (refl, (refl, (refl, (refl, (refl, tt)))))))))))))))))))))
+    (refl, (refl, (refl, (refl, (refl, (refl, (refl, (refl, (refl, (refl, (refl, (refl, (refl, (refl, (refl, (refl, (refl, (refl, (refl, (refl, (refl, (refl, (refl, (refl, tt))))))))))))))))))))))))

@@ -10,7 +10,10 @@ use lib.Ieee.{Float, nan, fin, binary64, ofBits}
 use Rattle.base.specs.Refusal.{passed, refused}
 use Rattle.regions.specs.Region.{places}
 use Rattle.counts.specs.Cost.{real, Spacing, by, within}
-use Rattle.counts.specs.Solver.{none, made, Round, round, Solve, solve}
+use Rattle.counts.specs.Solver.{none, made, expansions, Round, round, Solve, solve}
+use Rattle.counts.specs.Values.{max-limit}
+use Rattle.counts.specs.declared.search_limit.SearchLimit.{SearchLimit}
+use Rattle.counts.specs.declared.search_limit.SearchLimit.the-variants.{Default, Expansions}
 use Rattle.floats.specs.Scalar.{nought, half, one}
 use Rattle.base.specs.Buffers.{tabulate}
 use Rattle.base.specs.Answers.{Answer, good}
@@ -30,10 +33,9 @@ pub record Tile : Type 0 where
   pub left : List Float
 
 pub data Case : Type 0 where
-  -- regions, ideals of either kind, counts lent
-  solved : List ℕ → Spacing → List ℕ → Solve → Case
   -- regions, ideals of either kind, counts lent, limit
-  moved : List ℕ → Spacing → List ℕ → ℕ → Round → Case
+  solved : List ℕ → Spacing → List ℕ → SearchLimit → Solve → Case
+  moved : List ℕ → Spacing → List ℕ → SearchLimit → Round → Case
   -- n_u, n_v, output lent
   gridded : Tile → ℕ → ℕ → List Float → Outcome → Case
   -- output lent
@@ -48,8 +50,8 @@ unfolding signed-area
 areas out n = tabulate (λ (k : ℕ). signed-area (point-at out (4 * k)) (point-at out (4 * k + 1)) (point-at out (4 * k + 2)) (point-at out (4 * k + 3))) 0 n
 
 abbrev pub Holds : Case → Type 0
-Holds (solved regions spacing lent o) = solve regions spacing lent ≡ o
-Holds (moved regions spacing counts limit o) = round regions spacing counts limit ≡ o
+Holds (solved regions spacing lent limit o) = solve regions spacing lent (expansions limit) ≡ o
+Holds (moved regions spacing counts limit o) = round regions spacing counts (expansions limit) ≡ o
 Holds (gridded t n m lent o) = coons-quads (t .bottom) (t .right) (t .top) (t .left) n m lent ≡ o
 Holds (seamed t s lent o) = coons-seamed (t .bottom) (t .right) (t .top) (t .left) s lent ≡ o
 Holds (measured out n o) = areas out n ≡ o
@@ -59,7 +61,10 @@ abbrev pub All-hold : List Case → Type 0
 All-hold [] = Unit
 All-hold (c ∷ cs) = Holds c × All-hold cs
 
--- ---- A to G: one count more is lent than is needed
+-- ---- A to G: one count more is lent than is needed; 02: "Callers that relied on the old value state it themselves (..) and the bench table"
+
+abbrev pub old-limit : SearchLimit
+old-limit = Expansions 100000
 
 -- a side in its record
 abbrev pub side-record : List ℕ → List ℕ
@@ -80,7 +85,7 @@ lent-counts n = replicate n 9 ++ 7 ∷ []
 
 abbrev pub solves-to : List ℕ → List ℕ → ℕ → List ℕ → Case
 solves-to regions ideals moves counts =
-    solved regions (by (reals ideals)) (lent-counts (length ideals)) (record { verdict = passed; moves = moves; counts = counts ++ 7 ∷ [] })
+    solved regions (by (reals ideals)) (lent-counts (length ideals)) old-limit (record { verdict = passed; moves = moves; counts = counts ++ 7 ∷ [] })
 
 abbrev pub case-A : Case
 case-A =
@@ -104,7 +109,7 @@ case-F = solves-to (region (alone 0) [] (alone 1) [] ++ region (alone 0) [] (alo
 
 abbrev pub case-G : Case
 case-G =
-    solved (region (alone 0) (alone 1) (alone 0) (alone 2)) (by (reals (1 ∷ 1 ∷ 1 ∷ []))) (lent-counts 3)
+    solved (region (alone 0) (alone 1) (alone 0) (alone 2)) (by (reals (1 ∷ 1 ∷ 1 ∷ []))) (lent-counts 3) old-limit
     (record { verdict = refused 5 0 0; moves = 0; counts = lent-counts 3 })
 
 -- ---- the unit square, and 32 values for 2 by 2 quads, one more lent than is needed
@@ -168,14 +173,14 @@ case-J = seamed square (seams early late early late) lent (record { verdict = re
 -- ---- K: "a round from count 0 on a free edge (no region) with ideal 1, limit 0: unchanged and cut; limit 1: count 1, not cut"
 
 abbrev pub case-K-turned-back : Case
-case-K-turned-back = moved [] (by (real 1 ∷ [])) (0 ∷ []) 0 (record { verdict = passed; move = none; cut = true; counts = 0 ∷ [] })
+case-K-turned-back = moved [] (by (real 1 ∷ [])) (0 ∷ []) (Expansions 0) (record { verdict = passed; move = none; cut = true; counts = 0 ∷ [] })
 
 -- the move costs -1
 abbrev pub minus-one : Float
 minus-one = ofBits binary64 0xbff0_0000_0000_0000
 
 abbrev pub case-K-made : Case
-case-K-made = moved [] (by (real 1 ∷ [])) (0 ∷ []) 1 (record { verdict = passed; move = made minus-one; cut = false; counts = 1 ∷ [] })
+case-K-made = moved [] (by (real 1 ∷ [])) (0 ∷ []) (Expansions 1) (record { verdict = passed; move = made minus-one; cut = false; counts = 1 ∷ [] })
 
 -- ---- L: "root of 2^-1074 is 2^-537"; `negsuc n` is -(n + 1)
 
@@ -189,22 +194,22 @@ from-to least most = within (reals least) (reals most)
 
 -- "An edge costs nothing while its count lies from least to most": a free edge from 2 to 5 gets 2
 abbrev pub case-least-met : Case
-case-least-met = solved [] (from-to (2 ∷ []) (5 ∷ [])) (lent-counts 1) (record { verdict = passed; moves = 2; counts = 2 ∷ 7 ∷ [] })
+case-least-met = solved [] (from-to (2 ∷ []) (5 ∷ [])) (lent-counts 1) Default (record { verdict = passed; moves = 2; counts = 2 ∷ 7 ∷ [] })
 
 -- bottom 3 to 5 and top 1 to 3, right 1 to 2 and left 2 to 4: both pairs meet where the ranges do
 abbrev pub case-ranges-meet : Case
 case-ranges-meet =
-    solved (region (alone 0) (alone 1) (alone 2) (alone 3)) (from-to (3 ∷ 1 ∷ 1 ∷ 2 ∷ []) (5 ∷ 2 ∷ 3 ∷ 4 ∷ [])) (lent-counts 4)
+    solved (region (alone 0) (alone 1) (alone 2) (alone 3)) (from-to (3 ∷ 1 ∷ 1 ∷ 2 ∷ []) (5 ∷ 2 ∷ 3 ∷ 4 ∷ [])) (lent-counts 4) Default
     (record { verdict = passed; moves = 5; counts = 3 ∷ 2 ∷ 3 ∷ 2 ∷ 7 ∷ [] })
 
 -- inside its range an edge is left alone
 abbrev pub case-inside : Case
-case-inside = moved [] (from-to (2 ∷ []) (5 ∷ [])) (4 ∷ []) 1 (record { verdict = passed; move = none; cut = false; counts = 4 ∷ [] })
+case-inside = moved [] (from-to (2 ∷ []) (5 ∷ [])) (4 ∷ []) (Expansions 1) (record { verdict = passed; move = none; cut = false; counts = 4 ∷ [] })
 
 -- "A least above its most is refused (..) under 35, with the lowest edge"
 abbrev pub case-reversed : Case
 case-reversed =
-    solved [] (from-to (1 ∷ 3 ∷ 3 ∷ []) (1 ∷ 2 ∷ 2 ∷ [])) (lent-counts 3) (record { verdict = refused 35 1 0; moves = 0; counts = lent-counts 3 })
+    solved [] (from-to (1 ∷ 3 ∷ 3 ∷ []) (1 ∷ 2 ∷ 2 ∷ [])) (lent-counts 3) Default (record { verdict = refused 35 1 0; moves = 0; counts = lent-counts 3 })
 
 -- ---- 02, "Longer hedges": "A side now has 32 places, so a region record is 132 numbers of 16 bits"
 
@@ -219,12 +224,12 @@ last-cost = ofBits binary64 0xbff0_0400_0000_0000
 -- the last place is read as the others are: only edge 31 has a piece too few, and gets it with the edge opposite; two entries a search are enough for that
 abbrev pub case-last-place : Case
 case-last-place =
-    moved long-hedge (by (reals (replicate 32 1 ++ 32 ∷ []))) (replicate 31 1 ++ 0 ∷ 31 ∷ []) 2
+    moved long-hedge (by (reals (replicate 32 1 ++ 32 ∷ []))) (replicate 31 1 ++ 0 ∷ 31 ∷ []) (Expansions 2)
     (record { verdict = passed; move = made last-cost; cut = true; counts = replicate 32 1 ++ 32 ∷ [] })
 
 -- "broken": a round on regions that are not let by
 abbrev pub turned-away : List ℕ → Case
-turned-away regions = moved regions (by (real 1 ∷ [])) (0 ∷ []) 1 (record { verdict = refused 1 0 0; move = none; cut = false; counts = 0 ∷ [] })
+turned-away regions = moved regions (by (real 1 ∷ [])) (0 ∷ []) (Expansions 1) (record { verdict = refused 1 0 0; move = none; cut = false; counts = 0 ∷ [] })
 
 abbrev pub case-side-of-33 : Case
 case-side-of-33 = turned-away (33 ∷ replicate 131 0)
@@ -233,9 +238,27 @@ case-side-of-33 = turned-away (33 ∷ replicate 131 0)
 abbrev pub case-record-of-68 : Case
 case-record-of-68 = turned-away (replicate 68 0)
 
+-- ---- 02, "A lower search limit unless stated"
+
+-- an edge that wants one piece, counts 9 and 7 lent
+abbrev pub free-edge : SearchLimit → Solve → Case
+free-edge limit o = solved [] (by (real 1 ∷ [])) (lent-counts 1) limit o
+
+abbrev pub case-unstated : Case
+case-unstated = free-edge Default (record { verdict = passed; moves = 1; counts = 1 ∷ 7 ∷ [] })
+
+-- 0 is a limit, and not none: each search is turned back at once
+abbrev pub case-limit-0 : Case
+case-limit-0 = free-edge (Expansions 0) (record { verdict = passed; moves = 0; counts = 0 ∷ 7 ∷ [] })
+
+-- "tested as a round's"
+abbrev pub case-limit-over : Case
+case-limit-over = free-edge (Expansions (max-limit + 1)) (record { verdict = refused 10 0 0; moves = 0; counts = lent-counts 1 })
+
 abbrev pub bench : List Case
 bench =
     case-A ∷ case-B ∷ case-C ∷ case-D ∷ case-E ∷ case-F ∷ case-G
     ∷ case-H ∷ areas-H ∷ case-I ∷ case-J ∷ case-K-turned-back ∷ case-K-made ∷ case-L
     ∷ case-least-met ∷ case-ranges-meet ∷ case-inside ∷ case-reversed
-    ∷ case-last-place ∷ case-side-of-33 ∷ case-record-of-68 ∷ []
+    ∷ case-last-place ∷ case-side-of-33 ∷ case-record-of-68
+    ∷ case-unstated ∷ case-limit-0 ∷ case-limit-over ∷ []

@@ -9,10 +9,10 @@ ghost use mathlib.Core.Path.{_≡_};
 ghost use lib.ListN.{length};
 ghost use Rattle.replay.specs.Counting.{Counts};
 
-// A file's first eight bytes, "replay 1", as two numbers.
+// A file's first eight bytes, "replay 2", as two numbers.
 const MARK_LOW: u32 = 0x6c70_6572;
 
-const MARK_HIGH: u32 = 0x3120_7961;
+const MARK_HIGH: u32 = 0x3220_7961;
 
 // Operations are numbered from 1; 0 stands for those that this program does not know.
 const OPERATIONS: usize = 15;

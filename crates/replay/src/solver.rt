@@ -7,12 +7,25 @@ use counts::answer::EnergyAnswer;
 use counts::answer::HoldAnswer;
 use counts::answer::RoundAnswer;
 use counts::answer::SolveAnswer;
+use counts::search_limit::SearchLimit;
 use regions::region::RECORD_SIZE;
 
 // Room for 130 records and 320 edges; no case has more.
 const RECORDS: usize = 130 * RECORD_SIZE;
 
 const EDGES: usize = 320;
+
+// A limit is two numbers: whether it is stated, and how much it is.
+fn search_limit(case: &[u8], at: usize) -> SearchLimit {
+    if reading::flag(case, at) {
+        return SearchLimit::Expansions(reading::number(case, reading::past_number(at)));
+    }
+    SearchLimit::Default
+}
+
+fn past_limit(at: usize) -> usize {
+    reading::past_number(reading::past_number(at))
+}
 
 struct SolveResult {
     verdict: Verdict,
@@ -52,13 +65,14 @@ fn is_solved(case: &[u8], at: usize, answer: SolveAnswer, left: &[u32]) -> bool 
 
 fn solve_on(
     case: &[u8],
-    answer_at: usize,
+    limit_at: usize,
     regions: &[u16],
     ideals: &[f64],
     counts: &mut [u32],
 ) -> bool {
-    let answer = counts::solve_counts(regions, ideals, counts);
-    is_solved(case, answer_at, answer, counts)
+    let limit = search_limit(case, limit_at);
+    let answer = counts::solve_counts(regions, ideals, counts, limit);
+    is_solved(case, past_limit(limit_at), answer, counts)
 }
 
 pub(crate) fn solve(case: &[u8]) -> bool {
@@ -67,13 +81,13 @@ pub(crate) fn solve(case: &[u8]) -> bool {
     let mut counts = [0u32; EDGES];
     let ideals_at = reading::past_places(case, INPUT);
     let counts_at = reading::past_floats(case, ideals_at);
-    let answer_at = reading::past_numbers(case, counts_at);
+    let limit_at = reading::past_numbers(case, counts_at);
     let r = reading::places(case, INPUT, &mut regions);
     let i = reading::floats(case, ideals_at, &mut ideals);
     let n = reading::numbers(case, counts_at, &mut counts);
     solve_on(
         case,
-        answer_at,
+        limit_at,
         &regions[..r],
         &ideals[..i],
         &mut counts[..n],
@@ -82,14 +96,15 @@ pub(crate) fn solve(case: &[u8]) -> bool {
 
 fn solve_within_on(
     case: &[u8],
-    answer_at: usize,
+    limit_at: usize,
     regions: &[u16],
     least: &[f64],
     most: &[f64],
     counts: &mut [u32],
 ) -> bool {
-    let answer = counts::solve_counts_within(regions, least, most, counts);
-    is_solved(case, answer_at, answer, counts)
+    let limit = search_limit(case, limit_at);
+    let answer = counts::solve_counts_within(regions, least, most, counts, limit);
+    is_solved(case, past_limit(limit_at), answer, counts)
 }
 
 pub(crate) fn solve_within(case: &[u8]) -> bool {
@@ -100,14 +115,14 @@ pub(crate) fn solve_within(case: &[u8]) -> bool {
     let least_at = reading::past_places(case, INPUT);
     let most_at = reading::past_floats(case, least_at);
     let counts_at = reading::past_floats(case, most_at);
-    let answer_at = reading::past_numbers(case, counts_at);
+    let limit_at = reading::past_numbers(case, counts_at);
     let r = reading::places(case, INPUT, &mut regions);
     let l = reading::floats(case, least_at, &mut least);
     let m = reading::floats(case, most_at, &mut most);
     let n = reading::numbers(case, counts_at, &mut counts);
     solve_within_on(
         case,
-        answer_at,
+        limit_at,
         &regions[..r],
         &least[..l],
         &most[..m],
@@ -182,9 +197,9 @@ fn round_by(case: &[u8], at: usize, regions: &[u16], counts: &mut [u32]) -> bool
     let mut ideals = [0.0; EDGES];
     let i = reading::floats(case, at, &mut ideals);
     let limit_at = limit_at(case, at, false);
-    let limit = reading::number(case, limit_at);
+    let limit = search_limit(case, limit_at);
     let answer = counts::round(regions, &ideals[..i], counts, limit);
-    is_rounded(case, reading::past_number(limit_at), answer, counts)
+    is_rounded(case, past_limit(limit_at), answer, counts)
 }
 
 // The same of a round whose leasts stand at `at`, and its mosts behind them.
@@ -194,9 +209,9 @@ fn round_within(case: &[u8], at: usize, regions: &[u16], counts: &mut [u32]) -> 
     let l = reading::floats(case, at, &mut least);
     let m = reading::floats(case, reading::past_floats(case, at), &mut most);
     let limit_at = limit_at(case, at, true);
-    let limit = reading::number(case, limit_at);
+    let limit = search_limit(case, limit_at);
     let answer = counts::round_within(regions, &least[..l], &most[..m], counts, limit);
-    is_rounded(case, reading::past_number(limit_at), answer, counts)
+    is_rounded(case, past_limit(limit_at), answer, counts)
 }
 
 // The limit stands behind the ideals, or behind the leasts and the mosts.
@@ -235,7 +250,7 @@ fn round(case: &[u8], at: usize, mixed: bool, regions: &[u16], counts: &mut [u32
 // The position behind a round that starts at `at`.
 fn past_round(case: &[u8], at: usize, mixed: bool) -> usize {
     let limit_at = limit_at(case, lists_at(at, mixed), is_within(case, at, mixed));
-    let moved_at = reading::past_verdict(reading::past_number(limit_at));
+    let moved_at = reading::past_verdict(past_limit(limit_at));
     let cut_at = reading::past_float(reading::past_number(moved_at));
     reading::past_numbers(case, reading::past_number(cut_at))
 }

@@ -12,7 +12,7 @@ same-length : tie.Need-same-length
 same-length c = search needs
 
 returns : tie.Need-returns
-returns c = c .before .before .solve-counts-within .ensures ∙ solve-same _ _ _
+returns c = c .before .before .solve-counts-within .ensures ∙ solve-same _ _ _ _
 
 pub solve-counts-spec : {M : Type 1} → statement M
 solve-counts-spec = tie.close (tie.spec solve-counts-within-requires same-length returns)

@@ -18,9 +18,10 @@ round-head p regions spacing counts limit =
     round-order p regions spacing counts limit (pairs-test p (edges-of spacing) 0 (region-count p regions) regions)
 
 -- and a solve's
-unfoldable pub solve-head : ℕ → List ℕ → Spacing → ℕ → Verdict
+unfoldable pub solve-head : ℕ → List ℕ → Spacing → ℕ → ℕ → Verdict
 unfolding solve-order pairs-test
-solve-head p regions spacing room = solve-order p regions spacing room (pairs-test p (edges-of spacing) 0 (region-count p regions) regions)
+solve-head p regions spacing room limit =
+    solve-order p regions spacing room limit (pairs-test p (edges-of spacing) 0 (region-count p regions) regions)
 
 -- `side_sum`: "Sum the integer counts on one side", unless an edge is out of range
 abbrev pub sum-of-side : List ℕ → List ℕ → SideSum

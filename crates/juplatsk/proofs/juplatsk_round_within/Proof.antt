@@ -1,20 +1,20 @@
 -- `juplatsk_round_within` meets its contract. Assumes nothing.
-use Rattle.juplatsk.proofs.Laws.{round-exported}
+use mathlib.Core.Path.{ap, _∙_}
 use borrow.Author.Needs.{needs}
+use Rattle.counts.specs.Cost.{within}
+use Rattle.counts.specs.Solver.{expansions, round}
+use Rattle.counts.specs.declared.search_limit.SearchLimit.{SearchLimit}
+use Rattle.juplatsk.proofs.Laws.{round-exported}
 use Rattle.juplatsk.proofs.juplatsk_round_within.Statement.{statement}
 use Rattle.juplatsk.proofs.juplatsk_round_within.Tie as tie
 
-round-within-requires : tie.Need-round-within-requires
-round-within-requires c κs = search needs
-
-store-round-requires : tie.Need-store-round-requires
-store-round-requires c κs = search needs
-
-same-length : tie.Need-same-length
-same-length c = search needs
-
 returns : tie.Need-returns
-returns c = round-exported (c .before .before .before .before .before .round-within .result) (c .store-round .ensures) (c .before .before .before .before .before .round-within .ensures)
+returns c =
+    let s = c .before .before .before .before .before .before .before .before .before .before .before .before .args in
+    let made = (c .before .before .before .before .before .round-within) in
+    round-exported (made .result) (c .store-round .ensures)
+    (made .ensures ∙ ap (λ (limit : SearchLimit). round (s .regions .now) (within (s .least .now) (s .most .now)) (s .counts .now) (expansions limit)) (c .before .before .before .before .before .before .before .search-limit .ensures))
 
 pub juplatsk-round-within-spec : {M : Type 1} → statement M
-juplatsk-round-within-spec = tie.close (tie.spec round-within-requires store-round-requires same-length returns)
+juplatsk-round-within-spec =
+    tie.close (tie.spec (λ c κs. search needs) (λ c κs. search needs) (λ c κs. search needs) (λ c. search needs) returns)
