@@ -68,7 +68,7 @@ fn round(mut words: Words) -> Result<String, String> {
     let records = words.places("places of records")?;
     let ideals = words.floats("ideals")?;
     let counts = words.numbers("counts")?;
-    let limit = words.number("the limit")?;
+    let limit = words.limit()?;
     words.end()?;
     told(solver::round(&records, &ideals, &counts, limit), |r| format!("{} {}", round_told(&r), numbers(&r.counts)))
 }
@@ -91,7 +91,7 @@ fn rounds(mut words: Words) -> Result<String, String> {
     let mut steps = Vec::new();
     for _ in 0..words.number("the number of rounds")? {
         let ideals = words.floats("ideals")?;
-        steps.push((ideals, words.number("the limit")?));
+        steps.push((ideals, words.limit()?));
     }
     words.end()?;
     let mut text = format!("ok {}", steps.len());
@@ -107,8 +107,9 @@ fn rounds(mut words: Words) -> Result<String, String> {
 fn solve(mut words: Words) -> Result<String, String> {
     let records = words.places("places of records")?;
     let ideals = words.floats("ideals")?;
+    let limit = words.limit()?;
     words.end()?;
-    told(solver::solve(&records, &ideals), |solved| format!("{} {}", solved.moves, numbers(&solved.counts)))
+    told(solver::solve(&records, &ideals, limit), |solved| format!("{} {}", solved.moves, numbers(&solved.counts)))
 }
 
 /// By the model: cost, cut mark, entries, counts after.
@@ -116,7 +117,7 @@ fn round_within(mut words: Words) -> Result<String, String> {
     let records = words.places("places of records")?;
     let (least, most) = (words.floats("leasts")?, words.floats("mosts")?);
     let mut counts = words.numbers("counts")?;
-    let limit = words.number("the limit")?;
+    let limit = words.limit()?;
     words.end()?;
     let answer = ranges::round(&records, Ends { least: &least, most: &most }, &mut counts, limit);
     told(answer.map_err(Stop::Refused), |round| {
@@ -129,9 +130,10 @@ fn round_within(mut words: Words) -> Result<String, String> {
 fn solve_within(mut words: Words) -> Result<String, String> {
     let records = words.places("places of records")?;
     let (least, most) = (words.floats("leasts")?, words.floats("mosts")?);
+    let limit = words.limit()?;
     words.end()?;
     let mut counts = vec![0; least.len()];
-    let answer = ranges::solve(&records, Ends { least: &least, most: &most }, &mut counts);
+    let answer = ranges::solve(&records, Ends { least: &least, most: &most }, &mut counts, limit);
     told(answer.map_err(Stop::Refused), |moves| format!("{moves} {}", numbers(&counts)))
 }
 

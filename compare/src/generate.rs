@@ -5,7 +5,7 @@ use crate::dice::Dice;
 use crate::farm::{self, lists, record, Farm};
 use crate::former;
 use crate::generate_wide;
-use crate::limits;
+use crate::limits::{self, SEARCH};
 use crate::refusal::Refusal;
 use crate::stored::{self, Case, Spacing};
 
@@ -71,7 +71,7 @@ struct Input {
     records: Vec<u16>,
     ideals: Vec<f64>,
     counts: Vec<u32>,
-    limit: u32,
+    limit: Option<u32>,
 }
 
 /// Edges of the input without a fault.
@@ -81,7 +81,24 @@ impl Input {
     fn good(count: u32) -> Input {
         let mut records = record([&[0], &[1], &[2], &[3]]);
         records.extend(record([&[4], &[5], &[6], &[1]]));
-        Input { records, ideals: vec![4.0, 2.0, 4.0, 2.0, 2.0, 2.0, 2.0, 3.0], counts: vec![count; EDGES], limit: 100 }
+        Input { records, ideals: vec![4.0, 2.0, 4.0, 2.0, 2.0, 2.0, 2.0, 3.0], counts: vec![count; EDGES], limit: Some(100) }
+    }
+
+    /// For a solve by the Rust's limit.
+    fn lent() -> Input {
+        Input { limit: Some(SEARCH), ..Input::good(LENT) }
+    }
+
+    fn without_limit(self) -> Input {
+        Input { limit: None, ..self }
+    }
+
+    fn round(self) -> Result<Case, String> {
+        stored::round(self.records, self.ideals, self.counts, self.limit)
+    }
+
+    fn solve(self) -> Result<Case, String> {
+        stored::solve(self.records, self.ideals, self.counts, self.limit)
     }
 
     fn side(&mut self, region: usize, side: usize, edges: &[u16]) {
@@ -98,7 +115,7 @@ impl Input {
                 self.ideals.resize(257, 1.0);
                 self.counts.resize(257.max(self.counts.len()), 0);
             }
-            Fault::LimitTooLarge => self.limit = 100_001,
+            Fault::LimitTooLarge => self.limit = Some(100_001),
             Fault::LengthsDiffer => self.counts.push(0),
             Fault::OutputTooShort => self.counts.truncate(EDGES - 1),
             Fault::BadIdeal(ideal) => self.ideals[5] = ideal,
@@ -144,8 +161,14 @@ pub fn pairs<F: Copy>(order: &[F], refusal: impl Fn(F) -> Refusal, run: impl Fn(
     Ok(cases)
 }
 
-fn faults(order: &[Fault], count: u32, run: impl Fn(Input) -> Result<Case, String>) -> Cases {
-    let with = |faults: &[Fault]| faults.iter().fold(Input::good(count), |input, &fault| input.with(fault));
+/// Every fault of `order` by itself, in calls that state no limit: so 10 is passed over, and 7, which takes long.
+pub fn alone<F: Copy>(order: &[F], refusal: impl Fn(F) -> Refusal, run: impl Fn(F) -> Result<Case, String>) -> Cases {
+    let faults = order.iter().filter(|&&fault| !matches!(refusal(fault).number, 7 | 10));
+    faults.map(|&fault| expected(run(fault)?, refusal(fault))).collect()
+}
+
+fn faults(order: &[Fault], good: fn() -> Input, run: impl Fn(Input) -> Result<Case, String>) -> Cases {
+    let with = |faults: &[Fault]| faults.iter().fold(good(), |input, &fault| input.with(fault));
     pairs(order, Fault::refusal, |faults| run(with(faults)))
 }
 
@@ -171,7 +194,6 @@ fn ordered(parts: &[&[Fault]]) -> Vec<Fault> {
 }
 
 fn round_faults() -> Cases {
-    let run = |i: Input| stored::round(i.records, i.ideals, i.counts, i.limit);
     let early = [Fault::LimitTooLarge, Fault::LengthsDiffer];
     let mut cases = Vec::new();
     for ideal in BAD_IDEALS {
@@ -180,22 +202,25 @@ fn round_faults() -> Cases {
         if ideal.is_nan() {
             order = ordered(&[&MALFORMED, &order]);
         }
-        cases.extend(faults(&order, 1, run)?);
+        cases.extend(faults(&order, || Input::good(1), Input::round)?);
     }
+    let order = ordered(&[&MALFORMED, &early, &[Fault::BadIdeal(0.0), Fault::CountTooLarge], &REGION_FAULTS]);
+    cases.extend(alone(&order, Fault::refusal, |fault| Input::good(1).with(fault).without_limit().round())?);
     Ok(cases)
 }
 
 fn solve_faults() -> Cases {
-    let run = |i: Input| stored::solve(i.records, i.ideals, i.counts);
+    let early = [Fault::LimitTooLarge, Fault::OutputTooShort];
     let mut cases = Vec::new();
     for ideal in BAD_IDEALS {
-        let order = ordered(&[&[Fault::OutputTooShort, Fault::BadIdeal(ideal)], &REGION_FAULTS]);
-        cases.extend(faults(&order, LENT, run)?);
+        let order = ordered(&[&early, &[Fault::BadIdeal(ideal)], &REGION_FAULTS]);
+        cases.extend(faults(&order, Input::lent, Input::solve)?);
     }
-    let order = ordered(&[&MALFORMED, &[Fault::OutputTooShort, Fault::BadIdeal(0.0)], &REGION_FAULTS, &[Fault::TooManyMoves]]);
-    cases.extend(faults(&order, LENT, run)?);
+    let order = ordered(&[&MALFORMED, &early, &[Fault::BadIdeal(0.0)], &REGION_FAULTS, &[Fault::TooManyMoves]]);
+    cases.extend(faults(&order, Input::lent, Input::solve)?);
     // 7 alone takes 200,000 moves on eight edges: `buffers` has it on one.
     cases.pop();
+    cases.extend(alone(&order, Fault::refusal, |fault| Input::lent().with(fault).without_limit().solve())?);
     Ok(cases)
 }
 
@@ -204,13 +229,13 @@ fn energy_faults() -> Cases {
     let mut cases = Vec::new();
     for ideal in BAD_IDEALS {
         let order = [Fault::TooManyEdges, Fault::LengthsDiffer, Fault::BadIdeal(ideal), Fault::CountTooLarge];
-        cases.extend(faults(&order, 1, run)?);
+        cases.extend(faults(&order, || Input::good(1), run)?);
     }
     Ok(cases)
 }
 
 fn hold_faults() -> Cases {
-    faults(&MALFORMED, 1, |i: Input| stored::hold(i.records, i.counts))
+    faults(&MALFORMED, || Input::good(1), |i: Input| stored::hold(i.records, i.counts))
 }
 
 // ------------------------------------------------------------------------------------------------------------------------------------
@@ -227,7 +252,7 @@ fn size_limits() -> Cases {
     let mut cases = Vec::new();
     for regions in [0, 1, 127, 128, 129] {
         let ideals = vec![1.5; regions + 1];
-        cases.push(stored::solve(row(regions), ideals.clone(), lent(regions + 1))?);
+        cases.push(stored::solve(row(regions), ideals.clone(), lent(regions + 1), SEARCH)?);
         cases.push(stored::round(row(regions), ideals, vec![1; regions + 1], 1000)?);
         cases.push(stored::hold(row(regions), vec![3; regions + 1])?);
     }
@@ -235,7 +260,7 @@ fn size_limits() -> Cases {
         let ideals: Vec<f64> = (0..edges).map(|edge| 0.4 + edge as f64 / 100.0).collect();
         let counts: Vec<u32> = (0..edges).collect();
         let free = lent(edges as usize);
-        cases.push(stored::solve(Vec::new(), ideals.clone(), free)?);
+        cases.push(stored::solve(Vec::new(), ideals.clone(), free, SEARCH)?);
         cases.push(stored::round(Vec::new(), ideals.clone(), counts.clone(), 1)?);
         cases.push(stored::energy(counts.clone(), ideals)?);
         cases.push(stored::hold(Vec::new(), counts)?);
@@ -265,7 +290,7 @@ fn side_limits() -> Cases {
         let records = record([&bottom, &[], &top, &[]]);
         let ideals = side_ideals(edges);
         let counts: Vec<u32> = (0..2 * u32::from(edges)).collect();
-        cases.push(stored::solve(records.clone(), ideals.clone(), lent(ideals.len()))?);
+        cases.push(stored::solve(records.clone(), ideals.clone(), lent(ideals.len()), SEARCH)?);
         cases.push(stored::round(records.clone(), ideals.clone(), counts.clone(), 40)?);
         cases.push(stored::hold(records, counts)?);
     }
@@ -275,7 +300,7 @@ fn side_limits() -> Cases {
             input.records[limits::RECORD + side * limits::SIDE] = number;
             let refusal = set_number(refusal, side);
             cases.push(expected(stored::round(input.records.clone(), input.ideals.clone(), input.counts.clone(), 1)?, refusal)?);
-            cases.push(expected(stored::solve(input.records.clone(), input.ideals, lent(EDGES))?, refusal)?);
+            cases.push(expected(stored::solve(input.records.clone(), input.ideals, lent(EDGES), SEARCH)?, refusal)?);
             cases.push(stored::hold(input.records, input.counts)?);
         }
     }
@@ -313,7 +338,7 @@ pub fn list_lengths() -> Vec<Vec<u16>> {
 fn lengths() -> Cases {
     let mut cases = Vec::new();
     for records in list_lengths() {
-        cases.push(stored::solve(records.clone(), vec![0.75; LISTED], lent(LISTED))?);
+        cases.push(stored::solve(records.clone(), vec![0.75; LISTED], lent(LISTED), SEARCH)?);
         cases.push(stored::round(records.clone(), vec![0.75; LISTED], vec![2; LISTED], 100)?);
         cases.push(stored::hold(records, vec![2; LISTED])?);
     }
@@ -328,7 +353,7 @@ pub fn set_number(number: u32, side: usize) -> Refusal {
     }
 }
 
-/// The search limit: none, few, at its highest value and one above; 30 regions in a row make a search of 31 entries.
+/// The search limit of a round: 0, few, at its highest value and one above; 30 regions in a row make a search of 31 entries.
 fn search_limits() -> Cases {
     let mut cases = Vec::new();
     let ideals = vec![2.5; 31];
@@ -361,12 +386,12 @@ fn buffers() -> Cases {
     let mut cases = Vec::new();
     for length in [0, 1, 6, 7, 8, 9, 12, 255, 256, 257, 300] {
         let input = Input::good(0);
-        cases.push(stored::solve(input.records.clone(), input.ideals.clone(), lent(length))?);
+        cases.push(stored::solve(input.records.clone(), input.ideals.clone(), lent(length), SEARCH)?);
         cases.push(stored::round(input.records, input.ideals.clone(), vec![1; length], 100)?);
         cases.push(stored::energy(vec![1; length], input.ideals)?);
     }
     // 7 zeroes the needed part alone.
-    cases.push(stored::solve(Vec::new(), vec![200_001.0], lent(3))?);
+    cases.push(stored::solve(Vec::new(), vec![200_001.0], lent(3), SEARCH)?);
     Ok(cases)
 }
 
@@ -395,7 +420,7 @@ fn random_records() -> Cases {
         let counts = dice.counts(edges, 4);
         let limit = dice.pick(&[0, 1, 2, 3, 5, 100]);
         cases.push(stored::round(regions.clone(), ideals.clone(), counts.clone(), limit)?);
-        cases.push(stored::solve(regions.clone(), ideals, lent(edges))?);
+        cases.push(stored::solve(regions.clone(), ideals, lent(edges), SEARCH)?);
         cases.push(stored::hold(regions, counts)?);
     }
     Ok(cases)
@@ -414,7 +439,7 @@ fn farms() -> Cases {
         for _ in 0..4 {
             let field = field(&mut dice, rows, columns);
             let ideals = dice.ideals(field.edges);
-            cases.push(stored::solve(field.regions.clone(), ideals.clone(), lent(field.edges + 2))?);
+            cases.push(stored::solve(field.regions.clone(), ideals.clone(), lent(field.edges + 2), SEARCH)?);
             for limit in [1, 7, 60, 777, 100_000] {
                 let counts = dice.counts(field.edges, 6);
                 cases.push(stored::round(field.regions.clone(), ideals.clone(), counts, limit)?);
@@ -438,14 +463,15 @@ fn lists_of_rounds() -> Cases {
         cases.push(stored::rounds(field.regions, counts, calls)?);
     }
     // A free edge that a round takes to 1,000,001: from there on every round is refused with 9.
-    let calls = (0..5).map(|_| (vec![2e6, 0.5].into(), 3)).collect();
+    let calls = (0..5).map(|_| (vec![2e6, 0.5].into(), Some(3))).collect();
     cases.push(stored::rounds(Vec::new(), vec![999_999, 1], calls)?);
-    cases.push(stored::rounds(Vec::new(), Vec::new(), vec![(vec![].into(), 0), (vec![1.0].into(), 0), (vec![].into(), 100_001)])?);
+    let calls = vec![(vec![].into(), Some(0)), (vec![1.0].into(), Some(0)), (vec![].into(), Some(100_001))];
+    cases.push(stored::rounds(Vec::new(), Vec::new(), calls)?);
     cases.push(stored::rounds(row(3), vec![1; 4], Vec::new())?);
     Ok(cases)
 }
 
-fn call(dice: &mut Dice, edges: usize) -> (Spacing, u32) {
+fn call(dice: &mut Dice, edges: usize) -> (Spacing, Option<u32>) {
     let mut ideals = dice.ideals(edges);
     match dice.below(12) {
         0 => ideals.push(1.0),
@@ -453,7 +479,7 @@ fn call(dice: &mut Dice, edges: usize) -> (Spacing, u32) {
         2 => ideals[edges / 2] = 0.0,
         _ => {}
     }
-    (ideals.into(), dice.pick(&[0, 3, 20, 500, 500, 100_000, 100_001]))
+    (ideals.into(), Some(dice.pick(&[0, 3, 20, 500, 500, 100_000, 100_001])))
 }
 
 /// Ideals from the least to nearly the largest f64, on free edges and in a field.
@@ -467,7 +493,7 @@ fn extreme_ideals() -> Cases {
             cases.push(stored::energy(vec![count; 3], vec![ideal; 3])?);
         }
         if ideal <= 1e4 {
-            cases.push(stored::solve(Vec::new(), vec![ideal; 2], lent(2))?);
+            cases.push(stored::solve(Vec::new(), vec![ideal; 2], lent(2), SEARCH)?);
         }
     }
     for _ in 0..24 {
@@ -477,7 +503,7 @@ fn extreme_ideals() -> Cases {
         cases.push(stored::round(field.regions.clone(), ideals.clone(), counts.clone(), 1000)?);
         cases.push(stored::energy(counts, ideals)?);
         let small: Vec<f64> = (0..field.edges).map(|_| dice.pick(&scale[..8])).collect();
-        cases.push(stored::solve(field.regions, small, lent(field.edges))?);
+        cases.push(stored::solve(field.regions, small, lent(field.edges), SEARCH)?);
     }
     Ok(cases)
 }
@@ -509,7 +535,7 @@ fn shapes() -> Cases {
             let (ideals, counts) = (dice.ideals(edges), dice.counts(edges, 4));
             cases.push(stored::round(records.clone(), ideals.clone(), counts.clone(), limit)?);
             cases.push(stored::hold(records.clone(), counts)?);
-            cases.push(stored::solve(records.clone(), ideals, lent(edges + 1))?);
+            cases.push(stored::solve(records.clone(), ideals, lent(edges + 1), SEARCH)?);
         }
     }
     Ok(cases)

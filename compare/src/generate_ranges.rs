@@ -5,11 +5,11 @@
 use crate::dice::Dice;
 use crate::farm::{record, Farm};
 use crate::generate::{
-    self, careless, expected, field, lent, odd_shapes, pairs, row, set_number, side_ideals, Cases, BAD_IDEALS, LENT, LISTED, NUMBERS,
-    PLACES, SIDES,
+    self, alone, careless, expected, field, lent, odd_shapes, pairs, row, set_number, side_ideals, Cases, BAD_IDEALS, LENT, LISTED,
+    NUMBERS, PLACES, SIDES,
 };
 use crate::generate_wide::{last_places, wide, wide_fields, Wide};
-use crate::limits;
+use crate::limits::{self, SEARCH};
 use crate::refusal::Refusal;
 use crate::stored::{self, Case, Spacing};
 
@@ -80,7 +80,7 @@ struct Input {
     least: Vec<f64>,
     most: Vec<f64>,
     counts: Vec<u32>,
-    limit: u32,
+    limit: Option<u32>,
 }
 
 /// Edges of the input without a fault.
@@ -93,8 +93,17 @@ impl Input {
             least: vec![4.0, 2.0, 3.5, 2.0, 1.5, 2.0, 2.0, 3.0],
             most: vec![4.0, 2.5, 4.0, 3.0, 2.0, 2.0, 6.0, 3.0],
             counts: vec![count; EDGES],
-            limit: 100,
+            limit: Some(100),
         }
+    }
+
+    /// For a solve by the Rust's limit.
+    fn lent() -> Input {
+        Input { limit: Some(SEARCH), ..Input::good(LENT) }
+    }
+
+    fn without_limit(self) -> Input {
+        Input { limit: None, ..self }
     }
 
     fn side(&mut self, region: usize, side: usize, edges: &[u16]) {
@@ -111,7 +120,7 @@ impl Input {
             Fault::TooManyLeasts => self.least.resize(260, 1.0),
             Fault::TooManyMosts => self.most.resize(260, 9.0),
             Fault::TooManyCounts => self.counts.resize(260, 1),
-            Fault::LimitTooLarge => self.limit = 100_001,
+            Fault::LimitTooLarge => self.limit = Some(100_001),
             Fault::LeastsFewer => drop(self.least.pop()),
             Fault::MostsFewer => self.most.truncate(self.most.len() - 2),
             Fault::CountsMore => self.counts.push(0),
@@ -145,7 +154,7 @@ impl Input {
     }
 
     fn solve(self) -> Result<Case, String> {
-        stored::solve(self.records.clone(), self.spacing(), self.counts)
+        stored::solve(self.records.clone(), self.spacing(), self.counts, self.limit)
     }
 }
 
@@ -170,8 +179,8 @@ impl Fault {
     }
 }
 
-fn faults(order: &[Fault], count: u32, run: impl Fn(Input) -> Result<Case, String>) -> Cases {
-    let with = |faults: &[Fault]| faults.iter().fold(Input::good(count), |input, &fault| input.with(fault));
+fn faults(order: &[Fault], good: fn() -> Input, run: impl Fn(Input) -> Result<Case, String>) -> Cases {
+    let with = |faults: &[Fault]| faults.iter().fold(good(), |input, &fault| input.with(fault));
     pairs(order, Fault::refusal, |faults| run(with(faults)))
 }
 
@@ -183,16 +192,19 @@ fn round_faults() -> Cases {
     let malformed = [Fault::NotWhole, Fault::SideTooLong, Fault::TooManyLeasts, Fault::TooManyMosts, Fault::TooManyCounts];
     let early = [Fault::LimitTooLarge, Fault::LeastsFewer, Fault::MostsFewer, Fault::CountsMore];
     let order = [&malformed[..], &early, &ENDS, &[Fault::CountTooLarge], &REGION_FAULTS].concat();
-    faults(&order, 1, Input::round)
+    let mut cases = faults(&order, || Input::good(1), Input::round)?;
+    cases.extend(alone(&order, Fault::refusal, |fault| Input::good(1).with(fault).without_limit().round())?);
+    Ok(cases)
 }
 
 fn solve_faults() -> Cases {
     let malformed = [Fault::NotWhole, Fault::SideTooLong, Fault::TooManyLeasts, Fault::TooManyMosts];
-    let early = [Fault::LeastsFewer, Fault::MostsFewer, Fault::OutputTooShort];
+    let early = [Fault::LimitTooLarge, Fault::LeastsFewer, Fault::MostsFewer, Fault::OutputTooShort];
     let order = [&malformed[..], &early, &ENDS, &REGION_FAULTS, &[Fault::TooManyMoves]].concat();
-    let mut cases = faults(&order, LENT, Input::solve)?;
+    let mut cases = faults(&order, Input::lent, Input::solve)?;
     // 7 alone takes 200,000 moves on eight edges: `move_limits` has it on one.
     cases.pop();
+    cases.extend(alone(&order, Fault::refusal, |fault| Input::lent().with(fault).without_limit().solve())?);
     Ok(cases)
 }
 
@@ -202,7 +214,7 @@ fn bad_ends() -> Cases {
     for end in BAD_IDEALS.into_iter().chain([-5e-324]) {
         for fault in [Fault::BadLeast(end), Fault::BadMost(end)] {
             cases.push(Input::good(1).with(fault).round()?);
-            cases.push(Input::good(LENT).with(fault).solve()?);
+            cases.push(Input::lent().with(fault).solve()?);
         }
     }
     let mut turned = Input::good(1);
@@ -220,11 +232,11 @@ fn lengths() -> Cases {
         let mut most = Input::good(1);
         most.most.resize(length, 9.0);
         for input in [least, most] {
-            cases.push(stored::solve(input.records.clone(), input.spacing(), lent(EDGES))?);
+            cases.push(stored::solve(input.records.clone(), input.spacing(), lent(EDGES), SEARCH)?);
             cases.push(input.round()?);
         }
         let input = Input::good(1);
-        cases.push(stored::solve(input.records.clone(), input.spacing(), lent(length))?);
+        cases.push(stored::solve(input.records.clone(), input.spacing(), lent(length), SEARCH)?);
         cases.push(stored::round(input.records.clone(), input.spacing(), vec![1; length], 100)?);
     }
     Ok(cases)
@@ -238,13 +250,13 @@ fn size_limits() -> Cases {
     let mut cases = Vec::new();
     for regions in [0, 1, 127, 128, 129] {
         let (least, most) = (vec![1.5; regions + 1], vec![2.5; regions + 1]);
-        cases.push(stored::solve(row(regions), within(&least, &most), lent(regions + 1))?);
+        cases.push(stored::solve(row(regions), within(&least, &most), lent(regions + 1), SEARCH)?);
         cases.push(stored::round(row(regions), within(&least, &most), vec![1; regions + 1], 1000)?);
     }
     for edges in [0, 1, 255, 256, 257] {
         let least: Vec<f64> = (0..edges).map(|edge| 0.4 + f64::from(edge) / 100.0).collect();
         let most: Vec<f64> = least.iter().map(|least| least + 0.3).collect();
-        cases.push(stored::solve(Vec::new(), within(&least, &most), lent(edges as usize))?);
+        cases.push(stored::solve(Vec::new(), within(&least, &most), lent(edges as usize), SEARCH)?);
         cases.push(stored::round(Vec::new(), within(&least, &most), (0..edges).collect(), 1)?);
     }
     Ok(cases)
@@ -258,7 +270,7 @@ fn side_limits() -> Cases {
         let least = side_ideals(edges);
         let most: Vec<f64> = least.iter().map(|least| 1.5 * least).collect();
         let counts: Vec<u32> = (0..2 * u32::from(edges)).collect();
-        cases.push(stored::solve(records.clone(), within(&least, &most), lent(least.len()))?);
+        cases.push(stored::solve(records.clone(), within(&least, &most), lent(least.len()), SEARCH)?);
         cases.push(stored::round(records, within(&least, &most), counts, 40)?);
     }
     for (number, refusal) in NUMBERS {
@@ -266,7 +278,7 @@ fn side_limits() -> Cases {
             let mut input = Input::good(1);
             input.records[limits::RECORD + side * limits::SIDE] = number;
             let refusal = set_number(refusal, side);
-            cases.push(expected(stored::solve(input.records.clone(), input.spacing(), lent(EDGES))?, refusal)?);
+            cases.push(expected(stored::solve(input.records.clone(), input.spacing(), lent(EDGES), SEARCH)?, refusal)?);
             cases.push(expected(input.round()?, refusal)?);
         }
     }
@@ -277,7 +289,7 @@ fn list_lengths() -> Cases {
     let mut cases = Vec::new();
     let spacing = within(&[0.75; LISTED], &[1.5; LISTED]);
     for records in generate::list_lengths() {
-        cases.push(stored::solve(records.clone(), spacing.clone(), lent(LISTED))?);
+        cases.push(stored::solve(records.clone(), spacing.clone(), lent(LISTED), SEARCH)?);
         cases.push(stored::round(records, spacing.clone(), vec![2; LISTED], 100)?);
     }
     Ok(cases)
@@ -288,7 +300,7 @@ fn spoiled_places() -> Cases {
     for (regions, edges, refusal) in last_places() {
         let spacing = within(&vec![1.5; edges], &vec![2.5; edges]);
         cases.push(expected(stored::round(regions.clone(), spacing.clone(), vec![1; edges], 100)?, refusal)?);
-        cases.push(expected(stored::solve(regions, spacing, lent(edges))?, refusal)?);
+        cases.push(expected(stored::solve(regions, spacing, lent(edges), SEARCH)?, refusal)?);
     }
     Ok(cases)
 }
@@ -310,7 +322,7 @@ fn wide_sides() -> Cases {
     Ok(cases)
 }
 
-/// The search limit: none, few, at its highest value and one above; 30 regions in a row make a search of 31 entries.
+/// The search limit of a round: 0, few, at its highest value and one above; 30 regions in a row make a search of 31 entries.
 fn search_limits() -> Cases {
     let mut cases = Vec::new();
     for limit in [0, 1, 2, 29, 30, 31, 32, 99_999, 100_000, 100_001, u32::MAX] {
@@ -342,7 +354,7 @@ fn count_limits() -> Cases {
 
 /// 200,000 moves, and one more: then the counts of the edges are 0, and none past them changes.
 fn move_limits() -> Cases {
-    [200_000.0, 200_001.0].into_iter().map(|least| stored::solve(Vec::new(), within(&[least], &[250_000.0]), lent(3))).collect()
+    [200_000.0, 200_001.0].into_iter().map(|least| stored::solve(Vec::new(), within(&[least], &[250_000.0]), lent(3), SEARCH)).collect()
 }
 
 // ------------------------------------------------------------------------------------------------------------------------------------
@@ -366,7 +378,7 @@ fn one_edge() -> Cases {
             cases.push(stored::round(Vec::new(), within(&[least], &[most]), vec![count], 1)?);
         }
         if least <= 1e4 {
-            cases.push(stored::solve(Vec::new(), within(&[least; 2], &[most; 2]), lent(2))?);
+            cases.push(stored::solve(Vec::new(), within(&[least; 2], &[most; 2]), lent(2), SEARCH)?);
         }
     }
     Ok(cases)
@@ -388,7 +400,7 @@ fn extreme_fields() -> Cases {
         cases.push(stored::round(field.regions.clone(), within(&least, &most), counts, 1000)?);
         // A solve comes no higher than the leasts.
         let (least, most): (Vec<f64>, Vec<f64>) = (0..field.edges).map(|_| two(&mut dice, &SCALE[..8])).unzip();
-        cases.push(stored::solve(field.regions, within(&least, &most), lent(field.edges))?);
+        cases.push(stored::solve(field.regions, within(&least, &most), lent(field.edges), SEARCH)?);
     }
     Ok(cases)
 }
@@ -442,7 +454,7 @@ fn random_records() -> Cases {
         let counts = dice.counts(edges, 4);
         let (spacing, limit) = (dice.ranges(edges), dice.pick(&[0, 1, 2, 3, 5, 100]));
         cases.push(stored::round(regions.clone(), spacing.clone(), counts, limit)?);
-        cases.push(stored::solve(regions, spacing, lent(edges))?);
+        cases.push(stored::solve(regions, spacing, lent(edges), SEARCH)?);
     }
     Ok(cases)
 }
@@ -455,7 +467,7 @@ fn farms() -> Cases {
         for _ in 0..2 {
             let field = field(&mut dice, rows, columns);
             let spacing = dice.ranges(field.edges);
-            cases.push(stored::solve(field.regions.clone(), spacing.clone(), lent(field.edges + 2))?);
+            cases.push(stored::solve(field.regions.clone(), spacing.clone(), lent(field.edges + 2), SEARCH)?);
             for limit in [1, 7, 60, 777, 100_000] {
                 let counts = dice.counts(field.edges, 6);
                 cases.push(stored::round(field.regions.clone(), spacing.clone(), counts, limit)?);
@@ -474,7 +486,7 @@ fn shapes() -> Cases {
             cases.push(stored::round(records.clone(), dice.ranges(edges), counts, limit)?);
         }
         for _ in 0..3 {
-            cases.push(stored::solve(records.clone(), dice.ranges(edges), lent(edges + 1))?);
+            cases.push(stored::solve(records.clone(), dice.ranges(edges), lent(edges + 1), SEARCH)?);
         }
     }
     Ok(cases)
@@ -495,17 +507,18 @@ fn mixed_lists() -> Cases {
     // A free edge that a round takes to 1,000,001: from there on every round of either kind is refused with 9.
     let kinds = [within(&[2e6, 0.5], &[3e6, 5.0]), Spacing::Ideals(vec![2e6, 0.5])];
     cases.push(stored::rounds(Vec::new(), vec![999_999, 1], in_turn(&kinds, 3))?);
-    let calls = vec![(within(&[], &[]), 0), (vec![].into(), 0), (within(&[], &[1.0]), 0), (within(&[], &[]), 100_001)];
+    let calls = [(within(&[], &[]), 0), (vec![].into(), 0), (within(&[], &[1.0]), 0), (within(&[], &[]), 100_001)];
+    let calls = calls.map(|(spacing, limit)| (spacing, Some(limit))).to_vec();
     cases.push(stored::rounds(Vec::new(), Vec::new(), calls)?);
     Ok(cases)
 }
 
 /// Six rounds by these in turn.
-fn in_turn(kinds: &[Spacing], limit: u32) -> Vec<(Spacing, u32)> {
-    kinds.iter().cycle().take(6).map(|spacing| (spacing.clone(), limit)).collect()
+fn in_turn(kinds: &[Spacing], limit: u32) -> Vec<(Spacing, Option<u32>)> {
+    kinds.iter().cycle().take(6).map(|spacing| (spacing.clone(), Some(limit))).collect()
 }
 
-fn call(dice: &mut Dice, edges: usize) -> (Spacing, u32) {
+fn call(dice: &mut Dice, edges: usize) -> (Spacing, Option<u32>) {
     let mut spacing = if dice.below(2) == 0 { dice.ranges(edges) } else { dice.ideals(edges).into() };
     match &mut spacing {
         Spacing::Ideals(ideals) => damage(dice, ideals),
@@ -516,7 +529,7 @@ fn call(dice: &mut Dice, edges: usize) -> (Spacing, u32) {
             _ => {}
         },
     }
-    (spacing, dice.pick(&[0, 3, 20, 500, 500, 100_000, 100_001]))
+    (spacing, Some(dice.pick(&[0, 3, 20, 500, 500, 100_000, 100_001])))
 }
 
 fn damage(dice: &mut Dice, list: &mut Vec<f64>) {

@@ -5,7 +5,7 @@ use crate::dice::Dice;
 use crate::farm::{self, lists, record, Farm};
 use crate::former;
 use crate::generate::{expected, lent, Cases};
-use crate::limits;
+use crate::limits::{self, SEARCH};
 use crate::refusal::Refusal;
 use crate::stored::{self, Case, Rounds, Spacing};
 
@@ -34,7 +34,7 @@ pub fn wide_fields() -> Vec<Wide> {
 }
 
 /// Lines of so many edges one above the other, and a region between two: the lower line is its bottom, the upper one its top.
-fn stack(lines: &[usize]) -> Farm {
+pub fn stack(lines: &[usize]) -> Farm {
     let ends = lines.iter().scan(0, |edges, line| {
         *edges += line;
         Some(*edges)
@@ -51,7 +51,7 @@ fn turned(mut farm: Farm) -> Farm {
 }
 
 /// Ideals of which one in `every` is not below 1/2: a move with no such edge gains nothing.
-fn sparse(edges: usize, every: usize) -> Vec<f64> {
+pub fn sparse(edges: usize, every: usize) -> Vec<f64> {
     (1..=edges).map(|edge| if edge % every == 0 { [1.0, 1.5, 2.0][edge % 3] } else { 0.45 }).collect()
 }
 
@@ -140,10 +140,10 @@ pub fn wide(dice: &mut Dice, wanted: fn(Vec<f64>) -> Spacing) -> Cases {
             cases.push(stored::round(regions.clone(), wanted(any), counts, limit)?);
         }
         let few = ideals.clone().unwrap_or_else(|| dice.ideals(edges));
-        let calls = limits.iter().map(|&limit| (wanted(few.clone()), limit.min(200))).collect();
+        let calls = limits.iter().map(|&limit| (wanted(few.clone()), Some(limit.min(200)))).collect();
         cases.push(stored::rounds(regions.clone(), vec![0; edges], calls)?);
         if let Some(ideals) = ideals {
-            cases.push(stored::solve(regions, wanted(ideals), lent(edges))?);
+            cases.push(stored::solve(regions, wanted(ideals), lent(edges), SEARCH)?);
         }
     }
     Ok(cases)
@@ -200,7 +200,7 @@ fn spoiled_places() -> Cases {
     let mut cases = Vec::new();
     for (regions, edges, refusal) in last_places() {
         cases.push(expected(stored::round(regions.clone(), vec![1.5; edges], vec![1; edges], 100)?, refusal)?);
-        cases.push(expected(stored::solve(regions.clone(), vec![1.5; edges], lent(edges))?, refusal)?);
+        cases.push(expected(stored::solve(regions.clone(), vec![1.5; edges], lent(edges), SEARCH)?, refusal)?);
         cases.push(stored::hold(regions, vec![1; edges])?);
     }
     Ok(cases)

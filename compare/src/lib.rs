@@ -10,7 +10,7 @@
 //! - `lay`: 01's lay, which the Rust does not have.
 //! - `ranges`: a plain model of rounds and solves within ranges, which the Rust does not have.
 //! - `stored`, `grids`: stored cases of the solver and of geometry; `json`, `vector`: from the vectors; `dice`, `generate`,
-//!   `generate_wide`, `generate_geometry`, `generate_ranges`: made here; `pack`: as bytes (src/bin/stored.rs).
+//!   `generate_wide`, `generate_geometry`, `generate_ranges`, `generate_limits`: made here; `pack`: as bytes (src/bin/stored.rs).
 //! - `tool`: how a tool ends.
 
 include!(concat!(env!("OUT_DIR"), "/published.rs"));
@@ -23,6 +23,7 @@ pub mod farm;
 pub mod former;
 pub mod generate;
 pub mod generate_geometry;
+pub mod generate_limits;
 pub mod generate_ranges;
 pub mod generate_wide;
 pub mod geometry;

@@ -4,7 +4,7 @@ use crate::grids::{Boundary, Source};
 use crate::refusal::Refusal;
 use crate::stored::{Case, Spacing, Step};
 
-const MARK: &[u8; 8] = b"replay 1";
+const MARK: &[u8; 8] = b"replay 2";
 
 /// The operation of a list of rounds that says of each round which kind it is.
 const MIXED: u32 = 14;
@@ -29,6 +29,7 @@ pub fn one(case: &Case) -> Result<Vec<u8>, String> {
             bytes.places(&c.records)?;
             bytes.spacing(&c.spacing)?;
             bytes.numbers(&c.before)?;
+            bytes.limit(c.limit);
             bytes.verdict(c.answer.err());
             bytes.number(c.answer.unwrap_or(0));
             bytes.numbers(&c.after)?;
@@ -89,6 +90,12 @@ impl Bytes {
         self.0.extend(value.to_le_bytes());
     }
 
+    /// Whether it is stated, and the limit; 0 where it is not.
+    fn limit(&mut self, limit: Option<u32>) {
+        self.number(u32::from(limit.is_some()));
+        self.number(limit.unwrap_or(0));
+    }
+
     /// All NaNs are one.
     fn float(&mut self, value: f64) {
         let value = if value.is_nan() { f64::NAN } else { value };
@@ -147,7 +154,7 @@ impl Bytes {
                 self.number(u32::from(step.spacing.is_within()));
             }
             self.spacing(&step.spacing)?;
-            self.number(step.limit);
+            self.limit(step.limit);
             self.verdict(step.answer.err());
             self.number(u32::from(cost.is_some()));
             self.float(cost.unwrap_or(0.0));

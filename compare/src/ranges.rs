@@ -1,7 +1,7 @@
 //! A plain model of a round and of a solve by a least and a most for each edge (02, item 7), which the Rust does not have. It is written
 //! from the texts of 01 and 02, by a hand that knew the published Rust and had seen nothing of this library, and so that it can be read
-//! beside these texts: nothing in it is there for speed. It decides every refusal itself, and calls nothing of the Rust. With equal ends it
-//! must do what the Rust does with that ideal.
+//! beside these texts: nothing in it is there for speed. That a limit may be left out (item 5) came later. It decides every refusal itself,
+//! and calls nothing of the Rust. With equal ends it must do what the Rust does with that ideal.
 
 use crate::limits;
 use crate::refusal::Refusal;
@@ -31,9 +31,10 @@ pub struct Round {
 }
 
 /// One public round. The move found, if any, is made on the counts; a refused round leaves them.
-pub fn round(records: &[u16], ends: Ends, counts: &mut [u32], limit: u32) -> Result<Round, Refusal> {
+pub fn round(records: &[u16], ends: Ends, counts: &mut [u32], limit: Option<u32>) -> Result<Round, Refusal> {
     let regions = regions(records)?;
     refuse_if([ends.least.len(), ends.most.len(), counts.len()].iter().any(|&edges| edges > limits::EDGES), 1)?;
+    let limit = limits::expansions(limit);
     refuse_if(limit > limits::SEARCH, 10)?;
     refuse_if(ends.least.len() != ends.most.len() || ends.least.len() != counts.len(), 8)?;
     check_ends(ends)?;
@@ -46,15 +47,11 @@ pub fn round(records: &[u16], ends: Ends, counts: &mut [u32], limit: u32) -> Res
     Ok(Round { cost: found.best.map(|best| best.cost), cut: found.cut, entries: found.entries })
 }
 
-/// A solve, which searches with limit 100,000: the number of moves. It writes the counts of the edges, and none past them.
-pub fn solve(records: &[u16], ends: Ends, counts: &mut [u32]) -> Result<u32, Refusal> {
-    solve_by(records, ends, counts, limits::SEARCH)
-}
-
-/// A solve by another limit, tested as a round's (02, item 5).
-pub fn solve_by(records: &[u16], ends: Ends, counts: &mut [u32], limit: u32) -> Result<u32, Refusal> {
+/// A solve: the number of moves. It writes the counts of the edges, and none past them. Its limit is tested as a round's.
+pub fn solve(records: &[u16], ends: Ends, counts: &mut [u32], limit: Option<u32>) -> Result<u32, Refusal> {
     let regions = regions(records)?;
     refuse_if([ends.least.len(), ends.most.len()].iter().any(|&edges| edges > limits::EDGES), 1)?;
+    let limit = limits::expansions(limit);
     refuse_if(limit > limits::SEARCH, 10)?;
     refuse_if(ends.least.len() != ends.most.len(), 8)?;
     refuse_if(counts.len() < ends.least.len(), 11)?;

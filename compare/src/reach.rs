@@ -1,5 +1,5 @@
 //! A module inside the published `simons_qgp`, so that its private functions and fields can be named here. It adds no rule of its own
-//! but the two that 01 adds to the Rust: a limit that is set, and the mark that a search was cut.
+//! but the two that 01 adds to the Rust: a limit that is set, also in a solve (02, item 5), and the mark that a search was cut.
 
 use super::*;
 
@@ -33,29 +33,44 @@ pub fn check_regions(regions: &[Region], edges: usize) -> Result<(), String> {
     build_graph(regions, edges).map(|_| ())
 }
 
-/// `find_augmentation` with `max_expansions` set.
+/// A round: the best move, and what the searches for it make.
 pub fn find(regions: &[Region], counts: &[usize], ideals: &[f64], limit: usize) -> Result<Found, String> {
     let graph = build_graph(regions, ideals.len())?;
-    let mut found = Found { best: None, cut: false, expansions: 0 };
-    for edge in 0..counts.len() {
-        for sign in [1, -1] {
-            if sign < 0 && counts[edge] == 0 {
-                continue;
-            }
-            let entered = expansions(&graph, counts, ideals, (edge, sign), limit + 1);
-            found.cut |= entered > limit;
-            found.expansions += entered.min(limit);
-            let mut search = AugmentSearch::new(&graph, counts, ideals, edge, sign);
-            search.max_expansions = limit;
-            if let Some((cost, changes)) = search.run() {
-                keep(&mut found.best, cost, changes);
-            }
-        }
+    let mut found = Found { best: best_move(&graph, counts, ideals, limit), cut: false, expansions: 0 };
+    for start in starts(counts) {
+        let entered = expansions(&graph, counts, ideals, start, limit + 1);
+        found.cut |= entered > limit;
+        found.expansions += entered.min(limit);
     }
     if limit == MAX_SEARCH_NODES {
         same_as_published(&found.best, find_augmentation(&graph, counts, ideals))?;
     }
     Ok(found)
+}
+
+/// The starts of a round, in the order of `find_augmentation`.
+fn starts(counts: &[usize]) -> impl Iterator<Item = (usize, i32)> + '_ {
+    let both = (0..counts.len()).flat_map(|edge| [(edge, 1), (edge, -1)]);
+    both.filter(|&(edge, sign)| sign > 0 || counts[edge] > 0)
+}
+
+/// `find_augmentation` with `max_expansions` set.
+fn best_move(graph: &Graph, counts: &[usize], ideals: &[f64], limit: usize) -> Option<(f64, Changes)> {
+    let mut best = None;
+    for (edge, sign) in starts(counts) {
+        let mut search = AugmentSearch::new(graph, counts, ideals, edge, sign);
+        search.max_expansions = limit;
+        if let Some((cost, changes)) = search.run() {
+            keep(&mut best, cost, changes);
+        }
+    }
+    best
+}
+
+/// The entries of the search from one edge and sign.
+pub fn entries(regions: &[Region], counts: &[usize], ideals: &[f64], start: (usize, i32), limit: usize) -> Result<usize, String> {
+    let graph = build_graph(regions, ideals.len())?;
+    Ok(expansions(&graph, counts, ideals, start, limit))
 }
 
 /// The entries that a search makes under a limit, by the steps of `AugmentSearch::run`. A search with limit L turned an entry back just
@@ -97,16 +112,24 @@ pub fn apply(counts: &mut [usize], changes: &Changes) -> Result<(), String> {
     apply_changes(counts, changes)
 }
 
-/// The number of moves of a solve that is accepted: the loop of `solve_counts`, counted.
-pub fn count_moves(regions: &[Region], ideals: &[f64]) -> Result<(u32, Vec<usize>), String> {
-    let graph = build_graph(regions, ideals.len())?;
+/// `solve_counts` with `max_expansions` set: its tests and its loop, repeated. The number of moves, and the counts.
+pub fn solve(regions: &[Region], ideals: &[f64], limit: usize) -> Result<(u32, Vec<usize>), String> {
     let mut counts = vec![0; ideals.len()];
+    // It tests the ideals as `solve_counts` does.
+    energy(&counts, ideals)?;
+    let graph = build_graph(regions, ideals.len())?;
     let mut moves = 0;
-    while let Some((_, changes)) = find_augmentation(&graph, &counts, ideals) {
+    while let Some((_, changes)) = best_move(&graph, &counts, ideals, limit) {
+        if moves >= MAX_AUGMENTATIONS {
+            return Err(format!("augmentation limit ({MAX_AUGMENTATIONS}) reached before the energy stopped improving"));
+        }
         apply_changes(&mut counts, &changes)?;
         moves += 1;
     }
-    Ok((moves, counts))
+    if !constraints_hold(regions, &counts) {
+        return Err("internal error: the counts are not balanced after the solve".to_string());
+    }
+    Ok((moves as u32, counts))
 }
 
 /// The entries that the searches of a round make, counted no further than just past `most`. Input that is refused makes none.
@@ -119,26 +142,24 @@ pub fn round_effort(regions: &[Region], counts: &[usize], ideals: &[f64], limit:
 
 fn searches_effort(graph: &Graph, counts: &[usize], ideals: &[f64], limit: usize, most: usize) -> usize {
     let mut total = 0;
-    for edge in 0..counts.len() {
-        for sign in [1, -1] {
-            if total <= most && (sign > 0 || counts[edge] > 0) {
-                total += expansions(graph, counts, ideals, (edge, sign), limit.min(most + 1));
-            }
+    for start in starts(counts) {
+        if total <= most {
+            total += expansions(graph, counts, ideals, start, limit.min(most + 1));
         }
     }
     total
 }
 
 /// The same for all rounds of a solve.
-pub fn solve_effort(regions: &[Region], ideals: &[f64], most: usize) -> usize {
+pub fn solve_effort(regions: &[Region], ideals: &[f64], limit: usize, most: usize) -> usize {
     let Ok(graph) = build_graph(regions, ideals.len()) else {
         return 0;
     };
     let mut counts = vec![0; ideals.len()];
     let mut total = 0;
     while total <= most {
-        total += searches_effort(&graph, &counts, ideals, MAX_SEARCH_NODES, most);
-        match find_augmentation(&graph, &counts, ideals) {
+        total += searches_effort(&graph, &counts, ideals, limit, most);
+        match best_move(&graph, &counts, ideals, limit) {
             Some((_, changes)) if apply_changes(&mut counts, &changes).is_ok() => {}
             _ => break,
         }

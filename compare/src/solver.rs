@@ -68,6 +68,14 @@ fn check_ideals(ideals: &[f64]) -> Result<(), Stop> {
     simons_qgp::energy(&zeros, ideals).map(|_| ()).map_err(|m| of_solver(&m))
 }
 
+/// Refusal 10; the expansions that a search may make.
+fn check_limit(limit: Option<u32>) -> Result<u32, Stop> {
+    match limits::expansions(limit) {
+        limit if limit > limits::SEARCH => Err(Stop::Undecided(10)),
+        limit => Ok(limit),
+    }
+}
+
 /// Refusal 9.
 fn check_counts(counts: &[u32]) -> Result<(), Stop> {
     if counts.iter().any(|&count| count > limits::COUNT) {
@@ -85,13 +93,11 @@ fn to_u32(counts: &[usize]) -> Result<Vec<u32>, Stop> {
 }
 
 /// One public round on the counts as they stand.
-pub fn round(records: &[u16], ideals: &[f64], counts: &[u32], limit: u32) -> Result<Round, Stop> {
+pub fn round(records: &[u16], ideals: &[f64], counts: &[u32], limit: Option<u32>) -> Result<Round, Stop> {
     let regions = regions(records)?;
     check_edges(ideals.len())?;
     check_edges(counts.len())?;
-    if limit > limits::SEARCH {
-        return Err(Stop::Undecided(10));
-    }
+    let limit = check_limit(limit)?;
     if counts.len() != ideals.len() {
         return Err(Stop::Undecided(8));
     }
@@ -107,7 +113,7 @@ pub fn round(records: &[u16], ideals: &[f64], counts: &[u32], limit: u32) -> Res
 }
 
 /// A list of rounds on one buffer of counts; a refused round leaves it as it was.
-pub fn rounds(records: &[u16], counts: &[u32], steps: &[(Vec<f64>, u32)]) -> Vec<Step> {
+pub fn rounds(records: &[u16], counts: &[u32], steps: &[(Vec<f64>, Option<u32>)]) -> Vec<Step> {
     let mut counts = counts.to_vec();
     let mut done = Vec::new();
     for (ideals, limit) in steps {
@@ -120,14 +126,17 @@ pub fn rounds(records: &[u16], counts: &[u32], steps: &[(Vec<f64>, u32)]) -> Vec
     done
 }
 
-pub fn solve(records: &[u16], ideals: &[f64]) -> Result<Solved, Stop> {
+/// The Rust's `solve_counts` takes no limit, and does not tell its moves: so its loop is repeated. At the Rust's own limit both must agree.
+pub fn solve(records: &[u16], ideals: &[f64], limit: Option<u32>) -> Result<Solved, Stop> {
     let regions = regions(records)?;
     check_edges(ideals.len())?;
-    let counts = simons_qgp::solve_counts(&regions, ideals).map_err(|m| of_solver(&m))?;
-    let (moves, again) = reach::count_moves(&regions, ideals).map_err(Stop::Broken)?;
-    if again != counts {
-        return Err(Stop::Broken("the counted loop ends in other counts than solve_counts".to_string()));
+    let limit = check_limit(limit)?;
+    let looped = reach::solve(&regions, ideals, limit as usize);
+    if limit as usize == reach::published_limit() && simons_qgp::solve_counts(&regions, ideals) != looped.clone().map(|(_, counts)| counts)
+    {
+        return Err(Stop::Broken("the repeated loop ends otherwise than solve_counts".to_string()));
     }
+    let (moves, counts) = looped.map_err(|m| of_solver(&m))?;
     Ok(Solved { moves, counts: to_u32(&counts)? })
 }
 

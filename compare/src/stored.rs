@@ -33,6 +33,7 @@ pub struct Solve {
     pub records: Vec<u16>,
     pub spacing: Spacing,
     pub before: Vec<u32>,
+    pub limit: Option<u32>,
     pub answer: Result<u32, Refusal>,
     pub after: Vec<u32>,
 }
@@ -48,7 +49,7 @@ pub struct Made {
 #[derive(Clone, Debug)]
 pub struct Step {
     pub spacing: Spacing,
-    pub limit: u32,
+    pub limit: Option<u32>,
     pub answer: Result<Made, Refusal>,
     pub after: Vec<u32>,
 }
@@ -90,6 +91,14 @@ impl From<Vec<f64>> for Spacing {
 impl Spacing {
     pub fn is_within(&self) -> bool {
         matches!(self, Spacing::Within { .. })
+    }
+
+    /// Both ends; an ideal is a range from itself to itself.
+    pub fn ends(&self) -> Ends<'_> {
+        match self {
+            Spacing::Ideals(ideals) => Ends { least: ideals, most: ideals },
+            Spacing::Within { least, most } => Ends { least, most },
+        }
     }
 }
 
@@ -149,19 +158,20 @@ impl Case {
 }
 
 fn solve_effort(case: &Solve, most: usize) -> usize {
+    let limit = limits::expansions(case.limit);
     match (solver::regions(&case.records), &case.spacing) {
-        (Ok(regions), Spacing::Ideals(ideals)) => reach::solve_effort(&regions, ideals, most),
-        (Ok(_), Spacing::Within { least, most: ends }) => solve_within_effort(&case.records, Ends { least, most: ends }, most),
-        (Err(_), _) => 0,
+        (Ok(regions), Spacing::Ideals(ideals)) if limit <= limits::SEARCH => reach::solve_effort(&regions, ideals, limit as usize, most),
+        (Ok(_), Spacing::Within { least, most: ends }) => solve_within_effort(&case.records, Ends { least, most: ends }, case.limit, most),
+        _ => 0,
     }
 }
 
 /// Round after round, as a solve makes them.
-fn solve_within_effort(records: &[u16], ends: Ends, most: usize) -> usize {
+fn solve_within_effort(records: &[u16], ends: Ends, limit: Option<u32>, most: usize) -> usize {
     let mut counts = vec![0; ends.least.len()];
     let mut total = 0;
     while total <= most {
-        match ranges::round(records, ends, &mut counts, limits::SEARCH) {
+        match ranges::round(records, ends, &mut counts, limit) {
             Ok(round) if round.cost.is_some() => total += round.entries,
             Ok(round) => return total + round.entries,
             Err(_) => break,
@@ -173,7 +183,7 @@ fn solve_within_effort(records: &[u16], ends: Ends, most: usize) -> usize {
 fn round_effort(records: &[u16], counts: &[u32], step: &Step, most: usize) -> usize {
     match (solver::regions(records), &step.spacing) {
         (Ok(regions), Spacing::Ideals(ideals)) => {
-            reach::round_effort(&regions, &solver::to_usize(counts), ideals, step.limit as usize, most)
+            reach::round_effort(&regions, &solver::to_usize(counts), ideals, limits::expansions(step.limit) as usize, most)
         }
         (Ok(_), Spacing::Within { least, most }) => {
             ranges::round(records, Ends { least, most }, &mut counts.to_vec(), step.limit).map_or(0, |round| round.entries)
@@ -218,28 +228,29 @@ pub fn settled<T>(answer: Result<T, Stop>, counts: &[u32]) -> Result<Result<T, R
 /// What is answered, and the counts after the call.
 type Told<T> = Result<(Result<T, Refusal>, Vec<u32>), String>;
 
-pub fn solve(records: Vec<u16>, spacing: impl Into<Spacing>, before: Vec<u32>) -> Result<Case, String> {
-    let spacing = spacing.into();
+/// A solve by a limit, or by none that is stated.
+pub fn solve(records: Vec<u16>, spacing: impl Into<Spacing>, before: Vec<u32>, limit: impl Into<Option<u32>>) -> Result<Case, String> {
+    let (spacing, limit) = (spacing.into(), limit.into());
     let (answer, after) = match &spacing {
-        Spacing::Ideals(ideals) => solve_by(&records, ideals, &before)?,
+        Spacing::Ideals(ideals) => solve_by(&records, ideals, &before, limit)?,
         Spacing::Within { least, most } => {
             let mut after = before.clone();
-            let answer = ranges::solve(&records, Ends { least, most }, &mut after);
-            if same_bits(least, most) && (answer, after.clone()) != solve_by(&records, least, &before)? {
+            let answer = ranges::solve(&records, Ends { least, most }, &mut after, limit);
+            if same_bits(least, most) && (answer, after.clone()) != solve_by(&records, least, &before, limit)? {
                 return Err(apart(&spacing));
             }
             (answer, after)
         }
     };
-    Ok(Case::Solve(Solve { records, spacing, before, answer, after }))
+    Ok(Case::Solve(Solve { records, spacing, before, limit, answer, after }))
 }
 
-/// 11 is 01's: it comes behind 1 alone, and the Rust has no lent counts.
-fn solve_by(records: &[u16], ideals: &[f64], before: &[u32]) -> Told<u32> {
-    let answer = solver::solve(records, ideals);
-    let malformed = matches!(answer, Err(Stop::Undecided(1)));
+/// 11 is 01's: it comes behind 1 and 10 alone, and the Rust has no lent counts.
+fn solve_by(records: &[u16], ideals: &[f64], before: &[u32], limit: Option<u32>) -> Told<u32> {
+    let answer = solver::solve(records, ideals, limit);
+    let refused_before = matches!(answer, Err(Stop::Undecided(1 | 10)));
     let mut after = before.to_vec();
-    let answer = if !malformed && before.len() < ideals.len() {
+    let answer = if !refused_before && before.len() < ideals.len() {
         Err(by_01(11, &[]))
     } else {
         settled(answer, &[])?.map(|solved| {
@@ -261,7 +272,7 @@ fn apart(spacing: &Spacing) -> String {
     format!("on equal ends the model and the Rust differ: {spacing:?}")
 }
 
-fn step(records: &[u16], spacing: Spacing, before: &[u32], limit: u32) -> Result<Step, String> {
+fn step(records: &[u16], spacing: Spacing, before: &[u32], limit: Option<u32>) -> Result<Step, String> {
     let (answer, after) = match &spacing {
         Spacing::Ideals(ideals) => round_by(records, ideals, before, limit)?,
         Spacing::Within { least, most } => {
@@ -277,20 +288,21 @@ fn step(records: &[u16], spacing: Spacing, before: &[u32], limit: u32) -> Result
     Ok(Step { spacing, limit, answer, after })
 }
 
-fn round_by(records: &[u16], ideals: &[f64], before: &[u32], limit: u32) -> Told<Made> {
+fn round_by(records: &[u16], ideals: &[f64], before: &[u32], limit: Option<u32>) -> Told<Made> {
     let answer = solver::round(records, ideals, before, limit);
     let after = answer.as_ref().map_or_else(|_| before.to_vec(), |round| round.counts.clone());
     let answer = settled(answer, before)?.map(|round| Made { cost: round.made.map(|(cost, _)| cost), cut: round.cut });
     Ok((answer, after))
 }
 
-pub fn round(records: Vec<u16>, spacing: impl Into<Spacing>, before: Vec<u32>, limit: u32) -> Result<Case, String> {
-    let step = step(&records, spacing.into(), &before, limit)?;
+/// A round by a limit, or by none that is stated.
+pub fn round(records: Vec<u16>, spacing: impl Into<Spacing>, before: Vec<u32>, limit: impl Into<Option<u32>>) -> Result<Case, String> {
+    let step = step(&records, spacing.into(), &before, limit.into())?;
     Ok(Case::Round(Round { records, before, step }))
 }
 
 /// A list of rounds on one buffer of counts; a refused round leaves it as it was.
-pub fn rounds(records: Vec<u16>, before: Vec<u32>, calls: Vec<(Spacing, u32)>) -> Result<Case, String> {
+pub fn rounds(records: Vec<u16>, before: Vec<u32>, calls: Vec<(Spacing, Option<u32>)>) -> Result<Case, String> {
     let mut steps: Vec<Step> = Vec::new();
     for (spacing, limit) in calls {
         let counts = steps.last().map_or(&before, |last| &last.after);
@@ -313,7 +325,7 @@ pub fn hold(records: Vec<u16>, counts: Vec<u32>) -> Result<Case, String> {
 /// The case as the oracle or the model answers it.
 pub fn asked_again(case: &Case) -> Result<Case, String> {
     match case.clone() {
-        Case::Solve(c) => solve(c.records, c.spacing, c.before),
+        Case::Solve(c) => solve(c.records, c.spacing, c.before, c.limit),
         Case::Round(c) => round(c.records, c.step.spacing, c.before, c.step.limit),
         Case::Rounds(c) => rounds(c.records, c.before, c.steps.into_iter().map(|s| (s.spacing, s.limit)).collect()),
         Case::Energy(c) => energy(c.counts, c.ideals),

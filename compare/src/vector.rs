@@ -10,17 +10,20 @@ use crate::refusal::Refusal;
 use crate::stored::{Case, Energy, Hold, Made, Round, Rounds, Solve, Spacing, Step};
 use crate::words;
 
-/// The case of a line; none if its operation is an inner one, or if it waits for a later request.
+/// Inner functions, which are not exported.
+pub const INNER: [&str; 3] = ["edge_delta", "at", "logical_intersection"];
+
+/// The case of a line; none if its operation is an inner one.
 pub fn case(line: &str) -> Result<Option<Case>, String> {
     let vector = parse(line)?;
     let given = vector.field("in")?;
     let out = vector.field("out")?;
     let function = vector.field("fn")?.text()?;
-    if waits(function, given, out)? {
+    if INNER.contains(&function) {
         return Ok(None);
     }
     Ok(Some(match function {
-        "solve" | "solve_range" => Case::Solve(solve(given, out)?),
+        "solve" | "solve_limit" | "solve_range" => Case::Solve(solve(function, given, out)?),
         "round" | "round_range" => {
             Case::Round(Round { records: records(given, "regions")?, before: numbers(given)?, step: step(given, out)? })
         }
@@ -34,27 +37,16 @@ pub fn case(line: &str) -> Result<Option<Case>, String> {
         "lay" => Case::Grid(grid(Source::Lay(region(given)?), given, out)?),
         "mesh_tile_curves" => Case::Tile(tile(Boundary::Curves(four(given, "curves")?), given, out)?),
         "mesh_tile" => Case::Tile(tile(Boundary::Loop(named(given, "loop")?), given, out)?),
-        _ => return Ok(None),
+        other => return Err(format!("`{other}` is no function")),
     }))
 }
 
-/// Whether a case waits for 02's item 5: a round without a limit; a solve by another limit than it has now, unless it is refused for
-/// something else.
-pub fn waits(function: &str, given: &Json, out: &Json) -> Result<bool, String> {
-    let limit = |call: &Json| call.field("limit").cloned();
-    Ok(match function {
-        "round_range" => limit(given)? == Json::Null,
-        "rounds" => given.field("steps")?.list()?.iter().any(|step| limit(step) == Ok(Json::Null)),
-        "solve_range" => limit(given)? != Json::Number(limits::SEARCH.into()) && matches!(whole(out.field("refusal")?)?, 0 | 10),
-        _ => false,
-    })
-}
-
-fn solve(given: &Json, out: &Json) -> Result<Solve, String> {
+fn solve(function: &str, given: &Json, out: &Json) -> Result<Solve, String> {
     Ok(Solve {
         records: records(given, "regions")?,
         spacing: spacing(given)?,
         before: numbers(given)?,
+        limit: limit_of_solve(function, given)?,
         answer: answer(out, |out| whole(out.field("moves")?))?,
         after: numbers(out)?,
     })
@@ -77,7 +69,7 @@ fn step(given: &Json, out: &Json) -> Result<Step, String> {
         };
         Ok(Made { cost, cut: flag(out.field("cut")?)? })
     };
-    Ok(Step { spacing: spacing(given)?, limit: whole(given.field("limit")?)?, answer: answer(out, made)?, after: numbers(out)? })
+    Ok(Step { spacing: spacing(given)?, limit: limit(given)?, answer: answer(out, made)?, after: numbers(out)? })
 }
 
 fn energy(given: &Json, out: &Json) -> Result<Energy, String> {
@@ -150,6 +142,22 @@ fn answer<T>(out: &Json, accepted: impl Fn(&Json) -> Result<T, String>) -> Resul
 pub fn whole(value: &Json) -> Result<u32, String> {
     let number = value.number()?;
     u32::try_from(number).map_err(|_| format!("{number} is not from 0 to {}", u32::MAX))
+}
+
+/// The limit of a call; null where it states none.
+pub fn limit(given: &Json) -> Result<Option<u32>, String> {
+    match given.field("limit")? {
+        Json::Null => Ok(None),
+        limit => whole(limit).map(Some),
+    }
+}
+
+/// The limit of a solve. 01's vectors have none: they were made when a solve had the Rust's limit, which such a caller now states.
+pub fn limit_of_solve(function: &str, given: &Json) -> Result<Option<u32>, String> {
+    match function {
+        "solve" => Ok(Some(limits::SEARCH)),
+        _ => limit(given),
+    }
 }
 
 pub fn flag(value: &Json) -> Result<bool, String> {

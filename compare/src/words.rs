@@ -28,15 +28,23 @@ impl<'a> Words<'a> {
 
     fn whole(&mut self, what: &str, most: u64) -> Result<u64, String> {
         let word = self.word(what)?;
-        let digits = word.bytes().all(|b| b.is_ascii_digit());
-        match word.parse::<u64>() {
-            Ok(number) if digits && number <= most => Ok(number),
-            _ => Err(format!("word {}, {what}: `{word}` is no whole number from 0 to {most}", self.read)),
-        }
+        whole(word, most).ok_or_else(|| format!("word {}, {what}: `{word}` is no whole number from 0 to {most}", self.read))
     }
 
     pub fn number(&mut self, what: &str) -> Result<u32, String> {
         self.whole(what, u32::MAX.into()).map(|n| n as u32)
+    }
+
+    /// A search limit, or `none` where none is stated.
+    pub fn limit(&mut self) -> Result<Option<u32>, String> {
+        let most = u32::MAX.into();
+        match self.word("the limit")? {
+            "none" => Ok(None),
+            word => match whole(word, most) {
+                Some(limit) => Ok(Some(limit as u32)),
+                None => Err(format!("word {}, the limit: `{word}` is neither `none` nor a whole number from 0 to {most}", self.read)),
+            },
+        }
     }
 
     fn place(&mut self, what: &str) -> Result<u16, String> {
@@ -72,6 +80,12 @@ impl<'a> Words<'a> {
     pub fn floats(&mut self, what: &str) -> Result<Vec<f64>, String> {
         self.list(what, Words::float)
     }
+}
+
+/// The whole number of decimal digits, if it is not above `most`.
+fn whole(word: &str, most: u64) -> Option<u64> {
+    let digits = word.bytes().all(|b| b.is_ascii_digit());
+    word.parse().ok().filter(|&number| digits && number <= most)
 }
 
 /// The f64 of 16 hexadecimal digits.

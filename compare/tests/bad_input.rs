@@ -1,6 +1,7 @@
 //! Bad input to the tools: a clear error that names the line, a non-zero exit, no panic.
 
 use compare::limits::SIDE_EDGES;
+use compare::stored::Case;
 use compare::vector;
 use std::io::Write;
 use std::process::{Command, Output, Stdio};
@@ -35,12 +36,55 @@ fn answers_up_to_end() {
 
 #[test]
 fn answers_within_ranges() {
-    let cases = b"round_within 0 1 4000000000000000 1 4014000000000000 1 1 1\nsolve_within 0 1 4000000000000000 1 4014000000000000\n\
-        solve_within 0 1 4014000000000000 1 4000000000000000\nend\n";
+    let cases =
+        b"round_within 0 1 4000000000000000 1 4014000000000000 1 1 1\nsolve_within 0 1 4000000000000000 1 4014000000000000 100000\n\
+        solve_within 0 1 4014000000000000 1 4000000000000000 none\nend\n";
     let output = oracle(cases);
     assert_eq!(output.status.code(), Some(0));
     assert_eq!(output.stdout, b"ok bfd0000000000000 0 2 1 2\nok 2 1 2\nrefused 35 0 0\n");
     complains(&oracle(b"round_within 0 1 4000000000000000\n"), "line 1: the case is cut off: word 5 should be the number of mosts");
+}
+
+/// One answer a line.
+fn answers(cases: &[&str]) -> String {
+    let output = oracle((cases.join("\n") + "\nend\n").as_bytes());
+    assert_eq!(output.status.code(), Some(0), "{}", String::from_utf8_lossy(&output.stderr));
+    String::from_utf8(output.stdout).expect("text")
+}
+
+/// A free edge that wants 1: a limit of 0 turns its search back, and the word `none` does not.
+#[test]
+fn limits() {
+    let free = "0 1 3ff0000000000000";
+    let rounds = [format!("round {free} 1 0 none"), format!("round {free} 1 0 0"), format!("round {free} 1 0 100001")];
+    assert_eq!(answers(&rounds.each_ref().map(String::as_str)), "ok bff0000000000000 0 1 0:+1 1 1\nok none 1 0 - 1 0\nundecided 10\n");
+    let list = answers(&["rounds 0 1 0 3 1 3ff0000000000000 0 1 3ff0000000000000 none 1 3ff0000000000000 4294967295"]);
+    assert_eq!(list, "ok 3 ok none 1 0 - 1 0 ok bff0000000000000 0 1 0:+1 1 1 undecided 10 1 1\n");
+    let limits = ["none", "0", "1", "100000", "100001", "4294967295"];
+    let solves = limits.map(|limit| format!("solve {free} {limit}"));
+    let solved = "ok 1 1 1\nok 0 1 0\nok 1 1 1\nok 1 1 1\nundecided 10\nundecided 10\n";
+    assert_eq!(answers(&solves.each_ref().map(String::as_str)), solved);
+    let solves = limits.map(|limit| format!("solve_within {free} 1 4000000000000000 {limit}"));
+    assert_eq!(answers(&solves.each_ref().map(String::as_str)), solved.replace("undecided 10", "refused 10 0 0"));
+    // Behind 1, before 8, 2 and 35.
+    let order = ["solve 1 0 0 100001", "solve 0 1 0000000000000000 100001", "solve 0 1 0000000000000000 0"];
+    assert_eq!(answers(&order), "undecided 1\nundecided 10\nrefused 2 0 0\n");
+    let order = ["solve_within 1 0 0 0 100001", "solve_within 0 1 0000000000000000 0 100001", "solve_within 0 1 0000000000000000 0 none"];
+    assert_eq!(answers(&order), "refused 1 0 0\nrefused 10 0 0\nrefused 8 0 0\n");
+}
+
+#[test]
+fn bad_limits() {
+    for word in ["never", "None", "-1", "+5", "4294967296", "1e5"] {
+        let wrong = format!("line 1: word 4, the limit: `{word}` is neither `none` nor a whole number from 0 to 4294967295");
+        complains(&oracle(format!("solve 0 0 {word}\nend\n").as_bytes()), &wrong);
+        complains(&oracle(format!("round 0 0 0 {word}\nend\n").as_bytes()), "word 5, the limit");
+        complains(&oracle(format!("rounds 0 0 1 0 {word}\nend\n").as_bytes()), "word 6, the limit");
+        complains(&oracle(format!("round_within 0 0 0 0 {word}\nend\n").as_bytes()), "word 6, the limit");
+        complains(&oracle(format!("solve_within 0 0 0 {word}\nend\n").as_bytes()), "word 5, the limit");
+    }
+    complains(&oracle(b"solve 0 0\nend\n"), "line 1: the case is cut off: word 4 should be the limit");
+    complains(&oracle(b"solve 0 0 none 5\nend\n"), "line 1: word 5 `5` is one too many");
 }
 
 #[test]
@@ -88,6 +132,29 @@ fn places_of_vectors() {
         assert!(matches!(vector::case(&of_places(&places)), Ok(Some(_))), "{places}");
     }
     assert!(vector::case(&of_places("\"places\":\"many\",")).is_err());
+}
+
+/// A vector of a solve of nothing, with these words about its limit.
+fn of_limit(function: &str, limit: &str) -> Result<Option<u32>, String> {
+    let given = format!("\"regions\":[],\"ideals\":[],{limit}\"counts\":[]");
+    let line = format!("{{\"fn\":\"{function}\",\"in\":{{{given}}},\"out\":{{\"refusal\":0,\"moves\":0,\"counts\":[]}}}}");
+    match vector::case(&line)? {
+        Some(Case::Solve(case)) => Ok(case.limit),
+        other => panic!("{other:?}"),
+    }
+}
+
+/// 01's vectors of a solve have no limit and mean the Rust's; those of 02 have one, or null.
+#[test]
+fn limits_of_vectors() {
+    assert_eq!(of_limit("solve", ""), Ok(Some(100_000)));
+    assert_eq!(of_limit("solve_limit", "\"limit\":0,"), Ok(Some(0)));
+    assert_eq!(of_limit("solve_limit", "\"limit\":100001,"), Ok(Some(100_001)));
+    assert_eq!(of_limit("solve_limit", "\"limit\":null,"), Ok(None));
+    assert_eq!(of_limit("solve_limit", ""), Err("no field `limit`".to_string()));
+    assert!(of_limit("solve_limit", "\"limit\":-1,").is_err());
+    assert!(of_limit("solve_limit", "\"limit\":\"many\",").is_err());
+    assert_eq!(of_limit("solve_log", "").map(|_| ()), Err("`solve_log` is no function".to_string()));
 }
 
 #[test]

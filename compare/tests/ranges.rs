@@ -1,11 +1,12 @@
-//! The plain model of rounds and solves within ranges (src/ranges.rs), held against the vectors of 02's item 7, and on equal ends against
-//! the published Rust.
+//! The plain model of rounds and solves within ranges (src/ranges.rs), held against the vectors of 02's items 5 and 7, and on equal ends
+//! against the published Rust.
 
 use compare::dice::Dice;
 use compare::farm::{self, record, Farm};
 use compare::generate::{self, LISTED};
 use compare::generate_wide::{wide_fields, Wide};
 use compare::json::{self, Json};
+use compare::limits::SEARCH;
 use compare::ranges::{self, Ends};
 use compare::refusal::Refusal;
 use compare::{solver, stored, vector, words};
@@ -15,9 +16,6 @@ use compare::{solver, stored, vector, words};
 // ------------------------------------------------------------------------------------------------------------------------------------
 
 const VECTORS: &str = concat!(env!("CARGO_MANIFEST_DIR"), "/../../shared/oracle/vectors02");
-
-/// A call without a limit has this one (02, item 5).
-const UNSTATED: u32 = 10_000;
 
 /// The vectors of a file; none if it is not there, since the vectors are no part of this repository.
 fn vectors(name: &str) -> Vec<Json> {
@@ -47,11 +45,8 @@ fn records(object: &Json) -> Vec<u16> {
     numbers(object, "regions").into_iter().map(|place| place as u16).collect()
 }
 
-fn limit(object: &Json) -> u32 {
-    match field(object, "limit") {
-        Json::Null => UNSTATED,
-        limit => vector::whole(limit).expect("limit"),
-    }
+fn limit(object: &Json) -> Option<u32> {
+    vector::limit(object).expect("limit")
 }
 
 /// The ends of a call; an ideal is a range with equal ends.
@@ -83,7 +78,7 @@ fn check_round(id: &Json, records: &[u16], given: &Json, counts: &mut [u32], out
 
 #[test]
 fn rounds_of_the_vectors() {
-    for vector in vectors("item07-round.jsonl") {
+    for vector in vectors("item05-round.jsonl").into_iter().chain(vectors("item07-round.jsonl")) {
         let given = field(&vector, "in");
         check_round(field(&vector, "id"), &records(given), given, &mut numbers(given, "counts"), field(&vector, "out"));
     }
@@ -104,11 +99,11 @@ fn lists_of_rounds_of_the_vectors() {
 
 #[test]
 fn solves_of_the_vectors() {
-    for vector in vectors("item07-solve.jsonl") {
+    for vector in vectors("item05-solve.jsonl").into_iter().chain(vectors("item07-solve.jsonl")) {
         let (given, out) = (field(&vector, "in"), field(&vector, "out"));
         let (least, most) = ends(given);
         let mut counts = numbers(given, "counts");
-        let answer = ranges::solve_by(&records(given), Ends { least: &least, most: &most }, &mut counts, limit(given));
+        let answer = ranges::solve(&records(given), Ends { least: &least, most: &most }, &mut counts, limit(given));
         assert_eq!(answer.err(), refusal(out), "{vector:?}");
         assert_eq!(counts, numbers(out, "counts"), "{vector:?}");
         if let Ok(moves) = answer {
@@ -122,11 +117,12 @@ fn solves_of_the_vectors() {
 // ------------------------------------------------------------------------------------------------------------------------------------
 
 /// A round by ideals through the Rust, and within equal ends through the model.
-fn same_round(records: &[u16], ideals: &[f64], counts: &[u32], limit: u32) {
+fn same_round(records: &[u16], ideals: &[f64], counts: &[u32], limit: impl Into<Option<u32>>) {
+    let limit = limit.into();
     let rust = stored::settled(solver::round(records, ideals, counts, limit), counts).expect("the oracle");
     let mut after = counts.to_vec();
     let model = ranges::round(records, Ends { least: ideals, most: ideals }, &mut after, limit);
-    let call = || format!("{records:?} {ideals:?} {counts:?} {limit}");
+    let call = || format!("{records:?} {ideals:?} {counts:?} {limit:?}");
     match (rust, model) {
         (Ok(rust), Ok(model)) => {
             assert_eq!(rust.made.map(|(cost, _)| cost.to_bits()), model.cost.map(f64::to_bits), "{}", call());
@@ -140,17 +136,18 @@ fn same_round(records: &[u16], ideals: &[f64], counts: &[u32], limit: u32) {
 }
 
 /// A solve likewise, with more counts lent than there are edges.
-fn same_solve(records: &[u16], ideals: &[f64]) {
-    let rust = stored::settled(solver::solve(records, ideals), &[]).expect("the oracle");
+fn same_solve(records: &[u16], ideals: &[f64], limit: impl Into<Option<u32>>) {
+    let limit = limit.into();
+    let rust = stored::settled(solver::solve(records, ideals, limit), &[]).expect("the oracle");
     let mut after = vec![77; ideals.len() + 2];
-    let model = ranges::solve(records, Ends { least: ideals, most: ideals }, &mut after);
+    let model = ranges::solve(records, Ends { least: ideals, most: ideals }, &mut after, limit);
     let left = match (&rust, rust.as_ref().err().map(|refusal| refusal.number)) {
         (Ok(solved), _) => solved.counts.clone(),
         (_, Some(7)) => vec![0; ideals.len()],
         _ => vec![77; ideals.len()],
     };
-    assert_eq!(rust.map(|solved| solved.moves), model, "{records:?} {ideals:?}");
-    assert_eq!(after, [left, vec![77; 2]].concat(), "{records:?} {ideals:?}");
+    assert_eq!(rust.map(|solved| solved.moves), model, "{records:?} {ideals:?} {limit:?}");
+    assert_eq!(after, [left, vec![77; 2]].concat(), "{records:?} {ideals:?} {limit:?}");
 }
 
 fn chosen(dice: &mut Dice, edges: usize) -> Vec<f64> {
@@ -184,9 +181,26 @@ fn rounds_with_equal_ends() {
         if dice.below(30) == 0 {
             counts[0] = dice.pick(&[999_999, 1_000_000, 1_000_001]);
         }
-        same_round(&farm.regions, &ideals, &counts, dice.pick(&[0, 1, 2, 3, 5, 8, 13, 40, 1000, 100_000, 100_001]));
+        same_round(&farm.regions, &ideals, &counts, dice.pick(&LIMITS));
     }
 }
+
+/// None, and limits that cut most searches, some, and hardly any.
+const LIMITS: [Option<u32>; 13] = [
+    None,
+    Some(0),
+    Some(1),
+    Some(2),
+    Some(3),
+    Some(5),
+    Some(8),
+    Some(13),
+    Some(40),
+    Some(1000),
+    Some(10_000),
+    Some(100_000),
+    Some(100_001),
+];
 
 #[test]
 fn solves_with_equal_ends() {
@@ -194,10 +208,25 @@ fn solves_with_equal_ends() {
     for _ in 0..1500 {
         let farm = any_farm(&mut dice);
         let ideals = chosen(&mut dice, farm.edges);
-        same_solve(&farm.regions, &ideals);
+        same_solve(&farm.regions, &ideals, SEARCH);
+        same_solve(&farm.regions, &ideals, dice.pick(&LIMITS));
     }
-    same_solve(&[], &[200_000.0]);
-    same_solve(&[], &[200_001.0]);
+    for limit in [None, Some(1), Some(SEARCH)] {
+        same_solve(&[], &[200_000.0], limit);
+        same_solve(&[], &[200_001.0], limit);
+    }
+}
+
+/// Solves by every limit up to what their searches need.
+#[test]
+fn solves_by_limits_with_equal_ends() {
+    let mut dice = Dice(0x5EED_0104);
+    for (rows, columns) in [(1, 3), (2, 2), (2, 3), (3, 2), (3, 3)] {
+        let farm = farm::cut_rows(rows, columns, || dice.below(2) == 0);
+        let ideals = dice.ideals(farm.edges);
+        (0..60).for_each(|limit| same_solve(&farm.regions, &ideals, limit));
+        same_solve(&farm.regions, &ideals, None);
+    }
 }
 
 #[test]
@@ -205,12 +234,12 @@ fn sizes_with_equal_ends() {
     for regions in [127, 128, 129] {
         let row: Vec<u16> = (0..regions).flat_map(|edge| record([&[], &[edge + 1], &[], &[edge]])).collect();
         let ideals = vec![1.5; usize::from(regions) + 1];
-        same_solve(&row, &ideals);
+        same_solve(&row, &ideals, SEARCH);
         same_round(&row, &ideals, &vec![2; ideals.len()], 100);
         same_round(&row[1..], &ideals, &vec![2; ideals.len()], 100);
     }
     for edges in [0, 1, 255, 256, 257] {
-        same_solve(&[], &vec![1.5; edges]);
+        same_solve(&[], &vec![1.5; edges], None);
         same_round(&[], &vec![1.5; edges], &vec![3; edges], 1);
         same_round(&[], &[1.5], &vec![3; edges], 1);
     }
@@ -223,10 +252,12 @@ fn wide_sides_with_equal_ends() {
         for limit in limits {
             same_round(&farm.regions, &dice.ideals(farm.edges), &dice.counts(farm.edges, 4), limit);
         }
-        ideals.into_iter().for_each(|ideals| same_solve(&farm.regions, &ideals));
+        for limit in [None, Some(40), Some(SEARCH)] {
+            ideals.iter().for_each(|ideals| same_solve(&farm.regions, ideals, limit));
+        }
     }
     for records in generate::list_lengths() {
-        same_solve(&records, &[0.75; LISTED]);
+        same_solve(&records, &[0.75; LISTED], SEARCH);
         same_round(&records, &[0.75; LISTED], &[2; LISTED], 100);
     }
 }
@@ -240,7 +271,7 @@ fn wide_sides_with_equal_ends() {
 fn in_words() {
     let made = |least: f64, most: f64, count: u32| {
         let mut counts = [count];
-        let round = ranges::round(&[], Ends { least: &[least], most: &[most] }, &mut counts, 1).expect("accepted");
+        let round = ranges::round(&[], Ends { least: &[least], most: &[most] }, &mut counts, None).expect("accepted");
         (counts[0], round.cost)
     };
     // Within its range an edge costs nothing, so nothing is gained there.
@@ -254,14 +285,14 @@ fn in_words() {
     assert_eq!(made(2.2, 2.8, 2), (3, Some(above * above - below * below)));
     // A free edge stops at the first count that costs nothing.
     let mut counts = [9];
-    assert_eq!(ranges::solve(&[], Ends { least: &[2.0], most: &[5.0] }, &mut counts), Ok(2));
+    assert_eq!(ranges::solve(&[], Ends { least: &[2.0], most: &[5.0] }, &mut counts, None), Ok(2));
     assert_eq!(counts, [2]);
 }
 
 /// The counts that a round leaves.
 fn left(records: &[u16], least: &[f64], most: &[f64], counts: &[u32], limit: u32) -> Vec<u32> {
     let mut counts = counts.to_vec();
-    ranges::round(records, Ends { least, most }, &mut counts, limit).expect("accepted");
+    ranges::round(records, Ends { least, most }, &mut counts, Some(limit)).expect("accepted");
     counts
 }
 

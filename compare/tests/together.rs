@@ -1,12 +1,11 @@
 //! The tools that link this library: differences are found, and bad input gets a clear error and a non-zero exit.
 #![cfg(feature = "library")]
 
-use compare::former;
-use compare::generate_ranges;
 use compare::limits::{RECORD, SIDE_EDGES};
 use compare::stored::Case;
-use compare::together::call::{difference, Call, Step};
-use compare::together::expected;
+use compare::together::call::{difference, Call, Spacing, Step};
+use compare::together::{expected, line};
+use compare::{former, generate_limits, generate_ranges};
 use std::process::{Command, Output};
 
 fn replay(arguments: &[&str]) -> Output {
@@ -112,8 +111,10 @@ fn bad_numbers() {
     complains(&scale(&["seed", "5"]), "`seed` is no whole number");
     let growth = |folder: &str| Command::new(env!("CARGO_BIN_EXE_growth")).arg(folder).output().expect("growth starts");
     complains(&growth("tests/no-such-folder"), "tests/no-such-folder: this is no folder");
-    let speed = |path: &str| Command::new(env!("CARGO_BIN_EXE_speed")).arg(path).output().expect("speed starts");
-    complains(&speed("tests/no-such-file"), "tests/no-such-file");
+    let speed = |words: &[&str]| Command::new(env!("CARGO_BIN_EXE_speed")).args(words).output().expect("speed starts");
+    complains(&speed(&["tests/no-such-file"]), "tests/no-such-file");
+    complains(&speed(&["all", "limits", "tests/no-such-file"]), "tests/no-such-file");
+    complains(&speed(&["limits", "all", "all"]), "usage: speed [all] [limits] [FARMS]");
 }
 
 #[test]
@@ -136,20 +137,40 @@ fn bad_farms() {
     }
 }
 
-/// The generated cases within ranges, which `scale` does not make.
+/// A call with a limit or without one is read as it is written.
 #[test]
-fn generated_ranges() {
-    for case in generate_ranges::all().expect("the model answers") {
+fn written_limits() {
+    for limit in [None, Some(0), Some(100_001)] {
+        let steps = vec![Step::new(vec![1.0], limit), Step::new(Spacing::Within { least: vec![1.0], most: vec![2.0] }, limit)];
+        let mut calls = vec![Call::Rounds { regions: vec![], counts: vec![0], steps: steps.clone() }];
+        for step in steps {
+            calls.push(Call::Solve { regions: vec![], spacing: step.spacing.clone(), counts: vec![7], limit });
+            calls.push(Call::Round { regions: vec![], counts: vec![0], step });
+        }
+        for call in calls {
+            let effects = expected::effects(&call).expect("the oracle and the model answer");
+            let (again, came) = line::read(&line::write("a", &call, &effects)).expect("a line").case.expect("no inner function");
+            assert_eq!(again, call);
+            assert_eq!(difference(&effects, &came), None, "{call:?}");
+        }
+    }
+}
+
+/// The generated cases of ranges and of limits, which `scale` does not make.
+#[test]
+fn generated() {
+    let cases = [generate_ranges::all(), generate_limits::all()];
+    for case in cases.into_iter().flat_map(|cases| cases.expect("the oracle and the model answer")) {
         let call = match case {
-            Case::Solve(c) => Call::Solve { regions: c.records, spacing: c.spacing, counts: c.before },
+            Case::Solve(c) => Call::Solve { regions: c.records, spacing: c.spacing, counts: c.before, limit: c.limit },
             Case::Round(c) => Call::Round { regions: c.records, counts: c.before, step: Step::new(c.step.spacing, c.step.limit) },
             Case::Rounds(c) => {
                 let steps = c.steps.into_iter().map(|step| Step::new(step.spacing, step.limit)).collect();
                 Call::Rounds { regions: c.records, counts: c.before, steps }
             }
-            other => panic!("{} has no ranges", other.operation()),
+            other => panic!("{} has no limit", other.operation()),
         };
-        let effects = expected::effects(&call).expect("the model answers");
+        let effects = expected::effects(&call).expect("the oracle and the model answer");
         assert_eq!(difference(&effects, &call.made()), None, "{call:?}");
     }
 }

@@ -1,8 +1,7 @@
 //! replay FILES..: runs the vectors of the files through this library's exported functions; prints each that differs. Exit status 0 only
 //! if none does.
 
-use compare::together::line::{self, Passed};
-use compare::together::{call, check_version};
+use compare::together::{call, check_version, line};
 use compare::tool::ended;
 use std::process::ExitCode;
 use std::{env, fs};
@@ -30,13 +29,12 @@ fn replay(path: &str) -> Result<usize, String> {
     if !text.ends_with('\n') {
         return Err(format!("{path}: cut off: the last line has no end"));
     }
-    let (mut same, mut inner, mut later, mut different) = (0, 0, 0, 0);
+    let (mut same, mut inner, mut different) = (0, 0, 0);
     for (number, text) in (1..).zip(text.lines()) {
         let line = line::read(text).map_err(|problem| format!("{path}, line {number}: {problem}"))?;
         match line.case {
-            Err(Passed::Inner) => inner += 1,
-            Err(Passed::Later) => later += 1,
-            Ok((call, expected)) => match call::difference(&expected, &call.made()) {
+            None => inner += 1,
+            Some((call, expected)) => match call::difference(&expected, &call.made()) {
                 None => same += 1,
                 Some(what) => {
                     println!("{path}, line {number}, {} ({}): {what}", line.id, line.function);
@@ -45,7 +43,6 @@ fn replay(path: &str) -> Result<usize, String> {
             },
         }
     }
-    print!("{path}: {same} as expected, {different} different, {inner} of inner functions, which are not exported");
-    println!("{}", if later == 0 { String::new() } else { format!(", {later} that wait for a later request") });
+    println!("{path}: {same} as expected, {different} different, {inner} of inner functions, which are not exported");
     Ok(different)
 }

@@ -5,7 +5,7 @@
 
 use compare::stored::{self, Case};
 use compare::tool::ended;
-use compare::{generate, generate_geometry, generate_ranges, pack, vector};
+use compare::{generate, generate_geometry, generate_limits, generate_ranges, pack, vector};
 use std::collections::HashSet;
 use std::process::ExitCode;
 use std::{env, fs};
@@ -26,6 +26,7 @@ fn run() -> Result<(), String> {
     }
     cases.extend(affordable("the solver", generate::all()?));
     cases.extend(affordable("ranges", generate_ranges::all()?));
+    cases.extend(affordable("limits", generate_limits::all()?));
     let generated = generate_geometry::all()?;
     println!("generated: {} of geometry", generated.len());
     cases.extend(generated);
@@ -72,7 +73,7 @@ fn vectors(path: &str) -> Result<Vec<Case>, String> {
     let found = cases.len();
     cases.retain(|(_, case)| case.effort(EFFORT) <= EFFORT);
     let passed_over = text.lines().count() - found;
-    println!("{path}: {found} vectors, {} left out as too slow; {passed_over} of inner functions or later requests", found - cases.len());
+    println!("{path}: {found} vectors, {} left out as too slow; {passed_over} of inner functions", found - cases.len());
     for (number, case) in &cases {
         confirm(case).map_err(|problem| format!("{path}, line {number}: {problem}"))?;
     }

@@ -21,11 +21,17 @@ extern "C" {
 const MODE: c_int = 2;
 
 type VersionFn = unsafe extern "C" fn() -> u32;
-type RoundFn = unsafe extern "C" fn(*const u16, usize, *const f64, usize, *mut u32, usize, u32, *mut [u32; 4], *mut [f64; 1]) -> u32;
-type SolveFn = unsafe extern "C" fn(*const u16, usize, *const f64, usize, *mut u32, usize, *mut [u32; 3]) -> u32;
+type RoundFn = unsafe extern "C" fn(*const u16, usize, *const f64, usize, *mut u32, usize, bool, u32, *mut [u32; 4], *mut [f64; 1]) -> u32;
+type SolveFn = unsafe extern "C" fn(*const u16, usize, *const f64, usize, *mut u32, usize, bool, u32, *mut [u32; 3]) -> u32;
+type FormerRoundFn = unsafe extern "C" fn(*const u16, usize, *const f64, usize, *mut u32, usize, u32, *mut [u32; 4], *mut [f64; 1]) -> u32;
+type FormerSolveFn = unsafe extern "C" fn(*const u16, usize, *const f64, usize, *mut u32, usize, *mut [u32; 3]) -> u32;
 
 /// From this version on, 0.3.0, a side of a record has as many places as here; before it had 16.
 const MORE_PLACES: u32 = 300;
+
+/// From this version on, 0.4.0, rounds and solves take a limit that may be left out; before, a round's was always stated, and a solve
+/// searched with 100,000.
+const LIMIT_MAY_BE_STATED: u32 = 400;
 
 /// Ratios near 1 are looked at, so there are more turns than where both are far apart.
 const EFFORT: Effort = Effort { turn: 0.02, seconds: 2.0, turns: 5 };
@@ -34,26 +40,39 @@ const EFFORT: Effort = Effort { turn: 0.02, seconds: 2.0, turns: 5 };
 pub struct Build {
     name: String,
     version: u32,
-    round: RoundFn,
-    solve_counts: SolveFn,
+    functions: Functions,
+}
+
+/// The functions of a build, by the types of its version.
+enum Functions {
+    Former { round: FormerRoundFn, solve_counts: FormerSolveFn },
+    Now { round: RoundFn, solve_counts: SolveFn },
 }
 
 impl Build {
     /// # Safety
-    /// The file is a build of this library: its functions take and do what rust/src/archive.rs says, in the record of their version.
+    /// The file is a build of this library: its functions take and do what rust/src/archive.rs says, in the record and with the limits of
+    /// their version.
     pub unsafe fn load(name: &str) -> Result<Build, String> {
-        // SAFETY: by this function's condition; the object is never closed, and what has these names are functions of these types.
-        let (version, round, solve_counts) = unsafe {
+        // SAFETY: by this function's condition; the object is never closed, and what has these names are functions of these types, the
+        // last two by the version. The first one takes nothing.
+        unsafe {
             let object = open(name)?;
-            (
-                transmute::<*mut c_void, VersionFn>(found(object, name, c"juplatsk_version")?),
-                transmute::<*mut c_void, RoundFn>(found(object, name, c"juplatsk_round")?),
-                transmute::<*mut c_void, SolveFn>(found(object, name, c"juplatsk_solve_counts")?),
-            )
-        };
-        // SAFETY: it takes nothing.
-        let version = unsafe { version() };
-        Ok(Build { name: name.to_string(), version, round, solve_counts })
+            let version = transmute::<*mut c_void, VersionFn>(found(object, name, c"juplatsk_version")?)();
+            let (round, solve_counts) = (found(object, name, c"juplatsk_round")?, found(object, name, c"juplatsk_solve_counts")?);
+            let functions = if version < LIMIT_MAY_BE_STATED {
+                Functions::Former {
+                    round: transmute::<*mut c_void, FormerRoundFn>(round),
+                    solve_counts: transmute::<*mut c_void, FormerSolveFn>(solve_counts),
+                }
+            } else {
+                Functions::Now {
+                    round: transmute::<*mut c_void, RoundFn>(round),
+                    solve_counts: transmute::<*mut c_void, SolveFn>(solve_counts),
+                }
+            };
+            Ok(Build { name: name.to_string(), version, functions })
+        }
     }
 
     fn places(&self) -> usize {
@@ -77,21 +96,35 @@ impl Build {
         Some(records)
     }
 
+    /// A round with limit 100,000.
     fn round(&self, farm: &Farm, records: &[u16]) -> Result<Made, String> {
-        let ideals = &farm.ideals;
+        let (regions, many) = (records.as_ptr(), records.len());
+        let (ideals, edges) = (farm.ideals.as_ptr(), farm.ideals.len());
         made(farm, |counts, answer, cost| {
             let (lent, length) = (counts.as_mut_ptr(), counts.len());
             // SAFETY: each pointer is that of a slice or array, with its length, and what is written is lent by `&mut` alone.
-            unsafe { (self.round)(records.as_ptr(), records.len(), ideals.as_ptr(), ideals.len(), lent, length, SEARCH, answer, cost) }
+            unsafe {
+                match self.functions {
+                    Functions::Former { round, .. } => round(regions, many, ideals, edges, lent, length, SEARCH, answer, cost),
+                    Functions::Now { round, .. } => round(regions, many, ideals, edges, lent, length, true, SEARCH, answer, cost),
+                }
+            }
         })
     }
 
+    /// A solve by that limit, which the former ones had without saying it.
     fn solve(&self, farm: &Farm, records: &[u16]) -> Solved {
-        let ideals = &farm.ideals;
+        let (regions, many) = (records.as_ptr(), records.len());
+        let (ideals, edges) = (farm.ideals.as_ptr(), farm.ideals.len());
         solve(farm, |counts, answer| {
             let (lent, length) = (counts.as_mut_ptr(), counts.len());
             // SAFETY: as for a round.
-            unsafe { (self.solve_counts)(records.as_ptr(), records.len(), ideals.as_ptr(), ideals.len(), lent, length, answer) }
+            unsafe {
+                match self.functions {
+                    Functions::Former { solve_counts, .. } => solve_counts(regions, many, ideals, edges, lent, length, answer),
+                    Functions::Now { solve_counts, .. } => solve_counts(regions, many, ideals, edges, lent, length, true, SEARCH, answer),
+                }
+            }
         })
     }
 
@@ -157,7 +190,7 @@ pub fn tables(old: &Build, new: &Build, farms: &[Farm]) -> Result<(), String> {
     let short = both.iter().filter(|row| row.farm.entries <= LARGEST);
     println!("\nOne round with limit {SEARCH}, on counts from the middle of the farm's solve.\n");
     let rounds = table(both.iter(), |row| race(EFFORT, || old.round(row.farm, &row.old), || new.round(row.farm, &row.new), same))?;
-    println!("\nA whole solve, of those with at most {LARGEST} entries.\n");
+    println!("\nA whole solve with limit {SEARCH}, of those with at most {LARGEST} entries.\n");
     let solves = table(short.chain(&rows(old, new, [&free])), |row| {
         race(EFFORT, || old.solve(row.farm, &row.old), || new.solve(row.farm, &row.new), same)
     })?;

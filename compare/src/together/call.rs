@@ -22,6 +22,7 @@ pub enum Call {
         regions: Vec<u16>,
         spacing: Spacing,
         counts: Vec<u32>,
+        limit: Option<u32>,
     },
     /// One public round.
     Round {
@@ -86,12 +87,12 @@ pub enum Call {
 #[derive(Clone, Debug, PartialEq)]
 pub struct Step {
     pub spacing: Spacing,
-    pub limit: u32,
+    pub limit: Option<u32>,
 }
 
 impl Step {
-    pub fn new(spacing: impl Into<Spacing>, limit: u32) -> Step {
-        Step { spacing: spacing.into(), limit }
+    pub fn new(spacing: impl Into<Spacing>, limit: impl Into<Option<u32>>) -> Step {
+        Step { spacing: spacing.into(), limit: limit.into() }
     }
 }
 
@@ -117,7 +118,7 @@ impl Call {
     pub fn function(&self) -> &'static str {
         match self {
             Call::Solve { spacing: Spacing::Within { .. }, .. } => "solve_range",
-            Call::Solve { .. } => "solve",
+            Call::Solve { .. } => "solve_limit",
             Call::Round { step: Step { spacing: Spacing::Within { .. }, .. }, .. } => "round_range",
             Call::Round { .. } => "round",
             Call::Rounds { .. } => "rounds",
@@ -144,12 +145,13 @@ impl Call {
 
     fn made_once(&self) -> Effect {
         match self {
-            Call::Solve { regions, spacing, counts } => {
+            Call::Solve { regions, spacing, counts, limit } => {
                 let mut lent = Lent::new(counts);
                 let mut answer = [LENT_NUMBER; 3];
+                let counts = lent.buffer();
                 let refusal = match spacing {
-                    Spacing::Ideals(ideals) => library::solve_counts(regions, ideals, lent.buffer(), &mut answer),
-                    Spacing::Within { least, most } => library::solve_counts_within(regions, [least, most], lent.buffer(), &mut answer),
+                    Spacing::Ideals(ideals) => library::solve_counts(regions, ideals, counts, *limit, &mut answer),
+                    Spacing::Within { least, most } => library::solve_counts_within(regions, [least, most], counts, *limit, &mut answer),
                 };
                 Effect { numbers: lent.after(), ..told(refusal, answer) }
             }

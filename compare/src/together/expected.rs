@@ -1,6 +1,6 @@
-//! The effect that a call must have, by the stored case of the same input: its answer is the oracle's, and that of 01's table where the Rust
-//! does not decide (the limits, 1, 8, 9, 10, 11, 27, 28, lay, lent buffers). Within ranges it is the model's, and also the oracle's where
-//! the ends are equal.
+//! The effect that a call must have, by the stored case of the same input: its answer is the oracle's, and that of 01's table where the
+//! Rust does not decide (the limits, 1, 8, 9, 10, 11, 27, 28, lay, lent buffers). Within ranges it is the model's, and also the oracle's
+//! where the ends are equal.
 
 use super::call::{Call, Effect, LENT_FLOAT, LENT_NUMBER};
 use crate::geometry::Seams;
@@ -29,7 +29,7 @@ pub fn effects(call: &Call) -> Result<Vec<Effect>, String> {
 fn case(call: Call) -> Result<Case, String> {
     let even = |boundary: Boundary, [n_u, n_v]: [u32; 2], out: usize| grids::grid(Source::Even(boundary, n_u, n_v), out);
     match call {
-        Call::Solve { regions, spacing, counts } => stored::solve(regions, spacing, counts),
+        Call::Solve { regions, spacing, counts, limit } => stored::solve(regions, spacing, counts, limit),
         Call::Round { regions, counts, step } => stored::round(regions, step.spacing, counts, step.limit),
         Call::Rounds { regions, counts, steps } => {
             stored::rounds(regions, counts, steps.into_iter().map(|step| (step.spacing, step.limit)).collect())

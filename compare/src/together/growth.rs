@@ -25,11 +25,12 @@ fn ideals(edges: usize, ideal: f64) -> Vec<f64> {
 fn solve(name: &str, farm: Farm, ideal: f64) -> Result<Option<(u32, Pair)>, String> {
     let ideals = ideals(farm.edges, ideal);
     let regions = solver::regions(&farm.regions).map_err(|stop| stop.to_string())?;
-    let entries = reach::solve_effort(&regions, &ideals, MOST);
+    let limit = reach::published_limit();
+    let entries = reach::solve_effort(&regions, &ideals, limit, MOST);
     if entries > MOST {
         return Ok(None);
     }
-    let (moves, _) = reach::count_moves(&regions, &ideals)?;
+    let (moves, _) = reach::solve(&regions, &ideals, limit)?;
     let timed = farms::Farm {
         name: name.to_string(),
         records: farm.regions,

@@ -2,24 +2,14 @@
 
 use super::call::{Call, Effect, Sides, Spacing, Step, LENT_FLOAT, LENT_NUMBER};
 use crate::json::{parse, Json};
-use crate::limits;
-use crate::vector::{flag, float, records, spacing, waits, whole};
+use crate::vector::{flag, float, limit, limit_of_solve, records, spacing, whole, INNER};
 
-/// A line: its name, and the call with its effects, or why it is passed over.
+/// A line: its name, and the call with its effects; none of an inner function, which is not exported.
 pub struct Line {
     pub id: String,
     pub function: String,
-    pub case: Result<(Call, Vec<Effect>), Passed>,
+    pub case: Option<(Call, Vec<Effect>)>,
 }
-
-pub enum Passed {
-    /// An inner function is not exported.
-    Inner,
-    /// The case waits for a later request.
-    Later,
-}
-
-const INNER: [&str; 3] = ["edge_delta", "at", "logical_intersection"];
 
 /// Longer output would exhaust the memory before the call is made.
 const LONGEST: u32 = 50_000_000;
@@ -32,21 +22,17 @@ pub fn read(text: &str) -> Result<Line, String> {
         other => other.number()?.to_string(),
     };
     let (given, out) = (line.field("in")?, line.field("out")?);
-    let case = if INNER.contains(&function.as_str()) {
-        Err(Passed::Inner)
-    } else if waits(&function, given, out)? {
-        Err(Passed::Later)
-    } else {
-        Ok(case(&function, given, out)?)
-    };
+    let inner = INNER.contains(&function.as_str());
+    let case = if inner { None } else { Some(case(&function, given, out)?) };
     Ok(Line { id, function, case })
 }
 
 fn case(function: &str, given: &Json, out: &Json) -> Result<(Call, Vec<Effect>), String> {
     let one = |call: Call, effect: Effect| Ok((call, vec![effect]));
     match function {
-        "solve" | "solve_range" => {
-            let call = Call::Solve { regions: records(given, "regions")?, spacing: spacing(given)?, counts: numbers(given, "counts")? };
+        "solve" | "solve_limit" | "solve_range" => {
+            let (regions, counts) = (records(given, "regions")?, numbers(given, "counts")?);
+            let call = Call::Solve { regions, spacing: spacing(given)?, counts, limit: limit_of_solve(function, given)? };
             one(call, Effect { numbers: numbers(out, "counts")?, ..answer(out, "moves")? })
         }
         "round" | "round_range" => {
@@ -127,7 +113,7 @@ fn length(given: &Json, name: &str) -> Result<usize, String> {
 }
 
 fn step(given: &Json) -> Result<Step, String> {
-    Ok(Step { spacing: spacing(given)?, limit: whole(given.field("limit")?)? })
+    Ok(Step { spacing: spacing(given)?, limit: limit(given)? })
 }
 
 /// Refusal and places, and the number that the field has where the call is accepted.
@@ -243,17 +229,15 @@ fn in_text(call: &Call) -> String {
         Spacing::Ideals(list) => ideals(list),
         Spacing::Within { least, most } => format!("\"least\":{},\"most\":{}", floats_text(least), floats_text(most)),
     };
-    let step = |step: &Step| format!("{},\"limit\":{}", wanted(&step.spacing), step.limit);
+    let limited = |limit: Option<u32>| format!("\"limit\":{}", limit.map_or("null".to_string(), |limit| limit.to_string()));
+    let step = |step: &Step| format!("{},{}", wanted(&step.spacing), limited(step.limit));
     let curves = |curves: &Sides| format!("\"curves\":{}", sides_text(curves));
     let closed = |boundary: &[f64]| format!("\"loop\":{}", floats_text(boundary));
     let size = |cells: &[u32; 2]| format!("\"n_u\":{},\"n_v\":{}", cells[0], cells[1]);
     let lent = |out: &usize| format!("\"out_len\":{out}");
     let lent_mesh = |points: &usize, indices: &usize| format!("\"points_len\":{points},\"cells_len\":{indices}");
     let parts = match call {
-        Call::Solve { regions: r, spacing: s, counts: c } if s.is_within() => {
-            vec![regions(r), wanted(s), format!("\"limit\":{}", limits::SEARCH), counts(c)]
-        }
-        Call::Solve { regions: r, spacing: s, counts: c } => vec![regions(r), wanted(s), counts(c)],
+        Call::Solve { regions: r, spacing: s, counts: c, limit } => vec![regions(r), wanted(s), limited(*limit), counts(c)],
         Call::Round { regions: r, counts: c, step: s } => vec![regions(r), counts(c), step(s)],
         Call::Rounds { regions: r, counts: c, steps } => {
             vec![regions(r), counts(c), format!("\"steps\":{}", items(steps, |s| format!("{{{}}}", step(s))))]

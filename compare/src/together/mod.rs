@@ -4,7 +4,8 @@
 //! - `call`: a call with all that it is lent, and its effect.
 //! - `line`: a call and its effect as a line of the vectors' format.
 //! - `expected`: the effect that the oracle and 01 give.
-//! - `clock`, `farms`, `speed`, `growth`, `plot`: both timed in turn; `speed_ranges`: within ranges beside by ideals, and beside the model.
+//! - `clock`, `farms`, `speed`, `growth`, `plot`: both timed in turn; `speed_ranges`: within ranges beside by ideals, and beside the model;
+//!   `speed_limits`: solves without a limit.
 //! - `beside`: two builds of this library, timed in turn.
 //! - `scale`: both on many calls; `random`: numbers from a seed.
 
@@ -21,6 +22,7 @@ pub mod plot;
 pub mod random;
 pub mod scale;
 pub mod speed;
+pub mod speed_limits;
 pub mod speed_ranges;
 
 /// These tools call the archive past the package, so they look themselves whether it is of the package's version.

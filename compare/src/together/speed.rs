@@ -85,7 +85,7 @@ fn asked(name: String, records: Vec<u16>, ideals: Vec<f64>) -> Result<Farm, Stri
     let mut way = vec![vec![0; ideals.len()]];
     let (mut cut, mut entries) = (false, 0);
     loop {
-        let round = solver::round(&records, &ideals, &way[way.len() - 1], SEARCH).map_err(|stop| format!("{name}: {stop}"))?;
+        let round = solver::round(&records, &ideals, &way[way.len() - 1], Some(SEARCH)).map_err(|stop| format!("{name}: {stop}"))?;
         cut |= round.cut;
         entries += round.expansions as u64;
         if round.made.is_none() {
@@ -135,7 +135,7 @@ fn search(farm: &Farm) -> Result<(Pair, usize, bool), String> {
         let cost = reach::published_round(&regions, &mut counts, &farm.ideals);
         (counts, cost)
     };
-    let here = || round(farm, limit as u32);
+    let here = || round(farm, Some(SEARCH));
     let same = |a: &(Vec<usize>, Result<Option<f64>, String>), b: &Result<Made, String>| {
         let (cost, made) = (a.1.as_ref().map_err(String::clone)?, b.as_ref().map_err(String::clone)?);
         let counts = a.0.iter().map(|&count| count as u32);
@@ -149,7 +149,7 @@ fn search(farm: &Farm) -> Result<(Pair, usize, bool), String> {
     Ok((pair, entries, here()?.cut))
 }
 
-pub fn round(farm: &Farm, limit: u32) -> Result<Made, String> {
+pub fn round(farm: &Farm, limit: Option<u32>) -> Result<Made, String> {
     made(farm, |counts, answer, cost| library::round(&farm.records, &farm.ideals, counts, limit, answer, cost))
 }
 
@@ -165,7 +165,7 @@ pub fn made(farm: &Farm, round: impl FnOnce(&mut [u32], &mut [u32; 4], &mut [f64
 
 /// Whole solves; the largest only where `all` is wished.
 pub fn solves(farms: &[Farm], all: bool) -> Result<(), String> {
-    println!("\nA whole solve.\n");
+    println!("\nA whole solve with limit 100,000.\n");
     println!("| farm | moves | entries of the Rust | cut | Rust | here | ratio |");
     println!("|---|---|---|---|---|---|---|");
     for farm in farms.iter().chain([&free_edges()]) {
@@ -183,7 +183,7 @@ pub fn solves(farms: &[Farm], all: bool) -> Result<(), String> {
 pub fn free_edges() -> Farm {
     let (edges, ideal) = (256u32, 100u32);
     let ideals = vec![f64::from(ideal); edges as usize];
-    let entries = reach::solve_effort(&[], &ideals, usize::MAX - 1) as u64;
+    let entries = reach::solve_effort(&[], &ideals, reach::published_limit(), usize::MAX - 1) as u64;
     let name = format!("{edges} free edges, ideal {ideal}");
     Farm { name, records: Vec::new(), ideals, moves: edges * ideal, cut: false, entries, underway: Vec::new() }
 }
@@ -199,7 +199,7 @@ pub fn solve(farm: &Farm) -> Result<Pair, String> {
     let here = || {
         let mut counts = vec![0; farm.ideals.len()];
         let mut answer = [0; 3];
-        let refusal = library::solve_counts(&farm.records, &farm.ideals, &mut counts, &mut answer);
+        let refusal = library::solve_counts(&farm.records, &farm.ideals, &mut counts, Some(SEARCH), &mut answer);
         (refusal, answer[2], counts)
     };
     race(effort, rust, here, |a, (refusal, moves, counts)| {

@@ -8,6 +8,9 @@ use super::speed::{free_edges, made, round, times, Made, LARGEST, LONG, ONCE, SH
 use crate::limits::SEARCH;
 use crate::ranges;
 
+/// All calls here state the Rust's limit.
+const LIMIT: Option<u32> = Some(SEARCH);
+
 /// Solves of more entries than this are not put to the model.
 const OF_MODEL: u64 = 10_000_000;
 
@@ -43,7 +46,8 @@ pub fn same<T: PartialEq>(one: &Result<T, String>, other: &Result<T, String>) ->
 const HEAD: &str = "by ideals | equal ends | ratio | plain model | within ranges | ratio |";
 
 pub fn searches(farms: &[Farm]) -> Result<(), String> {
-    println!("\nOne public round by ideals and within equal ends; one within 0.9 to 1.1 times the ideals beside the plain model.\n");
+    println!("\nOne public round with limit 100,000, by ideals and within equal ends, and within 0.9 to 1.1 times the ideals beside the");
+    println!("plain model.\n");
     println!("| farm | {HEAD}");
     println!("|---|---|---|---|---|---|---|");
     for farm in farms {
@@ -51,7 +55,7 @@ pub fn searches(farms: &[Farm]) -> Result<(), String> {
         let wide = Wide::new(farm);
         let entries = model_entries(farm, &wide).map_err(told)?;
         let (kinds, model) = if entries > 2_000_000 { (LONG, ONCE) } else { (SHORT, SHORT) };
-        let equal_ends = race(kinds, || round(farm, SEARCH), || round_within(farm, [&farm.ideals, &farm.ideals]), same).map_err(told)?;
+        let equal_ends = race(kinds, || round(farm, LIMIT), || round_within(farm, [&farm.ideals, &farm.ideals]), same).map_err(told)?;
         let beside = race(model, || round_of_model(farm, &wide), || round_within(farm, wide.ends()), same).map_err(told)?;
         println!("| {} | {} | {} |", farm.name, times(equal_ends), times(beside));
     }
@@ -59,17 +63,17 @@ pub fn searches(farms: &[Farm]) -> Result<(), String> {
 }
 
 fn model_entries(farm: &Farm, wide: &Wide) -> Result<usize, String> {
-    let round = ranges::round(&farm.records, wide.of_model(), &mut farm.underway.clone(), SEARCH);
+    let round = ranges::round(&farm.records, wide.of_model(), &mut farm.underway.clone(), LIMIT);
     round.map(|round| round.entries).map_err(|refusal| format!("{refusal:?}"))
 }
 
 fn round_within(farm: &Farm, ends: Ends) -> Result<Made, String> {
-    made(farm, |counts, answer, cost| library::round_within(&farm.records, ends, counts, SEARCH, answer, cost))
+    made(farm, |counts, answer, cost| library::round_within(&farm.records, ends, counts, LIMIT, answer, cost))
 }
 
 fn round_of_model(farm: &Farm, wide: &Wide) -> Result<Made, String> {
     let mut counts = farm.underway.clone();
-    let round = ranges::round(&farm.records, wide.of_model(), &mut counts, SEARCH).map_err(|refusal| format!("{refusal:?}"))?;
+    let round = ranges::round(&farm.records, wide.of_model(), &mut counts, LIMIT).map_err(|refusal| format!("{refusal:?}"))?;
     Ok(Made { counts, cost: round.cost.map(f64::to_bits), cut: round.cut })
 }
 
@@ -88,7 +92,7 @@ pub fn solves(farms: &[Farm], all: bool) -> Result<(), String> {
         }
         let told = |problem| format!("{}: {problem}", farm.name);
         let wide = Wide::new(farm);
-        let by_ideals = || solve(farm, |counts, answer| library::solve_counts(&farm.records, &farm.ideals, counts, answer));
+        let by_ideals = || solve(farm, |counts, answer| library::solve_counts(&farm.records, &farm.ideals, counts, LIMIT, answer));
         let effort = effort(farm);
         let equal_ends = race(effort, by_ideals, || solve_within(farm, [&farm.ideals, &farm.ideals]), same).map_err(told)?;
         let beside = beside_model(farm, &wide).map_err(told)?.map_or("- | - | -".to_string(), times);
@@ -111,14 +115,14 @@ fn beside_model(farm: &Farm, wide: &Wide) -> Result<Option<Pair>, String> {
     }
     let model = || {
         let mut counts = vec![0; farm.ideals.len()];
-        let moves = ranges::solve(&farm.records, wide.of_model(), &mut counts).map_err(|refusal| format!("{refusal:?}"))?;
+        let moves = ranges::solve(&farm.records, wide.of_model(), &mut counts, LIMIT).map_err(|refusal| format!("{refusal:?}"))?;
         Ok((moves, counts))
     };
     race(SHORT, model, || solve_within(farm, wide.ends()), same).map(Some)
 }
 
 fn solve_within(farm: &Farm, ends: Ends) -> Solved {
-    solve(farm, |counts, answer| library::solve_counts_within(&farm.records, ends, counts, answer))
+    solve(farm, |counts, answer| library::solve_counts_within(&farm.records, ends, counts, LIMIT, answer))
 }
 
 /// What a solve of this library makes of the farm.

@@ -3,6 +3,7 @@
 use super::Sink;
 use crate::farm::record;
 use crate::grids::needed;
+use crate::limits::SEARCH;
 use crate::together::call::{Call, Sides, Spacing, Step, LENT_NUMBER};
 
 pub fn all(sink: Sink) -> Result<(), String> {
@@ -73,12 +74,14 @@ fn two_regions(sink: Sink) -> Result<(), String> {
     Ok(())
 }
 
-/// Solve, a list of rounds of both kinds, hold.
+/// Solves by three limits, lists of rounds of each kind and of both, hold.
 fn farm(sink: Sink, regions: &[u16], kind: usize) -> Result<(), String> {
     let (ideals, most) = (IDEALS[kind].to_vec(), MOSTS[kind].to_vec());
     let spacings = [Spacing::Ideals(ideals.clone()), Spacing::Within { least: ideals, most }];
     for spacing in &spacings {
-        sink(Call::Solve { regions: regions.to_vec(), spacing: spacing.clone(), counts: vec![LENT_NUMBER; 3] })?;
+        for limit in [None, Some(2), Some(SEARCH)] {
+            sink(Call::Solve { regions: regions.to_vec(), spacing: spacing.clone(), counts: vec![LENT_NUMBER; 3], limit })?;
+        }
         let steps = [2, 100].map(|limit| Step::new(spacing.clone(), limit)).to_vec();
         sink(Call::Rounds { regions: regions.to_vec(), counts: vec![1, 0, 2], steps })?;
     }
@@ -94,7 +97,7 @@ fn energies(sink: Sink) -> Result<(), String> {
     for counts in &counts {
         for ideals in &ideals {
             sink(Call::Energy { counts: counts.clone(), ideals: ideals.clone() })?;
-            for limit in [0, 1, 100_001] {
+            for limit in [None, Some(0), Some(1), Some(SEARCH + 1)] {
                 sink(Call::Round { regions: vec![], counts: counts.clone(), step: Step::new(ideals.clone(), limit) })?;
             }
         }
@@ -108,7 +111,7 @@ fn ranges_of_free_edges(sink: Sink) -> Result<(), String> {
     for ends in tuples(&values, 2) {
         let spacing = Spacing::Within { least: vec![ends[0]], most: vec![ends[1]] };
         for count in [0, 1, 2, 3, 4, 999_999, 1_000_000, 1_000_001] {
-            for limit in [0, 1, 100_001] {
+            for limit in [None, Some(0), Some(1), Some(SEARCH + 1)] {
                 sink(Call::Round { regions: vec![], counts: vec![count], step: Step::new(spacing.clone(), limit) })?;
             }
         }
@@ -122,7 +125,9 @@ fn ranges_of_free_edges(sink: Sink) -> Result<(), String> {
                 sink(Call::Round { regions: vec![], counts: counts.clone(), step: Step::new(spacing.clone(), 1) })?;
             }
             for length in 0..4 {
-                sink(Call::Solve { regions: vec![], spacing: spacing.clone(), counts: vec![LENT_NUMBER; length] })?;
+                for limit in [None, Some(0), Some(SEARCH), Some(SEARCH + 1)] {
+                    sink(Call::Solve { regions: vec![], spacing: spacing.clone(), counts: vec![LENT_NUMBER; length], limit })?;
+                }
             }
         }
     }
@@ -136,7 +141,9 @@ fn ranges_of_one_side(sink: Sink) -> Result<(), String> {
     for three in tuples(&ends, 3) {
         let (least, most): (Vec<f64>, Vec<f64>) = three.into_iter().unzip();
         let spacing = Spacing::Within { least, most };
-        sink(Call::Solve { regions: regions.clone(), spacing: spacing.clone(), counts: vec![LENT_NUMBER; 3] })?;
+        for limit in [2, 3, 4, SEARCH].map(Some) {
+            sink(Call::Solve { regions: regions.clone(), spacing: spacing.clone(), counts: vec![LENT_NUMBER; 3], limit })?;
+        }
         for counts in tuples(&[0, 1, 2], 3) {
             for limit in [2, 3, 4] {
                 sink(Call::Round { regions: regions.clone(), counts: counts.clone(), step: Step::new(spacing.clone(), limit) })?;

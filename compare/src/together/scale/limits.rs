@@ -4,9 +4,10 @@ use super::Sink;
 use crate::farm::{grid, record, rows, Farm};
 use crate::former;
 use crate::generate::{self, LENGTHS, LISTED, PLACES};
+use crate::generate_limits::LAST_WAYS;
 use crate::generate_wide::{self, wide_fields, Wide};
 use crate::grids::needed;
-use crate::limits::{CELLS, SIDE};
+use crate::limits::{CELLS, SEARCH, SEARCH_UNSTATED, SIDE};
 use crate::together::call::{Call, Sides, Spacing, Step, LENT_NUMBER};
 use crate::together::speed::{bent, even, seams, straight};
 
@@ -18,6 +19,7 @@ pub fn all(sink: Sink) -> Result<(), String> {
     last_places(sink)?;
     counts_and_moves(sink)?;
     search(sink)?;
+    last_ways(sink)?;
     curve_points(sink)?;
     grid_sizes(sink)?;
     loops(sink)?;
@@ -41,7 +43,9 @@ fn solver_calls(sink: Sink, regions: &[u16], edges: usize) -> Result<(), String>
     let ideals: Vec<f64> = (0..edges).map(|edge| 0.6 + (edge % 5) as f64 * 0.5).collect();
     let (regions, counts) = (regions.to_vec(), vec![2; edges]);
     for spacing in both_kinds(ideals.clone(), 1.2) {
-        sink(Call::Solve { regions: regions.clone(), spacing: spacing.clone(), counts: lent(edges) })?;
+        for limit in [None, Some(SEARCH)] {
+            sink(Call::Solve { regions: regions.clone(), spacing: spacing.clone(), counts: lent(edges), limit })?;
+        }
         sink(Call::Round { regions: regions.clone(), counts: counts.clone(), step: Step::new(spacing, 50) })?;
     }
     sink(Call::Hold { regions, counts: counts.clone() })?;
@@ -59,12 +63,14 @@ fn regions_and_edges(sink: Sink) -> Result<(), String> {
         sink(Call::Energy { counts: vec![1; edges], ideals: vec![1.0; 3] })?;
         sink(Call::Round { regions: vec![], counts: vec![1; edges], step: Step::new(vec![1.0; 3], 9) })?;
         sink(Call::Round { regions: vec![], counts: vec![1; 3], step: Step::new(vec![1.0; edges], 9) })?;
-        sink(Call::Solve { regions: vec![], spacing: vec![1.0; 3].into(), counts: lent(edges) })?;
+        sink(Call::Solve { regions: vec![], spacing: vec![1.0; 3].into(), counts: lent(edges), limit: None })?;
         // Each of the three lists by itself.
         for [least, most, counts] in [[edges, 3, 3], [3, edges, 3], [3, 3, edges], [edges, edges, 3], [3, edges, edges]] {
             let spacing = Spacing::Within { least: vec![1.0; least], most: vec![2.0; most] };
             sink(Call::Round { regions: vec![], counts: vec![1; counts], step: Step::new(spacing.clone(), 9) })?;
-            sink(Call::Solve { regions: vec![], spacing, counts: lent(counts) })?;
+            for limit in [None, Some(9), Some(SEARCH + 1)] {
+                sink(Call::Solve { regions: vec![], spacing: spacing.clone(), counts: lent(counts), limit })?;
+            }
         }
     }
     Ok(())
@@ -111,7 +117,9 @@ fn wide(sink: Sink) -> Result<(), String> {
             sink(Call::Hold { regions: regions.clone(), counts: vec![count; edges] })?;
         }
         for spacing in ideals.into_iter().flat_map(|ideals| both_kinds(ideals, 1.05)) {
-            sink(Call::Solve { regions: regions.clone(), spacing, counts: lent(edges) })?;
+            for limit in [None, Some(limits[0]), Some(SEARCH)] {
+                sink(Call::Solve { regions: regions.clone(), spacing: spacing.clone(), counts: lent(edges), limit })?;
+            }
         }
     }
     Ok(())
@@ -136,23 +144,33 @@ fn counts_and_moves(sink: Sink) -> Result<(), String> {
     }
     for ideal in [199_999.0, 200_000.0, 200_001.0] {
         for spacing in both_kinds(vec![ideal], 1.5) {
-            sink(Call::Solve { regions: vec![], spacing, counts: lent(3) })?;
+            for limit in [None, Some(0), Some(1), Some(SEARCH)] {
+                sink(Call::Solve { regions: vec![], spacing: spacing.clone(), counts: lent(3), limit })?;
+            }
         }
     }
     Ok(())
 }
 
-/// Limits around the entries that a search makes, and around 100,000.
+fn around(limit: u32) -> [u32; 5] {
+    [limit - 2, limit - 1, limit, limit + 1, limit + 2]
+}
+
+/// Limits around the entries that a search makes, around 10,000 and around 100,000, and none.
 fn search(sink: Sink) -> Result<(), String> {
     let chain = grid(12, 1);
-    for limit in (0..30).chain([99_998, 99_999, 100_000, 100_001, u32::MAX]) {
-        for step in both_kinds(vec![1.5; chain.edges], 1.25).map(|spacing| Step::new(spacing, limit)) {
+    let stated = (0..30).chain(around(SEARCH_UNSTATED)).chain(around(SEARCH)).chain([u32::MAX]);
+    for limit in stated.map(Some).chain([None]) {
+        for spacing in both_kinds(vec![1.5; chain.edges], 1.25) {
+            let step = Step::new(spacing.clone(), limit);
             for count in [0, 1, 3] {
                 sink(Call::Round { regions: chain.regions.clone(), counts: vec![count; chain.edges], step: step.clone() })?;
             }
+            sink(Call::Solve { regions: chain.regions.clone(), spacing, counts: lent(chain.edges), limit })?;
         }
         for spacing in both_kinds(vec![], 1.0) {
-            sink(Call::Round { regions: vec![], counts: vec![], step: Step::new(spacing, limit) })?;
+            sink(Call::Round { regions: vec![], counts: vec![], step: Step::new(spacing.clone(), limit) })?;
+            sink(Call::Solve { regions: vec![], spacing, counts: vec![], limit })?;
         }
     }
     between(sink, former::PLACES.into(), &[200, 271, 272, 273, 274, 289, 290, 1000, 5000])?;
@@ -171,6 +189,23 @@ fn between(sink: Sink, edges: u32, limits: &[u32]) -> Result<(), String> {
         let ideals = (0..wide.edges).map(|edge| 1.0 + (edge % 7) as f64 * 0.3).collect();
         for step in both_kinds(ideals, 1.1).map(|spacing| Step::new(spacing, limit)) {
             sink(Call::Round { regions: wide.regions.clone(), counts: vec![1; wide.edges], step })?;
+        }
+    }
+    Ok(())
+}
+
+/// Farms of which only the way pays to which a search comes last: limits around its entries, around 10,000, and none.
+fn last_ways(sink: Sink) -> Result<(), String> {
+    for way in LAST_WAYS {
+        let farm = way.farm();
+        let entries = way.entries.map(|entries| around(entries as u32)).concat();
+        let stated = entries.into_iter().chain(around(SEARCH_UNSTATED)).chain([SEARCH]);
+        for limit in stated.map(Some).chain([None]) {
+            for spacing in [way.ideals().into(), way.ranges()] {
+                let counts = vec![0; farm.edges];
+                sink(Call::Round { regions: farm.regions.clone(), counts, step: Step::new(spacing.clone(), limit) })?;
+                sink(Call::Solve { regions: farm.regions.clone(), spacing, counts: lent(farm.edges), limit })?;
+            }
         }
     }
     Ok(())

@@ -2,7 +2,7 @@
 
 use crate::generate::PLACES;
 use crate::limits::{RECORD, SIDE};
-use crate::together::call::{difference, Call, Spacing, Step};
+use crate::together::call::{difference, Call, Spacing};
 use crate::together::expected;
 
 /// Calls that are tried at most.
@@ -264,12 +264,14 @@ fn sizes(call: &Call, found: &mut Vec<Call>) {
             found.push(fewer);
         }
     }
-    for index in 0..steps(&mut call.clone()).len() {
-        let n = steps(&mut call.clone())[index].limit;
-        for m in lower(n) {
-            let mut fewer = call.clone();
-            steps(&mut fewer)[index].limit = m;
-            found.push(fewer);
+    for index in 0..limits(&mut call.clone()).len() {
+        // No limit is simpler than any.
+        if let Some(n) = *limits(&mut call.clone())[index] {
+            for limit in [None].into_iter().chain(lower(n).map(Some)) {
+                let mut simpler = call.clone();
+                *limits(&mut simpler)[index] = limit;
+                found.push(simpler);
+            }
         }
     }
 }
@@ -289,10 +291,11 @@ fn lengths(call: &mut Call) -> Vec<&mut usize> {
     }
 }
 
-fn steps(call: &mut Call) -> Vec<&mut Step> {
+fn limits(call: &mut Call) -> Vec<&mut Option<u32>> {
     match call {
-        Call::Round { step, .. } => vec![step],
-        Call::Rounds { steps, .. } => steps.iter_mut().collect(),
+        Call::Solve { limit, .. } => vec![limit],
+        Call::Round { step, .. } => vec![&mut step.limit],
+        Call::Rounds { steps, .. } => steps.iter_mut().map(|step| &mut step.limit).collect(),
         _ => vec![],
     }
 }
@@ -356,13 +359,14 @@ fn values(call: &Call, found: &mut Vec<Call>) {
 mod tests {
     use super::*;
     use crate::farm::{grid, record};
+    use crate::together::call::Step;
     use crate::together::speed::{bent, seams};
 
     #[test]
     fn farm() {
         let farm = grid(4, 3);
         let ideals: Vec<f64> = (0..farm.edges).map(|edge| 1.3 + edge as f64).collect();
-        let call = Call::Solve { regions: farm.regions, spacing: ideals.into(), counts: vec![7; farm.edges] };
+        let call = Call::Solve { regions: farm.regions, spacing: ideals.into(), counts: vec![7; farm.edges], limit: Some(100_000) };
         let has = |call: &Call| match call {
             Call::Solve { regions, spacing: Spacing::Ideals(ideals), .. } => {
                 regions.chunks_exact(RECORD).any(|r| r[2 * SIDE] > 0) && ideals.iter().any(|&x| x > 9.0)
@@ -370,7 +374,8 @@ mod tests {
             _ => false,
         };
         let smallest = smallest(call, has);
-        let expected = Call::Solve { regions: record([&[], &[], &[0], &[]]), spacing: vec![0.0, 10.0].into(), counts: vec![] };
+        let (regions, spacing) = (record([&[], &[], &[0], &[]]), vec![0.0, 10.0].into());
+        let expected = Call::Solve { regions, spacing, counts: vec![], limit: None };
         assert_eq!(
             with_records(&smallest, |list| list.retain(|&place| place == 1)),
             with_records(&expected, |list| list.retain(|&place| place == 1))
@@ -382,11 +387,21 @@ mod tests {
         let step = Step::new(vec![1.25, 3.5], 77);
         let call = Call::Rounds { regions: vec![], counts: vec![5, 900], steps: vec![step; 5] };
         let has = |call: &Call| match call {
-            Call::Round { counts, step, .. } => counts.iter().any(|&count| count > 20) && step.limit >= 3,
+            Call::Round { counts, step, .. } => counts.iter().any(|&count| count > 20) && step.limit.is_some_and(|limit| limit >= 3),
             Call::Rounds { steps, .. } => !steps.is_empty(),
             _ => false,
         };
         assert_eq!(smallest(call, has), Call::Round { regions: vec![], counts: vec![21], step: Step::new(vec![], 3) });
+    }
+
+    #[test]
+    fn limits() {
+        let call = |limit| Call::Solve { regions: vec![], spacing: vec![].into(), counts: vec![], limit };
+        let stated = |least: u32| move |call: &Call| matches!(call, Call::Solve { limit, .. } if limit.is_some_and(|limit| limit >= least));
+        assert_eq!(smallest(call(Some(100_000)), stated(5)), call(Some(5)));
+        assert_eq!(smallest(call(Some(100_000)), stated(0)), call(Some(0)));
+        assert_eq!(smallest(call(Some(100_000)), |_| true), call(None));
+        assert_eq!(smallest(call(None), |_| true), call(None));
     }
 
     #[test]
@@ -403,7 +418,7 @@ mod tests {
         };
         let smaller = Spacing::Within { least: vec![], most: vec![8.0] };
         let smallest = smallest(call, |call| !matches!(call, Call::Rounds { steps, .. } if steps.is_empty()) && has(call));
-        assert_eq!(smallest, Call::Round { regions: vec![], counts: vec![3], step: Step::new(smaller, 0) });
+        assert_eq!(smallest, Call::Round { regions: vec![], counts: vec![3], step: Step::new(smaller, None) });
     }
 
     #[test]

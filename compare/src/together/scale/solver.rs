@@ -4,7 +4,7 @@
 use crate::farm::{cut_rows, lists, record, rows, Farm};
 use crate::former;
 use crate::generate::PLACES;
-use crate::limits::{RECORD, SIDE};
+use crate::limits::{RECORD, SEARCH, SIDE};
 use crate::together::call::{Call, Spacing, Step, LENT_NUMBER};
 use crate::together::random::Random;
 
@@ -21,7 +21,8 @@ pub fn call(random: &mut Random) -> Call {
     match random.below(16) {
         0..=4 => {
             let mode = random.pick(&[Ideals::Steps, Ideals::Steps, Ideals::Any, Ideals::Near, Ideals::Tiny]);
-            Call::Solve { regions, spacing: spacing(random, mode, edges), counts: lent(random, edges) }
+            let (spacing, counts) = (spacing(random, mode, edges), lent(random, edges));
+            Call::Solve { regions, spacing, counts, limit: limit(random) }
         }
         5..=9 => {
             let counts = counts(random, edges);
@@ -40,7 +41,7 @@ pub fn call(random: &mut Random) -> Call {
     }
 }
 
-/// A call on wide sides. Searches through them have many ways on, so limits are low, and in a solve few edges want a count.
+/// A call on wide sides. Searches through them have many ways on, so limits of rounds are low, and in a solve few edges want a count.
 fn wide_call(random: &mut Random) -> Call {
     let what = random.below(8);
     let mut farm = if what < 5 { wide_region(random) } else { wide_lines(random) };
@@ -50,7 +51,10 @@ fn wide_call(random: &mut Random) -> Call {
     }
     let regions = farm.regions;
     match what {
-        0 => Call::Solve { regions, spacing: few(random, edges), counts: lent(random, edges) },
+        0 => {
+            let (spacing, counts) = (few(random, edges), lent(random, edges));
+            Call::Solve { regions, spacing, counts, limit: limit(random) }
+        }
         1..=5 => {
             let counts = counts(random, edges);
             Call::Round { regions, counts, step: low_step(random, edges) }
@@ -362,13 +366,19 @@ fn lent(random: &mut Random, edges: usize) -> Vec<u32> {
     vec![LENT_NUMBER; length]
 }
 
+/// A limit of a solve or a round: often small, one in eight is none.
+fn limit(random: &mut Random) -> Option<u32> {
+    match random.below(8) {
+        0..=3 => Some(random.below(24)),
+        4 => Some(random.pick(&[30, 100, 1000])),
+        5 => None,
+        6 => Some(SEARCH),
+        _ => Some(random.pick(&[0, 1, 9_999, 10_000, 10_001, 99_999, 100_000, 100_001, u32::MAX])),
+    }
+}
+
 fn step(random: &mut Random, edges: usize) -> Step {
-    let limit = match random.below(8) {
-        0..=3 => random.below(24),
-        4..=5 => random.pick(&[30, 100, 1000]),
-        6 => 100_000,
-        _ => random.pick(&[0, 1, 99_999, 100_000, 100_001, u32::MAX]),
-    };
+    let limit = limit(random);
     let mode = any_mode(random);
     Step::new(spacing(random, mode, edges), limit)
 }
