@@ -264,7 +264,7 @@ fn cut_search_misses_moves() {
 /// Without a stated limit a search makes 10,000 expansions at most, and a solve may come to other counts than with more, balanced all the same.
 /// Smallest farm found: nine strips side by side, with 1, 2, 3, 3, 3, 3, 3, 3, 3 and 1 edges on their ten borders, 25 in all, of 9 m the last of each
 /// border and of 1.8 m the others. One move pays, a piece for each edge of 9 m, and a search comes to it behind all others: from the left end
-/// as its expansion 10,935, from the right end as its 12,028. So without a limit no move is found, and the round after the solve tells that one may
+/// as its expansion 10,935, from the right end as its 12,028. So where none is stated no move is found, and the round after the solve tells that one may
 /// have been missed.
 #[test]
 fn stated_limit_comes_to_other_counts() {
