@@ -97,7 +97,7 @@ pub enum SearchLimit {
     /// None stated: 10,000.
     #[default]
     Default,
-    /// So many, 0 to 100,000; more is refused by 10. `simons_qgp` has 100,000, and so had every solve of this package up to version 0.3.0.
+    /// So many, 0 to 100,000; more is refused by 10, if by nothing that is tested before. `simons_qgp` has 100,000, and so had every solve of this package up to version 0.3.0.
     Expansions(usize),
 }
 

@@ -47,7 +47,7 @@ returns-3 c =
     let ranges = within (s .least .now) (s .most .now) in
     let limit = c .before .before .before .before .before .before .before .before .before .before .before .before .before .before .before .expansions .result in
     let six = c .before .before .before .before .before .before .before .before .build-graph .ensures in
-    let made = ((c .before .before .make-round)) in
+    let made = c .before .before .make-round in
     round-done (s .regions .now) ranges (s .counts .now) limit (made .result) _
     (c .before .before .before .before .before .before .before .before .before .before .before .enum-told .given .1) (c .before .before .before .before .before .before .before .before .before .before .before .before .before .check-round .ensures) (c .before .before .before .before .before .before .enum-told2 .given .1) (six .verdict-is) (made .ensures)
     ∙ ap (round (s .regions .now) ranges (s .counts .now)) (c .before .before .before .before .before .before .before .before .before .before .before .before .before .before .before .expansions .ensures)

@@ -68,7 +68,7 @@ returns-3 c =
     let s = c .before .before .before .before .before .before .before .before .before .before .before .before .before .before .before .before .before .before .before .args in
     let ranges = within (s .least .now) (s .most .now) in
     let limit = c .before .before .before .before .before .before .before .before .before .before .before .before .before .before .expansions .result in
-    let made = ((c .before .before .solve-from-zeros)) in
+    let made = c .before .before .solve-from-zeros in
     solve-done (s .regions .now) ranges (s .counts .now) limit (made .result) (made .last .1 .1 .1 .1 .1 .0) _
     (c .before .before .before .before .before .before .before .before .before .before .before .enum-told .given .1) (c .before .before .before .before .before .before .before .before .before .before .before .before .before .check-solve .ensures) (c .before .before .before .before .before .before .enum-told2 .given .1) (c .before .before .before .before .before .before .before .before .build-graph .ensures .verdict-is) (made .ensures) refl
     ∙ ap (solve (s .regions .now) ranges (s .counts .now)) (c .before .before .before .before .before .before .before .before .before .before .before .before .before .before .expansions .ensures)

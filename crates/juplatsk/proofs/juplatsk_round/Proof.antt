@@ -11,7 +11,7 @@ use Rattle.juplatsk.proofs.juplatsk_round.Tie as tie
 returns : tie.Need-returns
 returns c =
     let s = c .before .before .before .before .before .before .before .before .before .before .before .args in
-    let made = (c .before .before .before .before .before .round) in
+    let made = c .before .before .before .before .before .round in
     round-exported (made .result) (c .store-round .ensures)
     (made .ensures ∙ ap (λ (limit : SearchLimit). round (s .regions .now) (by (s .ideals .now)) (s .counts .now) (expansions limit)) (c .before .before .before .before .before .before .before .search-limit .ensures))
 

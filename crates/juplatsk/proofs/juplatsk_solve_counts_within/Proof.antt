@@ -11,7 +11,7 @@ use Rattle.juplatsk.proofs.juplatsk_solve_counts_within.Tie as tie
 returns : tie.Need-returns
 returns c =
     let s = c .before .before .before .before .before .before .before .before .before .before .before .args in
-    let made = (c .before .before .before .before .solve-counts-within) in
+    let made = c .before .before .before .before .solve-counts-within in
     solve-exported (made .result) (c .store-solve .ensures)
     (made .ensures ∙ ap (λ (limit : SearchLimit). solve (s .regions .now) (within (s .least .now) (s .most .now)) (s .counts .now) (expansions limit)) (c .before .before .before .before .before .before .search-limit .ensures))
 
