@@ -1,6 +1,6 @@
--- Tests as facts: a Boolean that passes or fails, and numbers told apart. Assumes nothing.
+-- Tests as facts: a Boolean that passes or fails, numbers told apart, and proofs by cases of a test (`by-cases`, `by-truth`, `by-contradiction`). Assumes nothing.
 use mathlib.Core.Logic.{_≢_, _⊎_, inl, inr}
-use mathlib.Core.Path.{_≡_, refl, sym, subst}
+use mathlib.Core.Path.{_≡_, refl}
 use mathlib.Core.Bool.{Bool, true, false, not, _||_, cond}
 use Prim.Native.Nat.{ℕ}
 use lib.Dec.{T, eqb, eqb→eq, eqb-refl}
@@ -15,7 +15,7 @@ clash true p q = q
 clash false p q = p
 
 pub eq→eqb : (m n : ℕ) → m ≡ n → T (eqb m n)
-eq→eqb m n e = subst (λ (k : ℕ). T (eqb m k)) e (eqb-refl m)
+eq→eqb m n e = rw (← e) (eqb-refl m)
 
 pub ne→differs : (x y : ℕ) → y ≢ x → T (differs x y)
 ne→differs x y n = lib.Dec.not-T (eqb y x) (λ t. n (eqb→eq y x t))
@@ -35,19 +35,37 @@ pub or-right : (p q : Bool) → T q → T (p || q)
 or-right true q t = tt
 or-right false q t = t
 
+-- of two tests, one of which passes, the first fails
+pub or-other : (p q : Bool) → T (not p) → T (p || q) → T q
+or-other true q n t = absurd n
+or-other false q n t = t
+
+-- neither passes
+pub nor-left : (p q : Bool) → T (not (p || q)) → T (not p)
+nor-left true q t = t
+nor-left false q t = tt
+
+pub nor-right : (p q : Bool) → T (not (p || q)) → T (not q)
+nor-right true q t = absurd t
+nor-right false q t = t
+
 pub T-true : (b : Bool) → T b → b ≡ true
 T-true true t = refl
 T-true false t = absurd t
 
 pub true-T : (b : Bool) → b ≡ true → T b
-true-T b e = subst T (sym e) tt
+true-T b e = rw e tt
+
+pub T-false : (b : Bool) → T (not b) → b ≡ false
+T-false true t = absurd t
+T-false false t = refl
 
 pub not-T-false : (b : Bool) → (T b → ⊥) → b ≡ false
 not-T-false true n = absurd (n tt)
 not-T-false false n = refl
 
 pub false-T : (b : Bool) → b ≡ false → T (not b)
-false-T b e = subst (λ (c : Bool). T (not c)) (sym e) tt
+false-T b e = rw e tt
 
 pub ne→eqb : (x y : ℕ) → x ≢ y → eqb x y ≡ false
 ne→eqb x y n = not-T-false (eqb x y) (λ t. n (eqb→eq x y t))
@@ -55,9 +73,19 @@ ne→eqb x y n = not-T-false (eqb x y) (λ t. n (eqb→eq x y t))
 pub same→eqb : (x : ℕ) → eqb x x ≡ true
 same→eqb x = T-true (eqb x x) (eqb-refl x)
 
+-- ---- a test made in the course of a proof: what follows if it passes, and what if it fails
 pub by-cases : {P : Type 0} (b : Bool) → (T b → P) → (T (not b) → P) → P
 by-cases true f h = f tt
 by-cases false f h = h tt
+
+-- the same with equations, which `rw` puts into the goal or into a fact
+pub by-truth : {P : Type 0} (b : Bool) → (b ≡ true → P) → (b ≡ false → P) → P
+by-truth true f h = f refl
+by-truth false f h = h refl
+
+pub by-contradiction : (b : Bool) → (T (not b) → ⊥) → T b
+by-contradiction true n = tt
+by-contradiction false n = n tt
 
 pub cond-yes {ℓ} : {A : Type ℓ} (b : Bool) (x y : A) → T b → cond b x y ≡ x
 cond-yes true x y t = refl

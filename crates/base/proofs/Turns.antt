@@ -1,7 +1,7 @@
 -- One turn of a loop along a list: what is left of a list from index i on, and a test of some or of every element from there on.
 -- Assumes nothing.
-use mathlib.Core.Path.{_≡_, refl, ap, _∙_}
-use mathlib.Core.Bool.{Bool, true, false, _&&_, _||_}
+use mathlib.Core.Path.{_≡_, refl}
+use mathlib.Core.Bool.{Bool, true, false}
 use mathlib.Core.List.{List, [], _∷_}
 use Prim.Native.Nat.{ℕ, _+_, _<_, _≤_}
 use native.Mathlib.Numerals.{add-one}
@@ -16,23 +16,23 @@ module _ {A : Type 0} (xs : List A) (d : A) (i : ℕ) where
 
   module _ (p : A → Bool) where
     pub any-here : i < length xs → p (getD xs i d) ≡ true → any p (drop i xs) ≡ true
-    any-here h t = ap (any p) (drop-at h) ∙ ap (λ (b : Bool). b || any p (drop (i + 1) xs)) t
+    any-here h t = rw (drop-at, t)
 
     pub any-next : i < length xs → p (getD xs i d) ≡ false → any p (drop i xs) ≡ any p (drop (i + 1) xs)
-    any-next h t = ap (any p) (drop-at h) ∙ ap (λ (b : Bool). b || any p (drop (i + 1) xs)) t
+    any-next h t = rw (drop-at, t)
 
     pub any-end : length xs ≤ i → any p (drop i xs) ≡ false
-    any-end h = ap (any p) (drop-of-length-le xs h)
+    any-end h = rw drop-of-length-le
 
     pub all-here : i < length xs → p (getD xs i d) ≡ false → all p (drop i xs) ≡ false
-    all-here h t = ap (all p) (drop-at h) ∙ ap (λ (b : Bool). b && all p (drop (i + 1) xs)) t
+    all-here h t = rw (drop-at, t)
 
     pub all-next : i < length xs → p (getD xs i d) ≡ true → all p (drop i xs) ≡ all p (drop (i + 1) xs)
-    all-next h t = ap (all p) (drop-at h) ∙ ap (λ (b : Bool). b && all p (drop (i + 1) xs)) t
+    all-next h t = rw (drop-at, t)
 
     pub all-end : length xs ≤ i → all p (drop i xs) ≡ true
-    all-end h = ap (all p) (drop-of-length-le xs h)
+    all-end h = rw drop-of-length-le
 
 pub member-any : (x : ℕ) (l : List ℕ) → member x l ≡ any (eqb x) l
 member-any x [] = refl
-member-any x (y ∷ l) = ap (λ (b : Bool). eqb x y || b) (member-any x l)
+member-any x (y ∷ l) = rw (member-any x l)

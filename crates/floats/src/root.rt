@@ -1,10 +1,10 @@
 // The square root of an f64, correctly rounded: IEEE 754-2019, 5.4.1, to nearest, ties to even. It goes by whole numbers alone, in the
 // standard's order: special operands (`sqrt`), the exact root taken apart (`take_apart`), one rounding (`rounded`).
 ghost use mathlib.Core.Path.{_≡_};
-ghost use Prim.Native.Nat.{_+_, _*_, _^_, _≤_, _<_};
+ghost use Prim.Native.Nat.{_*_, _^_, _≤_, _<_};
 ghost use lib.Ieee.{binary64};
 ghost use Rattle.floats.specs.Root.{root-of, root-answer, root as ieee-root, rounded as rounded-root, parted};
-ghost use Rattle.floats.specs.inner.RootSteps.{Whole, NotBelow, Normal, Splits, Taken};
+ghost use Rattle.floats.specs.inner.RootSteps.{Whole, NewtonGiven, NotBelow, Normal, Splits, RoundingGiven, Taken};
 use base::refusal::Refusal;
 
 pub enum RootAnswer {
@@ -142,7 +142,7 @@ fn short_root(n: u64) -> u64
 
 // One step of Newton's iteration for the root of n. From any r the next is not below the root.
 fn newton_step(n: u64, r: u64) -> u64
-    requires { ⌜ (2 ^ 52 ≤ n) × (n < 2 ^ 54) × (2 ^ 25 ≤ r) × (r ≤ 2 ^ 29) ⌝ }
+    requires { ⌜ NewtonGiven n r ⌝ }
     ensures { λ s. ⌜ NotBelow n s ⌝ }
 {
     (r + n / r) / 2
@@ -151,7 +151,7 @@ fn newton_step(n: u64, r: u64) -> u64
 // A root taken apart, rounded once: of the 54 digits of its whole part 53 are kept, and the last one and the rest say which way. At a tie
 // the even one is taken. Where the 53 digits run over into a 54th, the carry runs into the exponent's field, as it should.
 fn rounded(a: Apart) -> f64
-    requires { ⌜ (2 ^ 53 ≤ a .whole) × (a .whole < 2 ^ 54) × (a .exponent ≤ 2000) ⌝ }
+    requires { ⌜ RoundingGiven (a .exponent) (a .whole) ⌝ }
     ensures { λ r. ⌜ r ≡ rounded-root binary64 (parted (a .exponent) (a .whole) (a .rest)) ⌝ }
 {
     let s = a.whole;

@@ -1,3 +1,4 @@
 -- The definitions of the crate. Assumes nothing.
 pub mod Accept
 pub mod Region
+pub mod Written

@@ -1,6 +1,6 @@
 -- 01, "Regions", with the places of 02's item 9: region records and the constraints that they give. All but `places` is said of any number p
 -- of places. Assumes nothing.
-use mathlib.Core.Bool.{Bool, _||_, cond}
+use mathlib.Core.Bool.{Bool, true, false, _&&_, _||_, cond}
 use mathlib.Core.List.{List, [], _∷_}
 use Prim.Native.Nat.{ℕ, zero, suc, _+_, _*_, _/_}
 use lib.ListN.{length, getD, take, drop}
@@ -35,7 +35,8 @@ pub record Constraint : Type 0 where
   pub b : List ℕ
 
 -- `build_graph`: "each region gives constraint (0,2), then (1,3)", so that constraint 2 * r + k is pair k of region r.
--- A constraint with both sides empty is not skipped here: it holds no edge, so that nothing ever meets it.
+-- A constraint with both sides empty is not skipped here, so that the others keep these numbers. Moves, solves, balance and test 6 are the same
+-- if it is: `empties-skipped` (counts, proofs/Skipped).
 unfoldable pub constraints : ℕ → ℕ → List ℕ → List Constraint
 constraints p zero regions = []
 constraints p (suc n) regions =
@@ -45,6 +46,15 @@ constraints p (suc n) regions =
 
 abbrev pub graph : ℕ → List ℕ → List Constraint
 graph p regions = constraints p (region-count p regions) regions
+
+abbrev pub is-empty : List ℕ → Bool
+is-empty [] = true
+is-empty (x ∷ xs) = false
+
+-- `build_graph`: "both sides empty, it is skipped"
+abbrev pub without-empty : List Constraint → List Constraint
+without-empty [] = []
+without-empty (c ∷ cs) = cond (is-empty (c .a) && is-empty (c .b)) (without-empty cs) (c ∷ without-empty cs)
 
 abbrev pub no-sides : Constraint
 no-sides = record { a = []; b = [] }

@@ -99,7 +99,8 @@ amount-digits f y d = amount-of f y false (d .digits * 2 ^ d .power) (d .value)
 
 -- so the radicand has no more digits either
 pub radicand-digits : (f : Format) (y : Float) → (d : Digits f y) → d .digits * 2 ^ (d .power + low f) ≡ radicand f y
-radicand-digits f y d = ap (λ (x : ℕ). d .digits * x) (pow-add 2 (d .power) (low f)) ∙ sym (mul-assoc (d .digits) (2 ^ d .power) (2 ^ low f)) ∙ ap (λ (x : ℕ). x * 2 ^ low f) (sym (amount-digits f y d))
+radicand-digits f y d = ap (λ (x : ℕ). d .digits * x) (pow-add 2 (d .power) (low f)) ∙ sym (mul-assoc (d .digits) (2 ^ d .power) (2 ^ low f))
+    ∙ ap (λ (x : ℕ). x * 2 ^ low f) (sym (amount-digits f y d))
 
 pub own-amount : (f : Format) (y : Float) → T (among f y) → HasValue y false (amount f y) (2 ^ low f)
 own-amount f y h =
@@ -124,7 +125,8 @@ same-value f x y s a p q v w = sym (ofBits-toBits f x p) ∙ ap (λ (b : ℕ). o
 below-top : (f : Format) (m : ℕ) (e : ℤ) (a : ℕ) → m * up e * 2 ^ low f ≡ a * down e → m * up e < 2 ^ suc (emax f) * down e → a < 2 ^ (suc (emax f) + low f)
 below-top f m e a v h =
     let w : m * up e * 2 ^ low f < 2 ^ suc (emax f) * down e * 2 ^ low f = mul-lt-mul-of-pos-right h (pow-pos (low f)) in
-    let r : 2 ^ suc (emax f) * down e * 2 ^ low f ≡ 2 ^ (suc (emax f) + low f) * down e = mul-right-comm (2 ^ suc (emax f)) (down e) (2 ^ low f) ∙ ap (λ (x : ℕ). x * down e) (sym (pow-add 2 (suc (emax f)) (low f))) in
+    let r : 2 ^ suc (emax f) * down e * 2 ^ low f ≡ 2 ^ (suc (emax f) + low f) * down e = mul-right-comm (2 ^ suc (emax f)) (down e) (2 ^ low f)
+    ∙ ap (λ (x : ℕ). x * down e) (sym (pow-add 2 (suc (emax f)) (low f))) in
     lt-of-mul-lt-mul-right (down e) (subst (λ (x : ℕ). x < 2 ^ (suc (emax f) + low f) * down e) v (subst (λ (x : ℕ). m * up e * 2 ^ low f < x) r w))
 
 pub amount-lt : (f : Format) (x : Float) → T (among f x) → amount f x < 2 ^ (suc (emax f) + low f)

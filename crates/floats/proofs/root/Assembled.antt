@@ -109,7 +109,8 @@ pattern x m lo hi X = go (decLe (2 ^ 53) m)
 
 closest-four : (a q r : ℕ) → r < 4 → a ≡ q * 4 + r → closest a 4 ≡ nearest q (compare (r * 2) 4)
 closest-four a q r h e =
-    ap (λ (x : ℕ). nearest (x / 4) (compare (x % 4 * 2) 4)) e ∙ ap (λ (x : ℕ). nearest x (compare ((q * 4 + r) % 4 * 2) 4)) (digits-div q h) ∙ ap (λ (x : ℕ). nearest q (compare (x * 2) 4)) (digits-mod q h)
+    ap (λ (x : ℕ). nearest (x / 4) (compare (x % 4 * 2) 4)) e ∙ ap (λ (x : ℕ). nearest x (compare ((q * 4 + r) % 4 * 2) 4)) (digits-div q h)
+    ∙ ap (λ (x : ℕ). nearest q (compare (x * 2) 4)) (digits-mod q h)
 
 -- s is even
 kept-lower : (s r q : ℕ) → s ≡ 2 * q → closest (2 * s + min r 1) 4 ≡ q
@@ -168,7 +169,8 @@ rounded-bits h s r d lo hi H K =
     let w : HasValue (rounded binary64 (parted h s r)) false (d * 2 ^ x) (2 ^ low binary64) =
     subst (λ (z : Float). HasValue z false (d * 2 ^ x) (2 ^ low binary64)) (sym (is ∙ ap (λ (z : ℕ). units binary64 false z (1 + h)) (sym e)))
     (subst (λ (z : ℕ). HasValue (units binary64 false d (1 + h)) false (d * 2 ^ z) (2 ^ low binary64)) (swap h) v) in
-    same-value binary64 (ofBits binary64 (x * 0x10_0000_0000_0000 + d)) (rounded binary64 (parted h s r)) false (d * 2 ^ x) (ofBits-fits binary64 (x * 0x10_0000_0000_0000 + d)) (rounded-fits binary64 (parted h s r)) p w
+    same-value binary64 (ofBits binary64 (x * 0x10_0000_0000_0000 + d)) (rounded binary64 (parted h s r)) false (d * 2 ^ x)
+    (ofBits-fits binary64 (x * 0x10_0000_0000_0000 + d)) (rounded-fits binary64 (parted h s r)) p w
   where
     top : (d s : ℕ) → d ≤ s / 2 + 1 → s < 2 ^ 54 → d ≤ 2 ^ 53
     top d s b hi = omega arith

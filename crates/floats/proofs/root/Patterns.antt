@@ -24,7 +24,8 @@ ofBits-is b = refl
 unsigned : (b : ℕ) → b < 0x8000_0000_0000_0000 → ofBits binary64 b ≡ ofFields binary64 false (b / 0x10_0000_0000_0000) (b % 0x10_0000_0000_0000)
 unsigned b h =
     ofBits-is b
-    ∙ ap (λ (s : Bool). ofFields binary64 s (b % 0x8000_0000_0000_0000 / 0x10_0000_0000_0000) (b % 0x10_0000_0000_0000)) (is-false (leb 0x8000_0000_0000_0000 b) (not-T (leb 0x8000_0000_0000_0000 b) (λ u. not-le-of-lt h (leb→le 0x8000_0000_0000_0000 b u))))
+    ∙ ap (λ (s : Bool). ofFields binary64 s (b % 0x8000_0000_0000_0000 / 0x10_0000_0000_0000) (b % 0x10_0000_0000_0000))
+    (is-false (leb 0x8000_0000_0000_0000 b) (not-T (leb 0x8000_0000_0000_0000 b) (λ u. not-le-of-lt h (leb→le 0x8000_0000_0000_0000 b u))))
     ∙ ap (λ (x : ℕ). ofFields binary64 false (x / 0x10_0000_0000_0000) (b % 0x10_0000_0000_0000)) (mod-eq-of-lt h)
 
 at-zero : (t : ℕ) → ofFields binary64 false 0 t ≡ odd 53 false t 0 1074
@@ -36,7 +37,8 @@ differ x h e = omega arith
 
 under-ones : (t x : ℕ) → suc x < 2047 → ofFields binary64 false (suc x) t ≡ odd 53 false (0x10_0000_0000_0000 + t) x 1074
 unfolding ofFields
-under-ones t x h = cond-no (eqb (suc x) 2047) (cond (eqb t 0) (inf false) nan) (odd 53 false (0x10_0000_0000_0000 + t) x 1074) (not-T (eqb (suc x) 2047) (λ (u : T (eqb (suc x) 2047)). differ x h (eqb→eq (suc x) 2047 u)))
+under-ones t x h = cond-no (eqb (suc x) 2047) (cond (eqb t 0) (inf false) nan) (odd 53 false (0x10_0000_0000_0000 + t) x 1074)
+    (not-T (eqb (suc x) 2047) (λ (u : T (eqb (suc x) 2047)). differ x h (eqb→eq (suc x) 2047 u)))
 
 -- ---- the value of a pattern, below the smallest normal value and from it up
 
@@ -106,7 +108,14 @@ pub lead-of : (b : ℕ) → 0 < b → b / 0x10_0000_0000_0000 ≡ 0 → Lead b (
 lead-of b P e =
     let s : b % 0x10_0000_0000_0000 ≡ b = omega arith in
     let t = leading-top 64 b P (omega arith) in
-    record { j = t .0; zeros = ap (λ (x : ℕ). leadingZeros 64 x + suc (t .0)) s ∙ t .1; low-bound = t .2; high-bound = t .3; same = s; few = lt-of-not-le (λ (g : 52 ≤ t .0). not-le-of-lt (small b e) (le-trans (pow-mono g) (t .2))) }
+    record {
+      j = t .0;
+      zeros = ap (λ (x : ℕ). leadingZeros 64 x + suc (t .0)) s ∙ t .1;
+      low-bound = t .2;
+      high-bound = t .3;
+      same = s;
+      few = lt-of-not-le (λ (g : 52 ≤ t .0). not-le-of-lt (small b e) (le-trans (pow-mono g) (t .2)));
+    }
   where
     small : (b : ℕ) → b / 0x10_0000_0000_0000 ≡ 0 → b < 2 ^ 52
     small b e = omega arith
@@ -159,7 +168,8 @@ positive b m p B N =
     let v = has-value b B in
     record {
       held = among-of binary64 (ofBits binary64 b) (v .0) (ofBits-fits binary64 b) (v .1);
-      above = first-above-zero (amount binary64 (ofBits binary64 b)) (2 ^ low binary64) (subst (λ (y : ℕ). 0 < y) (N .value) (mul-pos (lt-of-lt-of-le (zero-lt-suc 0) (le-trans (pow-pos 52) (N .lead))) (pow-pos p)));
+      above = first-above-zero (amount binary64 (ofBits binary64 b)) (2 ^ low binary64)
+          (subst (λ (y : ℕ). 0 < y) (N .value) (mul-pos (lt-of-lt-of-le (zero-lt-suc 0) (le-trans (pow-pos 52) (N .lead))) (pow-pos p)));
     }
 
 pub positive-pattern : (b : ℕ) → 0 < b → b < 0x7ff0_0000_0000_0000 → Positive b

@@ -11,7 +11,9 @@ use mathlib.Core.Path.{_≡_, refl, sym, ap, _∙_, subst}
 use mathlib.Core.Logic.{_⊎_, inl, inr}
 use mathlib.Core.Bool.{false}
 use Prim.Native.Nat.{ℕ, zero, suc, _+_, _-_, _*_, _/_, _%_, _^_, _≤_, _<_, min}
-use native.Mathlib.Nat.{le-trans, le-of-eq, le-of-lt, le-antisymm, le-add-right, lt-of-lt-of-le, lt-of-le-of-lt, lt-of-not-le, lt-irrefl, zero-lt-suc, mul-comm, mul-assoc, mul-left-comm, one-mul, suc-mul, add-mul, mul-pos, mul-le-mul-left, mul-le-mul-right, lt-of-mul-lt-mul-right, mul-lt-mul-of-pos-right, pow-succ', le-div-iff-mul-le, div-lt-iff-lt-mul, eq-or-lt-of-le}
+use native.Mathlib.Nat.{le-trans, le-of-eq, le-of-lt, le-antisymm, le-add-right, lt-of-lt-of-le, lt-of-le-of-lt, lt-of-not-le, lt-irrefl, zero-lt-suc}
+use native.Mathlib.Nat.{mul-comm, mul-assoc, mul-left-comm, one-mul, suc-mul, add-mul, mul-pos, mul-le-mul-left, mul-le-mul-right}
+use native.Mathlib.Nat.{lt-of-mul-lt-mul-right, mul-lt-mul-of-pos-right, pow-succ', le-div-iff-mul-le, div-lt-iff-lt-mul, eq-or-lt-of-le}
 use native.Mathlib.Omega.{arith}
 use native.Mathlib.Decide.{decLe}
 use lib.Dec.{T}
@@ -60,7 +62,9 @@ round-scaled f a c h lo hi =
     let D : 0 < d = mul-pos (zero-lt-suc 1) (pow-pos (low f)) in
     let e : n * 2 ≡ a * 2 ^ h * d = mul-assoc (a * 2 ^ h) l 2 ∙ ap (λ (x : ℕ). a * 2 ^ h * x) (mul-comm l 2) in
     let q : n / d ≡ a * 2 ^ h / 2 = div-same n d (a * 2 ^ h) 2 D (zero-lt-suc 1) e in
-    let lo′ : 2 ^ (p + c + h) * 2 ≤ a * 2 ^ h = le-trans (le-of-eq (mul-comm (2 ^ (p + c + h)) 2 ∙ ap (λ (x : ℕ). 2 * x) (pow-add 2 (p + c) h) ∙ sym (mul-assoc 2 (2 ^ (p + c)) (2 ^ h)))) (mul-le-mul-right (2 ^ h) lo) in
+    let lo′ : 2 ^ (p + c + h) * 2 ≤ a * 2 ^ h = le-trans
+    (le-of-eq (mul-comm (2 ^ (p + c + h)) 2 ∙ ap (λ (x : ℕ). 2 * x) (pow-add 2 (p + c) h) ∙ sym (mul-assoc 2 (2 ^ (p + c)) (2 ^ h))))
+    (mul-le-mul-right (2 ^ h) lo) in
     let hi′ : a * 2 ^ h < 2 ^ suc (p + c + h) * 2 =
     lt-of-lt-of-le (mul-lt-mul-of-pos-right hi (pow-pos h))
     (le-of-eq (mul-assoc 2 (2 ^ (p + suc c)) (2 ^ h) ∙ ap (λ (x : ℕ). 2 * x) (sym (pow-add 2 (p + suc c) h)) ∙ mul-comm 2 (2 ^ (p + suc c + h)) ∙ ap (λ (x : ℕ). 2 ^ x * 2) (same p c h))) in
@@ -70,7 +74,8 @@ round-scaled f a c h lo hi =
     round-is f false (a * 2 ^ h) d
     ∙ ap (λ (x : ℕ). units f false (closest n (d * 2 ^ x)) x) k
     ∙ ap (λ (x : ℕ). units f false x (suc c + h))
-    (closest-same n (d * 2 ^ (suc c + h)) a (2 * 2 ^ suc c) (mul-pos D (pow-pos (suc c + h))) (mul-pos (zero-lt-suc 1) (pow-pos (suc c))) (cross a (2 ^ h) l (2 ^ suc c) (2 ^ (suc c + h)) (pow-add 2 (suc c) h)))
+    (closest-same n (d * 2 ^ (suc c + h)) a (2 * 2 ^ suc c) (mul-pos D (pow-pos (suc c + h))) (mul-pos (zero-lt-suc 1) (pow-pos (suc c)))
+    (cross a (2 ^ h) l (2 ^ suc c) (2 ^ (suc c + h)) (pow-add 2 (suc c) h)))
   where
     same : (p c h : ℕ) → p + suc c + h ≡ suc (p + c + h)
     same p c h = omega arith
@@ -260,9 +265,11 @@ two-at-least p h = pow-mono (one p h)
 fine : (f : Format) (s r h n : ℕ) → n < 2 ^ (suc (emax f) + low f) → (s * s + r) * 2 ^ (h + h) ≡ n * 2 ^ low f → s * 2 ^ h < 2 ^ (low f + emax f)
 fine f s r h n l e =
     less-of-squares (s * 2 ^ h) (2 ^ (low f + emax f))
-    (lt-of-le-of-lt (le-trans (le-of-eq (square-mul s (2 ^ h))) (le-trans (mul-le-mul-right (2 ^ h * 2 ^ h) (le-add-right (s * s) r)) (le-of-eq (ap (λ (x : ℕ). (s * s + r) * x) (sym (pow-add 2 h h)) ∙ e))))
+    (lt-of-le-of-lt (le-trans (le-of-eq (square-mul s (2 ^ h)))
+    (le-trans (mul-le-mul-right (2 ^ h * 2 ^ h) (le-add-right (s * s) r)) (le-of-eq (ap (λ (x : ℕ). (s * s + r) * x) (sym (pow-add 2 h h)) ∙ e))))
     (lt-of-lt-of-le (mul-lt-mul-of-pos-right l (pow-pos (low f)))
-    (le-trans (le-of-eq (sym (pow-add 2 (suc (emax f) + low f) (low f)))) (le-trans (pow-mono (room (prec f) (emax f) (low f) (two f) (reach f))) (le-of-eq (pow-add 2 (low f + emax f) (low f + emax f)))))))
+    (le-trans (le-of-eq (sym (pow-add 2 (suc (emax f) + low f) (low f))))
+    (le-trans (pow-mono (room (prec f) (emax f) (low f) (two f) (reach f))) (le-of-eq (pow-add 2 (low f + emax f) (low f + emax f)))))))
   where
     room : (p e l : ℕ) → 2 ≤ p → p ≤ suc e → suc e + l + l ≤ l + e + (l + e)
     room p e l a b = omega arith
@@ -308,7 +315,9 @@ result f x a X P =
     let qD : q * D ≤ s = omega (arith, K .not-above, mul-le-mul-right D G) in
     let over : q * 2 ^ k < 2 ^ (low f + suc (emax f)) =
     lt-of-le-of-lt (le-of-eq (ap (λ (y : ℕ). q * y) (sym W) ∙ mul-left-comm q 2 (D * E) ∙ ap (λ (y : ℕ). 2 * y) (sym (mul-assoc q D E))))
-    (lt-of-le-of-lt (mul-le-mul-left 2 (mul-le-mul-right E qD)) (subst (λ (y : ℕ). 2 * (s * E) < y) (sym (ap (λ (y : ℕ). 2 ^ y) (last (low f) (emax f)) ∙ pow-succ' 2 (low f + emax f))) (twice-less (s * E) (2 ^ (low f + emax f)) small))) in
+    (lt-of-le-of-lt (mul-le-mul-left 2 (mul-le-mul-right E qD))
+    (subst (λ (y : ℕ). 2 * (s * E) < y) (sym (ap (λ (y : ℕ). 2 ^ y) (last (low f) (emax f)) ∙ pow-succ' 2 (low f + emax f)))
+    (twice-less (s * E) (2 ^ (low f + emax f)) small))) in
     record { q = q; k = k; around = subst (λ (y : ℕ). Around g q y N) W ar; value = subst (λ (v : Float). HasValue v false (q * 2 ^ k) (2 ^ low f)) (sym is) (units-val f false q k over) }
   where
     shift : (p c : ℕ) → p + suc c ≡ suc (p + c)
@@ -334,7 +343,8 @@ rounded-fits f a = round-fits f false ((2 * a .whole + min (a .rest) 1) * 2 ^ a 
 cleared : (f : Format) (x v : Float) → T (among f x) → (R : Result f (radicand f x) v) → Clear (R .q) (2 ^ R .k) (radicand f x)
 cleared f x v X R =
     let d = digits-of f x X in
-    clear (2 ^ (prec f - 1)) (R .q) (d .digits) (d .power + low f) (R .k) (radicand f x) (two-at-least (prec f) (two f)) (subst (λ (y : ℕ). d .digits < y) (twice-half (prec f) (two f)) (d .few)) (radicand-digits f x d) (R .around)
+    clear (2 ^ (prec f - 1)) (R .q) (d .digits) (d .power + low f) (R .k) (radicand f x) (two-at-least (prec f) (two f))
+    (subst (λ (y : ℕ). d .digits < y) (twice-half (prec f) (two f)) (d .few)) (radicand-digits f x d) (R .around)
 
 half-unit-of : (f : Format) (x v : Float) → T (among f x) → Result f (radicand f x) v → HalfUnit f x v
 half-unit-of f x v X R =
@@ -384,7 +394,8 @@ pub only : (f : Format) (x r t : Float) → Nearest f x r → Nearest f x t → 
 only f x r t a b = go (decLe (amount f r) (amount f t)) (decLe (amount f t) (amount f r))
   where
     same : amount f r ≡ amount f t → r ≡ t
-    same e = same-value f r t false (amount f r) (fits-of f r (a .held)) (fits-of f t (b .held)) (own-amount f r (a .held)) (subst (λ (n : ℕ). HasValue t false n (2 ^ low f)) (sym e) (own-amount f t (b .held)))
+    same e = same-value f r t false (amount f r) (fits-of f r (a .held)) (fits-of f t (b .held)) (own-amount f r (a .held))
+        (subst (λ (n : ℕ). HasValue t false n (2 ^ low f)) (sym e) (own-amount f t (b .held)))
 
     against : (m n k : ℕ) → m * m < k → k < n * n → m ≡ n → ⊥
     against m n k p q e = lt-irrefl (n * n) (subst (λ (z : ℕ). z * z < n * n) e (lt-of-lt-of-le p (le-of-lt q)))

@@ -89,11 +89,13 @@ fields-below (suc x) t h = go (eqb (suc x) 2047) (eqb t 0)
     go : (a b : Bool) → rootless (cond a (cond b (inf true) nan) (odd 53 true (0x10_0000_0000_0000 + t) x 1074)) ≡ true
     go true true = refl
     go true false = refl
-    go false b = below-zero (odd 53 true (0x10_0000_0000_0000 + t) x 1074) ((0x10_0000_0000_0000 + t) * 2 ^ x) (2 ^ 1074) (mul-pos (some t) (pow-pos x)) (odd-sign 53 true (0x10_0000_0000_0000 + t) x 1074)
+    go false b = below-zero (odd 53 true (0x10_0000_0000_0000 + t) x 1074) ((0x10_0000_0000_0000 + t) * 2 ^ x) (2 ^ 1074)
+        (mul-pos (some t) (pow-pos x)) (odd-sign 53 true (0x10_0000_0000_0000 + t) x 1074)
 
 signed : (b : ℕ) → 0x8000_0000_0000_0000 ≤ b → ofBits binary64 b ≡ ofFields binary64 true (b % 0x8000_0000_0000_0000 / 0x10_0000_0000_0000) (b % 0x10_0000_0000_0000)
 unfolding ofBits
-signed b h = ap (λ (s : Bool). ofFields binary64 s (b % 0x8000_0000_0000_0000 / 0x10_0000_0000_0000) (b % 0x10_0000_0000_0000)) (is-true (leb 0x8000_0000_0000_0000 b) (le→leb 0x8000_0000_0000_0000 b h))
+signed b h = ap (λ (s : Bool). ofFields binary64 s (b % 0x8000_0000_0000_0000 / 0x10_0000_0000_0000) (b % 0x10_0000_0000_0000))
+    (is-true (leb 0x8000_0000_0000_0000 b) (le→leb 0x8000_0000_0000_0000 b h))
 
 no-root : (x : Float) → rootless x ≡ true → nan ≡ root binary64 x
 unfolding root rootless
@@ -140,7 +142,9 @@ unfolding ofBits lt rootless
 not-below nan n h = absurd (subst T (sym nan-differs ∙ n) tt)
 not-below (inf s) n h = h
 not-below (fin true zero e) n h = refl
-not-below (fin true (suc m) e) n h = absurd (subst T (sym (is-true (ltb 0 (suc m * up e * 1 + 0 * 1 * down e)) (lt→ltb 0 (suc m * up e * 1 + 0 * 1 * down e) (some (suc m * up e) (0 * 1 * down e) (mul-pos (zero-lt-suc m) (up-pos e))))) ∙ h) tt)
+not-below (fin true (suc m) e) n h = absurd (subst T
+    (sym (is-true (ltb 0 (suc m * up e * 1 + 0 * 1 * down e))
+    (lt→ltb 0 (suc m * up e * 1 + 0 * 1 * down e) (some (suc m * up e) (0 * 1 * down e) (mul-pos (zero-lt-suc m) (up-pos e))))) ∙ h) tt)
   where
     some : (a b : ℕ) → 0 < a → 0 < a * 1 + b
     some a b l = omega arith
@@ -154,7 +158,8 @@ told-value x n h = value-told x (not-below x n h)
 
 -- ---- the patterns that are left are those of finite values above zero, and no such pattern is a NaN's
 
-pub pattern-range : (x : Float) → T (fits binary64 x) → T (not (isNan x)) → toBits binary64 x ≤ 0x8000_0000_0000_0000 → (toBits binary64 x ≡ 0 → ⊥) → (toBits binary64 x ≡ 0x8000_0000_0000_0000 → ⊥) → (toBits binary64 x ≡ 0x7ff0_0000_0000_0000 → ⊥)
+pub pattern-range : (x : Float) → T (fits binary64 x) → T (not (isNan x)) → toBits binary64 x ≤ 0x8000_0000_0000_0000 → (toBits binary64 x ≡ 0 → ⊥)
+    → (toBits binary64 x ≡ 0x8000_0000_0000_0000 → ⊥) → (toBits binary64 x ≡ 0x7ff0_0000_0000_0000 → ⊥)
     → (0 < toBits binary64 x) × (toBits binary64 x < 0x7ff0_0000_0000_0000)
 pattern-range x h n u a b c =
     let p = toBits binary64 x in

@@ -2,7 +2,9 @@
 -- proof need not know what a root is: whatever it computes, if the parts add up and the digits are right, they are those of `apart`. Assumes nothing.
 use mathlib.Core.Path.{_≡_, refl, sym, ap, _∙_, subst}
 use Prim.Native.Nat.{ℕ, suc, _+_, _-_, _*_, _/_, _^_, _≤_, _<_}
-use native.Mathlib.Nat.{le-antisymm, le-add-left, le-of-suc-le-suc, le-trans, le-of-eq, lt-of-not-le, lt-of-lt-of-le, lt-of-le-of-lt, eq-of-mul-eq-mul-right, mul-comm, mul-assoc, one-mul, mul-le-mul-left, mul-le-mul-right, mul-div-cancel, le-div-iff-mul-le, div-lt-iff-lt-mul}
+use native.Mathlib.Nat.{le-antisymm, le-add-left, le-of-suc-le-suc, le-trans, le-of-eq, lt-of-not-le, lt-of-lt-of-le, lt-of-le-of-lt}
+use native.Mathlib.Nat.{eq-of-mul-eq-mul-right, mul-comm, mul-assoc, one-mul, mul-le-mul-left, mul-le-mul-right, mul-div-cancel, le-div-iff-mul-le}
+use native.Mathlib.Nat.{div-lt-iff-lt-mul}
 use native.Mathlib.Omega.{arith}
 use lib.Dec.{T, lit≤}
 use lib.Pow.{pow-add, pow-pos, pow-mono, shl-lt}
@@ -28,7 +30,8 @@ shortened p n m j h few some e far eh =
     let zeros : h + h ≤ j = omega arith in
     let inside : p + p + (h + h) < size n = omega arith in
     let reach : size n ≤ suc p + suc p + (h + h) = omega arith in
-    let c : m * 2 ^ (j - (h + h)) * 2 ^ (h + h) ≡ n = mul-assoc m (2 ^ (j - (h + h))) (2 ^ (h + h)) ∙ ap (λ (x : ℕ). m * x) (sym (pow-add 2 (j - (h + h)) (h + h)) ∙ ap (λ (x : ℕ). 2 ^ x) (back j (h + h) zeros)) ∙ e in
+    let c : m * 2 ^ (j - (h + h)) * 2 ^ (h + h) ≡ n = mul-assoc m (2 ^ (j - (h + h))) (2 ^ (h + h))
+    ∙ ap (λ (x : ℕ). m * x) (sym (pow-add 2 (j - (h + h)) (h + h)) ∙ ap (λ (x : ℕ). 2 ^ x) (back j (h + h) zeros)) ∙ e in
     record {
       exact = ap (λ (x : ℕ). x / 2 ^ (h + h) * 2 ^ (h + h)) (sym c) ∙ ap (λ (x : ℕ). x * 2 ^ (h + h)) (mul-div-cancel (m * 2 ^ (j - (h + h))) (pow-pos (h + h))) ∙ c;
       least = le-div-iff-mul-le (pow-pos (h + h)) .1 (le-trans (le-of-eq (sym (pow-add 2 (p + p) (h + h)))) (size-reaches n (p + p + (h + h)) inside));
@@ -44,7 +47,8 @@ radicand-shortened : (f : Format) (x : Float) → T (among f x) → 0 < amount f
 radicand-shortened f x X P =
     let d = digits-of f x X in
     let some : 0 < d .digits = first-above-zero (d .digits) (2 ^ d .power) (subst (λ (y : ℕ). 0 < y) (amount-digits f x d) P) in
-    shortened (prec f) (radicand f x) (d .digits) (d .power + low f) ((size (radicand f x) - (2 * prec f + 1)) / 2) (d .few) some (radicand-digits f x d) (le-trans (roomy f) (le-add-left (low f) (d .power))) refl
+    shortened (prec f) (radicand f x) (d .digits) (d .power + low f) ((size (radicand f x) - (2 * prec f + 1)) / 2) (d .few) some
+    (radicand-digits f x d) (le-trans (roomy f) (le-add-left (low f) (d .power))) refl
 
 -- ---- its whole root has p + 1 digits
 
@@ -85,7 +89,8 @@ no-less h k a b L lo hi e = le-of-suc-le-suc (lt-of-not-le against)
     against l =
         let d = k - suc h in
         let p : 2 ^ (k + k) ≡ 4 * 2 ^ (d + d) * 2 ^ (h + h) = ap (λ (y : ℕ). 2 ^ y) (sym (join h k l)) ∙ pow-add 2 (2 + (d + d)) (h + h) ∙ ap (λ (y : ℕ). y * 2 ^ (h + h)) (pow-add 2 2 (d + d)) in
-        let q : a ≡ b * (4 * 2 ^ (d + d)) = eq-of-mul-eq-mul-right (2 ^ (h + h)) (pow-pos (h + h)) a (b * (4 * 2 ^ (d + d))) (e ∙ ap (λ (y : ℕ). b * y) p ∙ sym (mul-assoc b (4 * 2 ^ (d + d)) (2 ^ (h + h)))) in
+        let q : a ≡ b * (4 * 2 ^ (d + d)) = eq-of-mul-eq-mul-right (2 ^ (h + h)) (pow-pos (h + h)) a (b * (4 * 2 ^ (d + d)))
+        (e ∙ ap (λ (y : ℕ). b * y) p ∙ sym (mul-assoc b (4 * 2 ^ (d + d)) (2 ^ (h + h)))) in
         let m : 4 * b ≤ a = le-trans (le-of-eq (mul-comm 4 b)) (le-trans (mul-le-mul-left b (four (2 ^ (d + d)) (pow-pos (d + d)))) (le-of-eq (sym q))) in
         clash a b L m lo hi
 
@@ -94,8 +99,11 @@ range : (p n s r : ℕ) → Splits n s r → 2 ^ p ≤ s → s < 2 ^ suc p → (
 range p n s r w lo hi =
     let i = whole-of-splits n s r w in
     let next : s + 1 ≤ 2 ^ suc p = omega arith in
-    let sums : suc p + suc p ≡ 2 + (p + p) = omega arith in
-    (le-trans (le-of-eq (pow-add 2 p p)) (le-trans (square-mono (2 ^ p) s lo) (i .reached)), lt-of-lt-of-le (i .not-passed) (le-trans (square-mono (s + 1) (2 ^ suc p) next) (le-of-eq (sym (pow-add 2 (suc p) (suc p)) ∙ ap (λ (y : ℕ). 2 ^ y) sums ∙ pow-add 2 2 (p + p)))))
+    let sums : suc p + suc p ≡ 2 + (p + p) = omega arith in (
+      le-trans (le-of-eq (pow-add 2 p p)) (le-trans (square-mono (2 ^ p) s lo) (i .reached)),
+      lt-of-lt-of-le (i .not-passed) (le-trans (square-mono (s + 1) (2 ^ suc p) next)
+          (le-of-eq (sym (pow-add 2 (suc p) (suc p)) ∙ ap (λ (y : ℕ). 2 ^ y) sums ∙ pow-add 2 2 (p + p)))),
+    )
 
 one-way : (p h s r k t u : ℕ) → (s * s + r) * 2 ^ (h + h) ≡ (t * t + u) * 2 ^ (k + k) → r ≤ 2 * s → u ≤ 2 * t → 2 ^ p ≤ s → 2 ^ p ≤ t → s < 2 ^ suc p → t < 2 ^ suc p → (h ≡ k) × (s ≡ t) × (r ≡ u)
 one-way p h s r k t u e R U ls lt hs ht =
@@ -113,7 +121,8 @@ one-way p h s r k t u e R U ls lt hs ht =
     cancel : (s t r u : ℕ) → s ≡ t → s * s + r ≡ t * t + u → r ≡ u
     cancel s t r u e f = omega (arith, ap (λ (x : ℕ). x * x) e)
 
-pub apart-is : (f : Format) (x : Float) (h s r : ℕ) → T (among f x) → 0 < amount f x → (s * s + r) * 2 ^ (h + h) ≡ radicand f x → r ≤ 2 * s → 2 ^ prec f ≤ s → s < 2 ^ suc (prec f) → parted h s r ≡ apart f x
+pub apart-is : (f : Format) (x : Float) (h s r : ℕ) → T (among f x) → 0 < amount f x → (s * s + r) * 2 ^ (h + h) ≡ radicand f x → r ≤ 2 * s
+    → 2 ^ prec f ≤ s → s < 2 ^ suc (prec f) → parted h s r ≡ apart f x
 apart-is f x h s r X P e R lo hi =
     let a = apart f x in
     let t = taken-apart f x X P in

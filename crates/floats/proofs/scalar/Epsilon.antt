@@ -1,21 +1,21 @@
 -- The four facts about f64 that the search rests on, E being 1e-12: what is below something is no NaN (real-of-lt); what is below (b - E) is
 -- below -E where b is (below-again); what is below -2E is below (b - E) where b is not below -E (far-below), and below -E (two-eps-below).
 -- Assumes nothing.
-use mathlib.Core.Path.{_≡_, refl, sym, ap, subst, _∙_}
+use mathlib.Core.Path.{_≡_, refl}
 use mathlib.Core.Bool.{Bool, true, false, not, _&&_, _||_, cond}
 use mathlib.Core.Logic.{inl, inr}
 use Prim.Native.Nat.{ℕ, zero, suc, _+_, _-_, _*_, _^_, _≤_, _<_}
-use native.Mathlib.Nat.{le-trans, le-of-eq, lt-of-lt-of-le, mul-assoc, mul-right-comm, mul-le-mul-right, mul-lt-mul-of-pos-right, lt-of-mul-lt-mul-right, mul-pos}
+use native.Mathlib.Nat.{le-of-eq, mul-le-mul-right, mul-lt-mul-of-pos-right, lt-of-mul-lt-mul-right, mul-pos}
 use native.Mathlib.Omega.{arith}
 use lib.Dec.{T, ltb, eqb, ltb→lt, lt→ltb, nltb→le, eqb→eq}
 use lib.IntN.{ℤ}
 use lib.Pow.{pow-pos}
 use lib.Ieee.{Float, fin, inf, nan, add, sub, lt, le, eq, neg, sum, binary64, isNan, round, units, odd, up, down, low, prec, emax, ofBits}
-use lib.Ieee.Fits.{down-pos, round-is}
+use lib.Ieee.Fits.{and-l, down-pos, round-is}
 use lib.Ieee.Order.{round-mono}
 use lib.Ieee.Positive.{first-pos}
 use Rattle.floats.specs.Scalar.{e-12, two-e-12}
-use Rattle.base.proofs.BoolLaws.{or-split}
+use Rattle.base.proofs.BoolLaws.{by-truth, or-split}
 
 pub real-of-lt : (c d : Float) → T (lt c d) → T (not (isNan c))
 unfolding lt isNan
@@ -53,31 +53,23 @@ units-plain q k = pick-plain (ltb (q * 2 ^ k) (2 ^ (low binary64 + suc (emax bin
 
 units-neg : (q k : ℕ) → units binary64 true q k ≡ neg (units binary64 false q k)
 unfolding units
-units-neg q k = pick-neg (ltb (q * 2 ^ k) (2 ^ (low binary64 + suc (emax binary64)))) _ (inf false) _ (inf true) (odd-neg (suc (prec binary64)) q k (low binary64)) (unfold neg in refl)
+units-neg q k =
+    pick-neg (ltb (q * 2 ^ k) (2 ^ (low binary64 + suc (emax binary64)))) _ (inf false) _ (inf true) (odd-neg (suc (prec binary64)) q k (low binary64))
+    (unfold neg in refl)
 
 round-plain : (a b : ℕ) → T (plain (round binary64 false a b))
-round-plain a b = rw (round-is binary64 false a b) (units-plain _ _)
+round-plain a b = rw round-is (units-plain _ _)
 
 round-neg : (a b : ℕ) → round binary64 true a b ≡ neg (round binary64 false a b)
-round-neg a b = rw (round-is binary64 false a b, round-is binary64 true a b) (units-neg _ _)
+round-neg a b = rw (round-is, round-is) (units-neg _ _)
 
 -- ---- the order turned round
-and-left : (p q : Bool) → T (p && q) → T p
-and-left true q t = tt
-and-left false q t = t
-
 le-cross : (a b : ℕ) → T (ltb a b || (eqb a b && true)) → a ≤ b
-le-cross a b t = elim (or-split (ltb a b) (eqb a b && true) t) [ inl u ↦ (let h = ltb→lt a b u in omega arith) | inr u ↦ le-of-eq (eqb→eq a b (and-left (eqb a b) true u)) ]
+le-cross a b t = elim (or-split (ltb a b) (eqb a b && true) t) [ inl u ↦ (let h = ltb→lt a b u in omega arith) | inr u ↦ le-of-eq (eqb→eq a b (and-l (eqb a b) true u)) ]
 
 -- x / p ≤ y / q < z / r
 through : (x y z p q r : ℕ) → 0 < p → x * q ≤ y * p → y * r < z * q → x * r < z * p
-through x y z p q r P h k =
-    lt-of-mul-lt-mul-right q
-    (lt-of-lt-of-le (mathlib-lt (le-trans (le-of-eq (mul-right-comm x r q)) (le-trans (mul-le-mul-right r h) (le-of-eq (mul-right-comm y p r)))) (mul-lt-mul-of-pos-right k P))
-    (le-of-eq (mul-right-comm z q p)))
-  where
-    mathlib-lt : {a b c : ℕ} → a ≤ b → b < c → a < c
-    mathlib-lt {a} {b} {c} u v = omega arith
+through x y z p q r P h k = lt-of-mul-lt-mul-right q (omega (arith, mul-le-mul-right r h, mul-lt-mul-of-pos-right k P))
 
 turn : (x y c : Float) → T (plain x) → T (plain y) → T (le x y) → T (lt c (neg y)) → T (lt c (neg x))
 unfolding le lt eq neg
@@ -101,7 +93,8 @@ turn (fin false m e) (fin false n d) (inf false) p q h k = absurd k
 turn (fin false m e) (fin false n d) (fin false l o) p q h k = absurd k
 turn (fin false m e) (fin false n d) (fin true l o) p q h k =
     lt→ltb (m * up e * down o) (l * up o * down e)
-    (through (m * up e) (n * up d) (l * up o) (down e) (down d) (down o) (down-pos e) (le-cross (m * up e * down d) (n * up d * down e) h) (ltb→lt (n * up d * down o) (l * up o * down d) k))
+    (through (m * up e) (n * up d) (l * up o) (down e) (down d) (down o) (down-pos e)
+    (le-cross (m * up e * down d) (n * up d * down e) h) (ltb→lt (n * up d * down o) (l * up o * down d) k))
 
 eps-round : e-12 ≡ round binary64 false 0x119799812DEA11 (2 ^ 92)
 unfolding round ofBits
@@ -121,17 +114,15 @@ unfolding ofBits
 two-eps-below c k = turn e-12 two-e-12 c tt tt (unfold le lt eq in tt) k
 
 grow : (n A D P : ℕ) → n * (D * P) ≤ (A + n * D) * P
-grow n A D P = le-trans (le-of-eq (sym (mul-assoc n D P))) (mul-le-mul-right P (let h : n * D ≤ A + n * D = omega arith in h))
+grow n A D P = omega arith
 
 twice : (n A D P Q : ℕ) → Q ≡ 2 * P → A ≤ n * D → (A + n * D) * P ≤ n * (D * Q)
-twice n A D P Q e h =
-    le-trans (mul-le-mul-right P (let h' : A + n * D ≤ n * D * 2 = omega arith in h'))
-    (le-of-eq (mul-assoc (n * D) 2 P ∙ ap (λ (z : ℕ). n * D * z) (sym e) ∙ mul-assoc n D Q))
+twice n A D P Q e h = rw e (omega (arith, mul-le-mul-right P h))
 
 less : (n A D P Q : ℕ) → Q ≡ 2 * P → (n * D - A) * P ≤ n * (D * Q)
 less n A D P Q e =
-    le-trans (mul-le-mul-right P (let h' : n * D - A ≤ n * D * 2 = omega arith in h'))
-    (le-of-eq (mul-assoc (n * D) 2 P ∙ ap (λ (z : ℕ). n * D * z) (sym e) ∙ mul-assoc n D Q))
+    let h : n * D - A ≤ n * D = omega arith in
+    rw e (omega (arith, mul-le-mul-right P h))
 
 den-pos : (e : ℤ) → 0 < down e * 2 ^ 92
 den-pos e = mul-pos (down-pos e) (pow-pos 92)
@@ -159,10 +150,12 @@ below-again (inf true) c h k = absurd (nothing-below c (unfold sub add in k))
 below-again (inf false) c h k = absurd h
 below-again (fin false m e) c h k = absurd h
 below-again (fin true m e) c h k =
-    turn e-12 (round binary64 false (m * up e * 2 ^ 92 + 0x119799812DEA11 * down e) (down e * 2 ^ 92)) c tt (round-plain (m * up e * 2 ^ 92 + 0x119799812DEA11 * down e) (down e * 2 ^ 92))
-    (eps-least m e) (subst (λ (z : Float). T (lt c z)) (both-negative m e) k)
+    turn e-12 (round binary64 false (m * up e * 2 ^ 92 + 0x119799812DEA11 * down e) (down e * 2 ^ 92)) c tt
+    (round-plain (m * up e * 2 ^ 92 + 0x119799812DEA11 * down e) (down e * 2 ^ 92))
+    (eps-least m e) (rw both-negative at k)
 
-under-two-e-12 : (c : Float) (a : ℕ) (e : ℤ) → a * 2 ^ 91 ≤ 0x119799812DEA11 * (down e * 2 ^ 92) → T (lt c (neg two-e-12)) → T (lt c (neg (round binary64 false a (down e * 2 ^ 92))))
+under-two-e-12 : (c : Float) (a : ℕ) (e : ℤ) → a * 2 ^ 91 ≤ 0x119799812DEA11 * (down e * 2 ^ 92) → T (lt c (neg two-e-12))
+    → T (lt c (neg (round binary64 false a (down e * 2 ^ 92))))
 unfolding ofBits
 under-two-e-12 c a e h k = turn (round binary64 false a (down e * 2 ^ 92)) two-e-12 c (round-plain a (down e * 2 ^ 92)) tt (two-eps-most a e h) k
 
@@ -188,13 +181,12 @@ far-below nan c r h k = absurd r
 far-below (inf true) c r h k = absurd h
 far-below (inf false) c r h k = unfold sub add in (under-plain c (inf false) tt k)
 far-below (fin true m e) c r h k =
-    subst (λ (z : Float). T (lt c z)) (sym (both-negative m e))
-    (under-two-e-12 c (m * up e * 2 ^ 92 + 0x119799812DEA11 * down e) e
+    rw both-negative (under-two-e-12 c (m * up e * 2 ^ 92 + 0x119799812DEA11 * down e) e
     (twice 0x119799812DEA11 (m * up e * 2 ^ 92) (down e) (2 ^ 91) (2 ^ 92) refl (nltb→le (0x119799812DEA11 * down e) (m * up e * 2 ^ 92) h)) k)
-far-below (fin false m e) c r h k = unfold sub add sum in (by-order (ltb (m * up e * 2 ^ 92) (0x119799812DEA11 * down e)))
-  where
-    by-order : (b : Bool) → T (lt c (cond b (round binary64 true (0x119799812DEA11 * down e - m * up e * 2 ^ 92) (down e * 2 ^ 92)) (round binary64 false (m * up e * 2 ^ 92 - 0x119799812DEA11 * down e) (down e * 2 ^ 92))))
-    by-order true =
-        rw (round-neg (0x119799812DEA11 * down e - m * up e * 2 ^ 92) (down e * 2 ^ 92))
-        (under-two-e-12 c (0x119799812DEA11 * down e - m * up e * 2 ^ 92) e (less 0x119799812DEA11 (m * up e * 2 ^ 92) (down e) (2 ^ 91) (2 ^ 92) refl) k)
-    by-order false = under-plain c (round binary64 false (m * up e * 2 ^ 92 - 0x119799812DEA11 * down e) (down e * 2 ^ 92)) (round-plain (m * up e * 2 ^ 92 - 0x119799812DEA11 * down e) (down e * 2 ^ 92)) k
+far-below (fin false m e) c r h k =
+    unfold sub add sum in (by-truth (ltb (m * up e * 2 ^ 92) (0x119799812DEA11 * down e))
+    (λ t. rw (t, round-neg)
+    (under-two-e-12 c (0x119799812DEA11 * down e - m * up e * 2 ^ 92) e (less 0x119799812DEA11 (m * up e * 2 ^ 92) (down e) (2 ^ 91) (2 ^ 92) refl) k))
+    (λ t. rw t
+    (under-plain c (round binary64 false (m * up e * 2 ^ 92 - 0x119799812DEA11 * down e) (down e * 2 ^ 92))
+    (round-plain (m * up e * 2 ^ 92 - 0x119799812DEA11 * down e) (down e * 2 ^ 92)) k)))

@@ -1,6 +1,6 @@
 -- What the tests of `is_finite`, `abs` and `same_bits` say of a value. Assumes nothing.
-use mathlib.Core.Path.{_≡_, refl, sym, _∙_, ap}
-use mathlib.Core.Bool.{Bool, true, false, true≢false, not, _&&_}
+use mathlib.Core.Path.{_≡_, refl, sym, _∙_}
+use mathlib.Core.Bool.{true, false, true≢false, not}
 use Prim.Native.Nat.{ℕ, zero, suc, _*_, _+_, _^_, _<_, _≤_}
 use native.Mathlib.Nat.{mul-pos, pow-suc, one-mul, mul-one, zero-mul}
 use native.Mathlib.Omega.{arith}
@@ -11,6 +11,7 @@ use lib.Pow.{pow-pos}
 use lib.Ieee.{Float, nan, inf, fin, binary64, ofBits, toBits, neg, lt, eq, isNan, up, down, fits}
 use lib.Ieee.Bits.{ofBits-toBits}
 use lib.Ieee.Fits.{up-pos}
+use Rattle.base.proofs.BoolLaws.{by-truth}
 use Rattle.floats.specs.Scalar.{nought, is-finite, float-abs}
 
 -- ---- between the infinities
@@ -33,17 +34,13 @@ outside (fin s m e) h = sym h
 pub impossible : {A : Type 0} → false ≡ true → A
 impossible h = absurd (true≢false (sym h))
 
-and-true-l : (a b : Bool) → a && b ≡ true → a ≡ true
-and-true-l true b h = refl
-and-true-l false b h = h
-
 pow-two : (k : ℕ) → 2 ^ suc k ≡ 1 → ⊥
 pow-two k h = let p : 2 ^ suc k ≡ 2 ^ k * 2 = pow-suc 2 k in omega (arith, pow-pos k)
 
 -- 0 * 2 ^ e compares equal to 0
 at-zero : (e : ℤ) → eq (fin true 0 e) nought ≡ true
 unfolding eq ofBits
-at-zero e = simp (zero-mul (up e), zero-mul (down e))
+at-zero e = simp zero-mul
 
 -- m * 2 ^ e is zero only where m is
 no-zero : (m : ℕ) (e : ℤ) → suc m * up e * 1 ≤ 0 → ⊥
@@ -79,10 +76,11 @@ pub abs-zero : (x : Float) → T (fits binary64 x) → eq x nought ≡ true → 
 unfolding eq ofBits fits float-abs
 abs-zero nan f h = impossible h
 abs-zero (inf s) f h = impossible h
-abs-zero (fin s zero e) f h = ap (λ (z : ℤ). fin false 0 z) (sym (zero-exp e f))
+abs-zero (fin s zero e) f h = rw (← (zero-exp e f))
 abs-zero (fin s (suc m) e) f h =
-    let p : suc m * up e * 1 ≡ 0 * down e = eqb-true _ _ (and-true-l _ _ h) in
-    absurd (no-zero m e (omega (arith, p, zero-mul (down e))))
+    by-truth (eqb (suc m * up e * 1) (0 * down e))
+    (λ t. absurd (no-zero m e (omega (arith, eqb-true (suc m * up e * 1) (0 * down e) t, zero-mul (down e)))))
+    (λ t. impossible (rw t at h))
 
 pub abs-above : (x : Float) → lt x nought ≡ false → eq x nought ≡ false → x ≡ float-abs x
 unfolding lt eq ofBits float-abs
@@ -113,4 +111,4 @@ right-not-nan x (inf s) h = tt
 right-not-nan x (fin s m e) h = tt
 
 pub by-bits : (x y : Float) → T (fits binary64 x) → T (fits binary64 y) → toBits binary64 x ≡ toBits binary64 y → x ≡ y
-by-bits x y f g e = sym (ofBits-toBits binary64 x f) ∙ ap (ofBits binary64) e ∙ ofBits-toBits binary64 y g
+by-bits x y f g e = rw (← (ofBits-toBits binary64 x f), e, ofBits-toBits)

@@ -1,6 +1,7 @@
--- The order of floats. Where neither is a NaN, `le` is the opposite of `lt` the other way round; so a value that lies between two bounds is finite, and `le` goes on from one pair to the next. Assumes nothing.
-use mathlib.Core.Path.{_≡_, refl, sym, ap, _∙_}
-use mathlib.Core.Bool.{Bool, true, false, not, _&&_, _||_, true≢false}
+-- The order of floats. Where neither is a NaN, `le` is the opposite of `lt` the other way round; so a value that lies between two bounds is finite,
+-- and `le` goes on from one pair to the next. Assumes nothing.
+use mathlib.Core.Path.{_≡_, refl, sym, _∙_}
+use mathlib.Core.Bool.{Bool, true, false, not, _&&_, _||_, and-true, or-not-self, Bool·not-not}
 use Prim.Native.Nat.{ℕ, zero, suc, _*_, _+_, _<_, _≤_}
 use native.Mathlib.Nat.{mul-pos, zero-mul, add-comm}
 use native.Mathlib.Omega.{arith}
@@ -10,6 +11,7 @@ use lib.Ieee.{Float, nan, inf, fin, binary64, ofBits, add, neg, lt, le, below, l
 use lib.Ieee.Fits.{down-pos}
 use lib.Ieee.Positive.{through}
 use Rattle.floats.specs.Scalar.{nought, one, e-9, is-finite, is-positive, in-unit}
+use Rattle.base.proofs.BoolLaws.{by-truth}
 use Rattle.floats.proofs.scalar.Laws.{impossible}
 
 -- ---- `le` against `lt`
@@ -20,9 +22,9 @@ at-most a b same yes-same no-same = go (ltb b a) (ltb a b) refl refl
   where
     go : (x y : Bool) → ltb b a ≡ x → ltb a b ≡ y → y || (same && true) ≡ not x
     go true true e f = let h = ltb-true b a e in let k = ltb-true a b f in absurd (omega arith)
-    go true false e f = let h = ltb-true b a e in ap (λ (z : Bool). z && true) (no-same (λ z. omega arith))
+    go true false e f = let h = ltb-true b a e in rw (no-same (λ z. omega arith))
     go false true e f = refl
-    go false false e f = let h = ltb-false b a e in let k = ltb-false a b f in ap (λ (z : Bool). z && true) (yes-same (omega arith))
+    go false false e f = let h = ltb-false b a e in let k = ltb-false a b f in rw (yes-same (omega arith))
 
 both-zero : (a b : ℕ) → eqb a b && eqb a 0 ≡ not (ltb 0 (b + a))
 both-zero a b = go (ltb 0 (b + a)) (eqb a b) refl refl
@@ -32,14 +34,10 @@ both-zero a b = go (ltb 0 (b + a)) (eqb a b) refl refl
     go true false e f = refl
     go false y e f = let h = ltb-false 0 (b + a) e in simp (sym f, eq-eqb a b (omega arith), eq-eqb a 0 (omega arith))
 
-either : (p : Bool) → p || not p ≡ true
-either true = refl
-either false = refl
-
 with-signs : (s t : Bool) (a b : ℕ) → below s a t b || level s a t b ≡ not (below t b s a)
 with-signs false false a b = at-most a b (eqb a b) (eq-eqb a b) (ne-eqb a b)
 with-signs false true a b = both-zero a b
-with-signs true false a b = ap (λ (p : Bool). ltb 0 (a + b) || p) (both-zero a b ∙ ap (λ (n : ℕ). not (ltb 0 n)) (add-comm b a)) ∙ either (ltb 0 (a + b))
+with-signs true false a b = rw (both-zero, add-comm, or-not-self)
 with-signs true true a b = at-most b a (eqb a b) (λ e. eq-eqb a b (sym e)) (λ n. ne-eqb a b (λ e. n (sym e)))
 
 order : (x y : Float) → isNan x ≡ false → isNan y ≡ false → le x y ≡ not (lt y x)
@@ -69,9 +67,7 @@ between x (fin s m e) (inf t) h k = impossible k
 between nan (fin s m e) (fin t n d) h k = refl
 between (inf true) (fin s m e) (fin t n d) h k = refl
 between (inf false) (fin s m e) (fin t n d) h k = refl
-between (fin u l g) (fin s m e) (fin t n d) h k =
-    ap (λ (p : Bool). p && le (fin u l g) (fin t n d)) (order (fin s m e) (fin u l g) refl refl)
-    ∙ ap (λ (p : Bool). not (lt (fin u l g) (fin s m e)) && p) (order (fin u l g) (fin t n d) refl refl)
+between (fin u l g) (fin s m e) (fin t n d) h k = rw (order, order)
 
 -- finite, and not at or below a
 above : (x a : Float) → is-finite a ≡ true → lt a x && lt x (inf false) ≡ is-finite x && not (le x a)
@@ -81,20 +77,16 @@ above x (inf s) h = impossible h
 above nan (fin s m e) h = refl
 above (inf true) (fin s m e) h = refl
 above (inf false) (fin s m e) h = refl
-above (fin u l g) (fin s m e) h = go (lt (fin s m e) (fin u l g)) (le (fin u l g) (fin s m e)) (order (fin u l g) (fin s m e) refl refl)
-  where
-    go : (p q : Bool) → q ≡ not p → p && true ≡ not q
-    go true q e = sym (ap not e)
-    go false q e = sym (ap not e)
+above (fin u l g) (fin s m e) h = rw (order (fin u l g) (fin s m e) refl refl, and-true, Bool·not-not)
 
 -- as the code tests both: p is what the first comparison gives
 pub positive-by : (x : Float) (p : Bool) → lt nought x ≡ p → p && lt x (ofBits binary64 0x7ff0_0000_0000_0000) ≡ is-positive x
 unfolding is-positive ofBits
-positive-by x p e = ap (λ (q : Bool). q && lt x (inf false)) (sym e) ∙ above x nought refl
+positive-by x p e = rw (← e, above)
 
 pub unit-by : (x : Float) (p : Bool) → le (neg e-9) x ≡ p → p && le x (add binary64 one e-9) ≡ in-unit x
 unfolding in-unit ofBits
-unit-by x p e = ap (λ (q : Bool). q && le x (add binary64 one e-9)) (sym e) ∙ between x (neg e-9) (add binary64 one e-9) refl refl
+unit-by x p e = rw (← e, between)
 
 -- ---- from one pair to the next
 
@@ -103,10 +95,11 @@ nothing zero q Q h = refl
 nothing (suc x) q Q h = let p : 0 < suc x * q = mul-pos (omega arith) Q in absurd (omega arith)
 
 times : (x p : ℕ) → x ≡ 0 → x * p ≡ 0
-times x p e = ap (λ (n : ℕ). n * p) e ∙ zero-mul p
+times x p e = rw (e, zero-mul)
 
 -- x / p, y / q and z / r with their signs: none is above the next
-in-row : (s t u : Bool) (x y z p q r : ℕ) → 0 < p → 0 < q → 0 < r → below t (y * p) s (x * q) ≡ false → below u (z * q) t (y * r) ≡ false → below u (z * p) s (x * r) ≡ false
+in-row : (s t u : Bool) (x y z p q r : ℕ) → 0 < p → 0 < q → 0 < r → below t (y * p) s (x * q) ≡ false → below u (z * q) t (y * r) ≡ false
+    → below u (z * p) s (x * r) ≡ false
 in-row false false false x y z p q r P Q R h k = le-ltb (z * p) (x * r) (through x y z p q r Q (ltb-false (y * p) (x * q) h) (ltb-false (z * q) (y * r) k))
 in-row false false true x y z p q r P Q R h k =
     let a = ltb-false (y * p) (x * q) h in
@@ -179,18 +172,10 @@ le-not-lt x y h = let n = le-known x y h in not-true (lt y x) (sym (order x y (n
 pub le-le : (x y z : Float) → le x y ≡ true → le y z ≡ true → le x z ≡ true
 le-le x y z h k =
     let n = le-known x y h in
-    order x z (n .0) (le-known y z k .1) ∙ ap not (not-below x y z (n .1) (le-not-lt x y h) (le-not-lt y z k))
+    rw (order x z (n .0) (le-known y z k .1), not-below x y z (n .1) (le-not-lt x y h) (le-not-lt y z k))
 
 pub lt-le : (x y z : Float) → lt x y ≡ true → le y z ≡ true → lt x z ≡ true
-lt-le x y z h k = go (lt x z) refl
-  where
-    go : (b : Bool) → lt x z ≡ b → b ≡ true
-    go true e = refl
-    go false e = absurd (true≢false (sym h ∙ not-below y z x (le-known y z k .1) (le-not-lt y z k) e))
+lt-le x y z h k = by-truth (lt x z) (λ e. e) (λ e. impossible (sym (not-below y z x (le-known y z k .1) (le-not-lt y z k) e) ∙ h))
 
 pub lt-not-le : (x y : Float) → lt x y ≡ true → le y x ≡ false
-lt-not-le x y h = go (le y x) refl
-  where
-    go : (b : Bool) → le y x ≡ b → b ≡ false
-    go true e = absurd (true≢false (sym h ∙ le-not-lt y x e))
-    go false e = refl
+lt-not-le x y h = by-truth (le y x) (λ e. impossible (sym (le-not-lt y x e) ∙ h)) (λ e. e)

@@ -14,6 +14,13 @@ pub record Splits (n s r : ℕ) : Type 0 where
   pub sum : s * s + r ≡ n
   pub small : r ≤ 2 * s
 
+-- what a step of Newton's iteration is given: a number whose root has 27 digits, and a guess
+pub record NewtonGiven (n r : ℕ) : Type 0 where
+  pub lead : 2 ^ 52 ≤ n
+  pub full : n < 2 ^ 54
+  pub high : 2 ^ 25 ≤ r
+  pub near : r ≤ 2 ^ 29
+
 -- s is not below the whole root of n, which has 27 digits, and not far above
 pub record NotBelow (n s : ℕ) : Type 0 where
   pub not-passed : n < (s + 1) * (s + 1)
@@ -27,6 +34,12 @@ pub record Normal (b m p : ℕ) : Type 0 where
   pub low : 1022 ≤ p
   pub high : p ≤ 3119
   pub value : m * 2 ^ p ≡ radicand binary64 (ofBits binary64 b)
+
+-- what is rounded: a whole part s of just 54 digits, at an exponent h
+pub record RoundingGiven (h s : ℕ) : Type 0 where
+  pub lead : 2 ^ 53 ≤ s
+  pub full : s < 2 ^ 54
+  pub reach : h ≤ 2000
 
 -- the exact root of the float with the bits b, taken apart, with a whole part of just 54 digits
 pub record Taken (b h s r : ℕ) : Type 0 where

@@ -1,5 +1,5 @@
 -- A record taken out of an accepted list has the sides that it has there, for any number p of places. Assumes nothing.
-use mathlib.Core.Path.{_≡_, refl, ap, subst, _∙_}
+use mathlib.Core.Path.{_≡_, refl}
 use mathlib.Core.List.{List, [], _∷_}
 use Prim.Native.Nat.{ℕ, zero, suc, _+_, _*_, _≤_, _<_}
 use native.Mathlib.Nat.{zero-mul, suc-mul, mul-le-mul-right}
@@ -22,27 +22,25 @@ part-of-front (suc i) m (suc n) (x ∷ l) h = part-of-front i m n l (omega arith
 
 -- side k lies within its record
 within-record : (p k : ℕ) → k < 4 → k * side-size p + side-size p ≤ record-size p
-within-record p k h = subst (λ (n : ℕ). n ≤ record-size p) (suc-mul k (side-size p)) (mul-le-mul-right (side-size p) h)
+within-record p k h = rw suc-mul at (mul-le-mul-right (side-size p) h)
 
 side-of-record : (p : ℕ) (l : List ℕ) (k : ℕ) → k < 4 → getD l (k * side-size p) 0 ≤ p → side p (take (record-size p) l) k ≡ side p l k
 side-of-record p l k h few =
     let at = k * side-size p in
     let w = within-record p k h in
-    ap (λ (m : ℕ). take m (drop (suc at) (take (record-size p) l))) (getD-take (record-size p) l at 0 (omega (arith, w)))
-    ∙ part-of-front (suc at) (getD l at 0) (record-size p) l (omega (arith, w, few))
+    rw (getD-take (record-size p) l at 0 (omega (arith, w)), part-of-front (suc at) (getD l at 0) (record-size p) l (omega (arith, w, few)))
 
 -- no side of record r has more edges than places
 few-at : (p m : ℕ) (l : List ℕ) → T (sides-fit p m l) → (r : ℕ) → r < m → (k : ℕ) → k < 4 → getD (from-region p l r) (k * side-size p) 0 ≤ p
 few-at p zero l t r h k b = absurd (omega arith)
-few-at p (suc m) l t zero h k b = rw (zero-mul (record-size p)) (side-few p m l t k b)
-few-at p (suc m) l t (suc r) h k b =
-    subst (λ (x : List ℕ). getD x (k * side-size p) 0 ≤ p) behind (few-at p m (drop (record-size p) l) (sides-rest p m l t) r (omega arith) k b)
+few-at p (suc m) l t zero h k b = rw zero-mul (side-few p m l t k b)
+few-at p (suc m) l t (suc r) h k b = rw behind at (few-at p m (drop (record-size p) l) (sides-rest p m l t) r (omega arith) k b)
   where
     e : record-size p + r * record-size p ≡ suc r * record-size p
     e = let q = suc-mul r (record-size p) in omega (arith, q)
 
     behind : from-region p (drop (record-size p) l) r ≡ from-region p l (suc r)
-    behind = drop-drop (r * record-size p) (record-size p) l ∙ ap (λ (i : ℕ). drop i l) e
+    behind = rw (drop-drop, e)
 
 pub same-sides : (p n : ℕ) (regions : List ℕ) → T (accepted p n regions) → (r : ℕ) → r < region-count p regions
     → (k : ℕ) → k < 4 → side p (take (record-size p) (from-region p regions r)) k ≡ side p (from-region p regions r) k

@@ -22,12 +22,6 @@ shl-m c = omega (arith, lead c .zeros, lead c .few)
 sub-p : tie.Need-sub-p
 sub-p c = omega (arith, lead c .zeros, lead c .few)
 
-add-m : tie.Need-add-m
-add-m c = search needs
-
-add-p : tie.Need-add-p
-add-p c = search needs
-
 returns : tie.Need-returns
 returns c = subnormal-digits (c .before .args .b) (c .before .args .b % 0x10_0000_0000_0000) (leadingZeros 64 (c .before .args .b % 0x10_0000_0000_0000)) (lead c)
 
@@ -35,4 +29,4 @@ returns-2 : tie.Need-returns-2
 returns-2 c = normal-digits (c .before .args .b) (c .before .pre .1) (c .if1 .left)
 
 pub digits-of-spec : {M : Type 1} → statement M
-digits-of-spec = tie.close (tie.spec sub-z cast-z shl-m sub-p add-m add-p returns returns-2)
+digits-of-spec = tie.close (tie.spec sub-z cast-z shl-m sub-p (λ c. search needs) (λ c. search needs) returns returns-2)

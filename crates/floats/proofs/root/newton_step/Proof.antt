@@ -5,14 +5,11 @@ use Rattle.floats.proofs.root.Newton.{newton-above}
 use Rattle.floats.proofs.root.newton_step.Statement.{statement}
 use Rattle.floats.proofs.root.newton_step.Tie as tie
 
-div-result : tie.Need-div-result
-div-result c = omega arith
-
 add-result : tie.Need-add-result
 add-result c = omega (arith, div-le-self (c .args .n) (c .args .r))
 
 returns : tie.Need-returns
-returns c = newton-above (c .args .n) (c .args .r) (c .pre .0) (c .pre .1) (c .pre .2) (c .pre .3)
+returns c = newton-above (c .args .n) (c .args .r) (c .pre .lead) (c .pre .full) (c .pre .high) (c .pre .near)
 
 pub newton-step-spec : {M : Type 1} → statement M
-newton-step-spec = tie.close (tie.spec div-result add-result returns)
+newton-step-spec = tie.close (tie.spec (λ c. omega arith) add-result returns)

@@ -14,13 +14,10 @@ returns c = told-nan (c .before .args .x) (c .if1 .taken)
 returns-2 : tie.Need-returns-2
 returns-2 c = told-below (c .before .before .args .x) (c .if2 .taken)
 
-sqrt-requires : tie.Need-sqrt-requires
-sqrt-requires c κs = search needs
-
 returns-3 : tie.Need-returns-3
 returns-3 c =
     let x = c .before .before .before .args .x in
     ap (λ (y : Float). root-of (Value y)) (c .sqrt .ensures) ∙ told-value x (c .before .before .if1 .left) (c .before .if2 .left)
 
 pub root-spec : {M : Type 1} → statement M
-root-spec = tie.close (tie.spec returns returns-2 sqrt-requires returns-3)
+root-spec = tie.close (tie.spec returns returns-2 (λ c κs. search needs) returns-3)

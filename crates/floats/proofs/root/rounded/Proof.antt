@@ -20,18 +20,6 @@ keeps c =
     (λ w. subst (λ (d : ℕ). Keeps s r d) (sym (w .3)) (keeps-tie s r (w .0 .left) (w .2 .left))))
     (c .if1 .came)
 
-add-d : tie.Need-add-d
-add-d c = search needs
-
-add-d-2 : tie.Need-add-d-2
-add-d-2 c = search needs
-
-add-bits : tie.Need-add-bits
-add-bits c = search needs
-
-mul-bits : tie.Need-mul-bits
-mul-bits c = search needs
-
 add-bits-2 : tie.Need-add-bits-2
 add-bits-2 c = omega (arith, keeps (c .before .before))
 
@@ -42,7 +30,10 @@ returns : tie.Need-returns
 returns c =
     let j = c .before .before in
     let a = j .before .args .a in
-    rounded-bits (a .exponent) (a .whole) (a .rest) (j .if1 .d) (j .before .pre .0) (j .before .pre .1) (j .before .pre .2) (keeps j)
+    rounded-bits (a .exponent) (a .whole) (a .rest) (j .if1 .d) (j .before .pre .lead) (j .before .pre .full) (j .before .pre .reach) (keeps j)
 
 pub rounded-spec : {M : Type 1} → statement M
-rounded-spec = tie.close (tie.spec add-d add-d-2 add-bits mul-bits add-bits-2 float-from-bits-result returns)
+rounded-spec =
+    tie.close
+    (tie.spec
+    (λ c. search needs) (λ c. search needs) (λ c. search needs) (λ c. search needs) add-bits-2 float-from-bits-result returns)

@@ -13,6 +13,10 @@ Inv-loop n t slope guess r₀ r = (n < (r + 1) * (r + 1)) × (r ≤ 2 ^ 29)
 abbrev μ-loop : tie.MeasureT-loop
 μ-loop n t slope guess r₀ r = r
 
+-- The places that needs look back to, and the ways from one to an earlier one; `search` goes by the types.
+abbrev Entry : Type 0
+Entry = tie.Start Inv-loop μ-loop
+
 -- the one product in the guess: t is below 2 ^ 28, and the slope at most 34558
 abbrev risen : ℕ → ℕ
 risen n = n / 0x400_0000 * (34558 - n / 0x400_0000 * 2608 / 0x400_0000)
@@ -26,12 +30,6 @@ risen-le n h = le-trans (mul-le-mul-left (n / 0x400_0000) (slope (n / 0x400_0000
     part : (n : ℕ) → n < 2 ^ 54 → n / 0x400_0000 ≤ 2 ^ 28
     part n h = omega arith
 
-mul-slope : tie.Need-mul-slope Inv-loop μ-loop
-mul-slope c = omega arith
-
-sub-slope : tie.Need-sub-slope Inv-loop μ-loop
-sub-slope c = omega arith
-
 mul-guess : tie.Need-mul-guess Inv-loop μ-loop
 mul-guess c = omega (arith, risen-le (c .args .n) (c .pre .1))
 
@@ -41,9 +39,6 @@ add-guess c = omega (arith, risen-le (c .args .n) (c .pre .1))
 newton-step-requires : tie.Need-newton-step-requires Inv-loop μ-loop
 newton-step-requires c κs = omega (arith, risen-le (c .args .n) (c .pre .1))
 
-newton-step-requires-2 : tie.Need-newton-step-requires-2 Inv-loop μ-loop
-newton-step-requires-2 c κs = omega arith
-
 loop-holds : tie.Need-loop-holds Inv-loop μ-loop
 loop-holds c = (c .newton-step2 .ensures .not-passed, c .newton-step2 .ensures .near)
 
@@ -51,16 +46,24 @@ mul-loop : tie.Need-mul-loop Inv-loop μ-loop
 mul-loop c = omega (arith, square-mono (c .loop .r) (2 ^ 29) (c .loop .inv .1))
 
 sub-r : tie.Need-sub-r Inv-loop μ-loop
-sub-r c = one-down (c .before .before .before .before .args .n) (c .before .loop .r) (c .loop-test .taken) .0
+sub-r c =
+    let entry : Entry = search in
+    one-down (entry .args .n) (c .before .loop .r) (c .loop-test .taken) .0
 
 loop-less : tie.Need-loop-less Inv-loop μ-loop
 loop-less c = omega (arith, sub-r c)
 
 loop-again : tie.Need-loop-again Inv-loop μ-loop
-loop-again c = (one-down (c .before .before .before .before .args .n) (c .before .loop .r) (c .loop-test .taken) .1, omega arith)
+loop-again c =
+    let entry : Entry = search in
+    (one-down (entry .args .n) (c .before .loop .r) (c .loop-test .taken) .1, omega arith)
 
 returns : tie.Need-returns Inv-loop μ-loop
 returns c = record { reached = c .loop-test .left; not-passed = c .before .loop .inv .0 }
 
 pub short-root-spec : {M : Type 1} → statement M
-short-root-spec = tie.close (tie.spec Inv-loop μ-loop mul-slope sub-slope mul-guess add-guess newton-step-requires newton-step-requires-2 loop-holds mul-loop sub-r loop-less loop-again returns)
+short-root-spec =
+    tie.close
+    (tie.spec
+    Inv-loop μ-loop (λ c. omega arith) (λ c. omega arith) mul-guess add-guess newton-step-requires (λ c κs. omega arith) loop-holds mul-loop
+    sub-r loop-less loop-again returns)

@@ -13,6 +13,10 @@ use Rattle.floats.proofs.root.Patterns.{positive-pattern}
 use Rattle.floats.proofs.root.sqrt.Statement.{statement}
 use Rattle.floats.proofs.root.sqrt.Tie as tie
 
+-- The places that needs look back to, and the ways from one to an earlier one; `search` goes by the types.
+abbrev entry-before-else1 : tie.Else1 → tie.Start
+entry-before-else1 else1 = else1 .before
+
 held : (c : tie.Start) → T (fits binary64 (c .args .x))
 held c = subst T (sym (c .good .0 .1)) tt
 
@@ -34,24 +38,25 @@ returns-2 c =
 
 returns-3 : tie.Need-returns-3
 returns-3 c =
-    let s = c .before .before .before .before .before in
+    let s : tie.Start = search in
     quotient-nan ∙ root-below (s .args .x) (held s) (c .if5 .taken)
 
 take-apart-requires : tie.Need-take-apart-requires
 take-apart-requires c κs =
-    let s = c .before .before .before .before .before in
+    let else1 : tie.Else1 = search in
+    let s = entry-before-else1 else1 in
     let b = toBits binary64 (s .args .x) in
-    pattern-range (s .args .x) (held s) (no-nan (s .args .x) (c .before .before .before .before .if1 .left)) (c .if5 .left)
+    pattern-range (s .args .x) (held s) (no-nan (s .args .x) (else1 .if1 .left)) (c .if5 .left)
     (c .before .before .before .if2 .left) (eqb-false b 0x8000_0000_0000_0000 (c .before .before .if3 .left)) (eqb-false b 0x7ff0_0000_0000_0000 (c .before .if4 .left))
 
 rounded-requires : tie.Need-rounded-requires
 rounded-requires c κs =
     let t = c .take-apart .ensures in
-    (t .lead, t .full, omega (arith, t .reach))
+    record { lead = t .lead; full = t .full; reach = omega (arith, t .reach) }
 
 returns-4 : tie.Need-returns-4
 returns-4 c =
-    let s = c .before .before .before .before .before .before .before in
+    let s : tie.Start = search in
     let x = s .args .x in
     let a = c .before .take-apart in
     let range = take-apart-requires (c .before .before) tt in

@@ -17,9 +17,6 @@ left-over n s = (n - s * s) * 2 ^ 27 % (s * 2)
 facts : (c : tie.After-short-root) → Long (c .before .args .n) (c .short-root .result) (quot (c .before .args .n) (c .short-root .result)) (left-over (c .before .args .n) (c .short-root .result))
 facts c = long (c .before .args .n) (c .short-root .result) (c .before .pre .0) (c .before .pre .1) (c .short-root .ensures)
 
-short-root-requires : tie.Need-short-root-requires
-short-root-requires c κs = search needs
-
 mul-v : tie.Need-mul-v
 mul-v c = omega (arith, c .short-root .ensures .reached)
 
@@ -53,7 +50,9 @@ square-fits c = few-square (quot (c .before .args .n) (c .short-root .result)) (
 mul-if1 : tie.Need-mul-if1
 mul-if1 c = omega (arith, square-fits c)
 
-mended : (c : tie.Joined1) → Mended (c .before .before .args .n) (c .before .short-root .result) (quot (c .before .before .args .n) (c .before .short-root .result)) (left-over (c .before .before .args .n) (c .before .short-root .result)) (c .if1 .over)
+mended : (c : tie.Joined1) → Mended (c .before .before .args .n) (c .before .short-root .result)
+    (quot (c .before .before .args .n) (c .before .short-root .result)) (left-over (c .before .before .args .n) (c .before .short-root .result))
+    (c .if1 .over)
 mended c =
     let b = c .before in
     let n = b .before .args .n in
@@ -76,7 +75,9 @@ mul-back-2 : tie.Need-mul-back-2
 mul-back-2 c = omega (arith, mended (c .before) .bounded, facts (c .before .before) .below, facts (c .before .before) .few)
 
 add-rest : tie.Need-add-rest
-add-rest c = omega (arith, mended (c .before) .bounded, facts (c .before .before) .below, facts (c .before .before) .few, facts (c .before .before) .less)
+add-rest c =
+    let at-short-root = c .before .before in
+    omega (arith, mended (c .before) .bounded, facts at-short-root .below, facts at-short-root .few, facts at-short-root .less)
 
 mul-rest : tie.Need-mul-rest
 mul-rest c = omega (arith, square-fits (c .before .before))
@@ -88,4 +89,8 @@ returns : tie.Need-returns
 returns c = mended (c .before) .splits
 
 pub whole-root-spec : {M : Type 1} → statement M
-whole-root-spec = tie.close (tie.spec short-root-requires mul-v sub-v mul-v-2 mul-d div-q rem-u mul-u mul-t add-t mul-if1 sub-whole mul-back sub-back mul-back-2 add-rest mul-rest sub-rest returns)
+whole-root-spec =
+    tie.close
+    (tie.spec
+    (λ c κs. search needs) mul-v sub-v mul-v-2 mul-d div-q rem-u mul-u mul-t add-t mul-if1 sub-whole mul-back sub-back mul-back-2 add-rest
+    mul-rest sub-rest returns)

@@ -16,10 +16,27 @@ use Rattle.regions.proofs.accept.check_pairs.Statement.{statement}
 use Rattle.regions.proofs.accept.check_pairs.Tie as tie
 
 abbrev Inv-loop : tie.InvT-loop
-Inv-loop regions n m r₀ r = (r ≤ m) × T (sides-fit places (m - r) (drop (r * record-size places) regions)) × (pairs-test places n 0 m regions ≡ pairs-test places n r (m - r) (drop (r * record-size places) regions))
+Inv-loop regions n m r₀ r = (r ≤ m) × T (sides-fit places (m - r) (drop (r * record-size places) regions))
+    × (pairs-test places n 0 m regions ≡ pairs-test places n r (m - r) (drop (r * record-size places) regions))
 
 abbrev μ-loop : tie.MeasureT-loop
 μ-loop regions n m r₀ r = m - r
+
+-- The places that needs look back to, and the ways from one to an earlier one; `search` goes by the types.
+abbrev Entry : Type 0
+Entry = tie.Start Inv-loop μ-loop
+
+abbrev Turn : Type 0
+Turn = tie.At-loop Inv-loop μ-loop
+
+abbrev In-loop : Type 0
+In-loop = tie.In-loop Inv-loop μ-loop
+
+abbrev turn-before-in-loop : In-loop → Turn
+turn-before-in-loop in-loop = in-loop .before
+
+abbrev entry-before-turn : Turn → Entry
+entry-before-turn turn = turn .before .before
 
 loop-holds : tie.Need-loop-holds Inv-loop μ-loop
 loop-holds c =
@@ -29,27 +46,13 @@ loop-holds c =
     let e : m ≡ m - 0 = omega arith in
     (omega arith, subst (λ (k : ℕ). T (sides-fit places k l)) e (whole-sides places l (c .before .pre)), ap (λ (k : ℕ). pairs-test places (a .n) 0 k l) e)
 
-mul-at : tie.Need-mul-at Inv-loop μ-loop
-mul-at c = omega arith
-
 cast-region : tie.Need-cast-region Inv-loop μ-loop
 cast-region c = omega (arith, whole-few places _ (c .before .before .before .pre))
 
-mul-check-region : tie.Need-mul-check-region Inv-loop μ-loop
-mul-check-region c = omega arith
-
-sub-check-region : tie.Need-sub-check-region Inv-loop μ-loop
-sub-check-region c = omega arith
-
-part-check-region-start : tie.Need-part-check-region-start Inv-loop μ-loop
-part-check-region-start c = omega arith
-
-part-check-region-end : tie.Need-part-check-region-end Inv-loop μ-loop
-part-check-region-end c = omega arith
-
 check-region-requires : tie.Need-check-region-requires Inv-loop μ-loop
 check-region-requires c κs =
-    let a = c .before .before .before .before .args in
+    let entry : Entry = search in
+    let a = entry .args in
     let l = now (a .regions) in
     let m : ℕ = length l / record-size places in
     let r = c .before .before .loop .r in
@@ -60,35 +63,38 @@ enum-told c = search needs
 
 returns : tie.Need-returns Inv-loop μ-loop
 returns c =
-    let a = c .before .before .before .before .before .before .before .args in
+    let in-loop : In-loop = search in
+    let turn = turn-before-in-loop in-loop in
+    let entry = entry-before-turn turn in
+    let a = entry .args in
     let l = now (a .regions) in
     let m : ℕ = length l / record-size places in
-    let r = c .before .before .before .before .before .loop .r in
-    let p : outcome (c .before .before .check-region .result) ≡ region-test places (a .n) r (drop (r * record-size places) l) = simp (rest (r * record-size places) l) at (c .before .before .check-region .ensures) in
+    let r = turn .loop .r in
+    let p : outcome (c .before .before .check-region .result) ≡ region-test places (a .n) r (drop (r * record-size places) l) =
+    simp (rest (r * record-size places) l) at (c .before .before .check-region .ensures) in
     let v = region-test places (a .n) r (drop (r * record-size places) l) in
     let w = pairs-test places (a .n) (r + 1) (m - (r + 1)) (drop ((r + 1) * record-size places) l) in
     chain-ends w (c .enum-told .given .1) p
-    ∙ sym (c .before .before .before .before .before .loop .inv .2 ∙ pairs-turn places m r l (c .before .before .before .before .loop-test .taken) (a .n))
-
-enum-told-2 : tie.Need-enum-told-2 Inv-loop μ-loop
-enum-told-2 c = search needs
-
-add-r : tie.Need-add-r Inv-loop μ-loop
-add-r c = omega arith
-
-loop-less : tie.Need-loop-less Inv-loop μ-loop
-loop-less c = omega arith
+    ∙ sym (turn .loop .inv .2 ∙ pairs-turn places m r l (in-loop .loop-test .taken) (a .n))
 
 loop-again : tie.Need-loop-again Inv-loop μ-loop
 loop-again c =
-    let a = c .before .before .before .before .before .before .before .args in
+    let in-loop : In-loop = search in
+    let turn = turn-before-in-loop in-loop in
+    let entry = entry-before-turn turn in
+    let a = entry .args in
     let l = now (a .regions) in
     let m : ℕ = length l / record-size places in
-    let r = c .before .before .before .before .before .loop .r in
-    let p : outcome (c .before .before .check-region .result) ≡ region-test places (a .n) r (drop (r * record-size places) l) = simp (rest (r * record-size places) l) at (c .before .before .check-region .ensures) in
+    let r = turn .loop .r in
+    let p : outcome (c .before .before .check-region .result) ≡ region-test places (a .n) r (drop (r * record-size places) l) =
+    simp (rest (r * record-size places) l) at (c .before .before .check-region .ensures) in
     let v = region-test places (a .n) r (drop (r * record-size places) l) in
-    let w = pairs-test places (a .n) (r + 1) (m - (r + 1)) (drop ((r + 1) * record-size places) l) in
-    (omega arith, sides-after places m r l (c .before .before .before .before .loop-test .taken) (c .before .before .before .before .before .loop .inv .1), c .before .before .before .before .before .loop .inv .2 ∙ pairs-turn places m r l (c .before .before .before .before .loop-test .taken) (a .n) ∙ sym (chain-goes-on (c .enum-told2 .given .1) p))
+    let w = pairs-test places (a .n) (r + 1) (m - (r + 1)) (drop ((r + 1) * record-size places) l) in (
+      omega arith,
+      sides-after places m r l (in-loop .loop-test .taken) (turn .loop .inv .1),
+      turn .loop .inv .2
+          ∙ pairs-turn places m r l (in-loop .loop-test .taken) (a .n) ∙ sym (chain-goes-on (c .enum-told2 .given .1) p),
+    )
 
 returns-2 : tie.Need-returns-2 Inv-loop μ-loop
 unfolding outcome
@@ -103,20 +109,5 @@ pub check-pairs-spec : {M : Type 1} → statement M
 check-pairs-spec =
     tie.close
     (tie.spec
-    Inv-loop
-    μ-loop
-    loop-holds
-    mul-at
-    cast-region
-    mul-check-region
-    sub-check-region
-    part-check-region-start
-    part-check-region-end
-    check-region-requires
-    enum-told
-    returns
-    enum-told-2
-    add-r
-    loop-less
-    loop-again
-    returns-2)
+    Inv-loop μ-loop loop-holds (λ c. omega arith) cast-region (λ c. omega arith) (λ c. omega arith) (λ c. omega arith) (λ c. omega arith)
+    check-region-requires enum-told returns (λ c. search needs) (λ c. omega arith) (λ c. omega arith) loop-again returns-2)

@@ -9,60 +9,42 @@ use Rattle.base.proofs.TestLaws.{chain-ends, chain-goes-on}
 use Rattle.regions.proofs.accept.check_region.Statement.{statement}
 use Rattle.regions.proofs.accept.check_region.Tie as tie
 
-side-requires : tie.Need-side-requires
-side-requires c κs = search needs
-
-side-requires-2 : tie.Need-side-requires-2
-side-requires-2 c κs = search needs
-
-side-requires-3 : tie.Need-side-requires-3
-side-requires-3 c κs = search needs
-
-side-requires-4 : tie.Need-side-requires-4
-side-requires-4 c κs = search needs
-
-check-pair-requires : tie.Need-check-pair-requires
-check-pair-requires c κs = search needs
+-- The places that needs look back to, and the ways from one to an earlier one; `search` goes by the types.
+abbrev entry-before-side4 : tie.After-side4 → tie.Start
+entry-before-side4 at-side4 = search
 
 enum-told : tie.Need-enum-told
 enum-told c = search needs
 
 returns : tie.Need-returns
 returns c =
-    let a = c .before .before .before .before .before .before .before .before .args in
+    let at-side4 = c .before .before .before in
+    let entry = entry-before-side4 at-side4 in
+    let a = entry .args in
     let l = now (a .records) in
     let v = pair-test (a .n) (a .region) 0 2 (side places l 0) (side places l 2) in
     let w = pair-test (a .n) (a .region) 1 3 (side places l 1) (side places l 3) in
-    let p : outcome (c .before .before .check-pair .result) ≡ v = simp (c .before .before .before .before .before .before .side .ensures, c .before .before .before .before .side3 .ensures) at (c .before .before .check-pair .ensures) in
+    let p : outcome (c .before .before .check-pair .result) ≡ v =
+    simp (at-side4 .before .before .before .side .ensures, at-side4 .before .side3 .ensures) at (c .before .before .check-pair .ensures) in
     chain-ends w (c .enum-told .given .1) p
-
-enum-told-2 : tie.Need-enum-told-2
-enum-told-2 c = search needs
-
-check-pair-requires-2 : tie.Need-check-pair-requires-2
-check-pair-requires-2 c κs = search needs
 
 returns-2 : tie.Need-returns-2
 returns-2 c =
-    let a = c .before .before .before .before .before .before .before .before .before .args in
+    let at-side4 : tie.After-side4 = search in
+    let entry = entry-before-side4 at-side4 in
+    let a = entry .args in
     let l = now (a .records) in
     let v = pair-test (a .n) (a .region) 0 2 (side places l 0) (side places l 2) in
     let w = pair-test (a .n) (a .region) 1 3 (side places l 1) (side places l 3) in
-    let p : outcome (c .before .before .before .check-pair .result) ≡ v = simp (c .before .before .before .before .before .before .before .side .ensures, c .before .before .before .before .before .side3 .ensures) at (c .before .before .before .check-pair .ensures) in
-    (simp (c .before .before .before .before .before .before .side2 .ensures, c .before .before .before .before .side4 .ensures) at (c .check-pair2 .ensures))
+    let p : outcome (c .before .before .before .check-pair .result) ≡ v =
+    simp (at-side4 .before .before .before .side .ensures, at-side4 .before .side3 .ensures) at (c .before .before .before .check-pair .ensures)
+    in
+    (simp (at-side4 .before .before .side2 .ensures, at-side4 .side4 .ensures) at (c .check-pair2 .ensures))
     ∙ chain-goes-on (c .before .enum-told2 .given .1) p
 
 pub check-region-spec : {M : Type 1} → statement M
 check-region-spec =
     tie.close
     (tie.spec
-    side-requires
-    side-requires-2
-    side-requires-3
-    side-requires-4
-    check-pair-requires
-    enum-told
-    returns
-    enum-told-2
-    check-pair-requires-2
-    returns-2)
+    (λ c κs. search needs) (λ c κs. search needs) (λ c κs. search needs) (λ c κs. search needs) (λ c κs. search needs) enum-told returns
+    (λ c. search needs) (λ c κs. search needs) returns-2)

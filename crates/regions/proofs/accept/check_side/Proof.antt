@@ -21,14 +21,21 @@ Inv-loop edges n region side i₀ i = side-test n region side [] edges ≡ side-
 abbrev μ-loop : tie.MeasureT-loop
 μ-loop edges n region side i₀ i = length edges - i
 
-loop-holds : tie.Need-loop-holds Inv-loop μ-loop
-loop-holds c = refl
+-- The places that needs look back to, and the ways from one to an earlier one; `search` goes by the types.
+abbrev Entry : Type 0
+Entry = tie.Start Inv-loop μ-loop
 
-mul-e : tie.Need-mul-e Inv-loop μ-loop
-mul-e c = omega arith
+abbrev Turn : Type 0
+Turn = tie.At-loop Inv-loop μ-loop
 
-shared-slice-read-e : tie.Need-shared-slice-read-e Inv-loop μ-loop
-shared-slice-read-e c = omega arith
+abbrev In-loop : Type 0
+In-loop = tie.In-loop Inv-loop μ-loop
+
+abbrev turn-before-in-loop : In-loop → Turn
+turn-before-in-loop in-loop = in-loop .before
+
+abbrev entry-before-turn : Turn → Entry
+entry-before-turn turn = turn .before .before
 
 cast-if1 : tie.Need-cast-if1 Inv-loop μ-loop
 cast-if1 c = omega (arith, c .before .before .before .shared-slice-known .given (c .before .before .loop .i))
@@ -36,42 +43,44 @@ cast-if1 c = omega (arith, c .before .before .before .shared-slice-known .given 
 returns : tie.Need-returns Inv-loop μ-loop
 unfolding outcome verdict-of
 returns c =
-    let a = c .before .before .before .before .before .args in
+    let turn = c .before .before .before in
+    let entry = entry-before-turn turn in
+    let a = entry .args in
     let es = now (a .edges) in
-    let i = c .before .before .before .loop .i in
-    sym (c .before .before .before .loop .inv ∙ side-out-of-range (a .n) (a .region) (a .side) es i (c .before .before .loop-test .taken) (le-ltb (getD es i 0) (a .n) (c .if1 .taken)))
+    let i = turn .loop .i in
+    sym (turn .loop .inv ∙ side-out-of-range (a .n) (a .region) (a .side) es i (c .before .before .loop-test .taken) (le-ltb (getD es i 0) (a .n) (c .if1 .taken)))
 
 slice-aggregate-contains : tie.Need-slice-aggregate-contains Inv-loop μ-loop
 slice-aggregate-contains c =
-    let a = c .before .before .before .before .before .before .args in
+    let turn : Turn = search in
+    let entry = entry-before-turn turn in
+    let a = entry .args in
     let es = now (a .edges) in
-    let i = c .before .before .before .before .loop .i in
+    let i = turn .loop .i in
     sym (length-take-le i es (omega arith))
-
-contains-requires : tie.Need-contains-requires Inv-loop μ-loop
-contains-requires c κs = search needs
 
 returns-2 : tie.Need-returns-2 Inv-loop μ-loop
 unfolding outcome verdict-of
 returns-2 c =
-    let a = c .before .before .before .before .before .before .before .before .args in
+    let in-loop : In-loop = search in
+    let turn = turn-before-in-loop in-loop in
+    let entry = entry-before-turn turn in
+    let a = entry .args in
     let es = now (a .edges) in
-    let i = c .before .before .before .before .before .before .loop .i in
-    sym (c .before .before .before .before .before .before .loop .inv ∙ side-repeated (a .n) (a .region) (a .side) es i (c .before .before .before .before .before .loop-test .taken) (lt-ltb (getD es i 0) (a .n) (c .before .before .before .if1 .left)) (sym (c .before .contains .ensures) ∙ c .if2 .taken))
-
-add-i : tie.Need-add-i Inv-loop μ-loop
-add-i c = omega arith
-
-loop-less : tie.Need-loop-less Inv-loop μ-loop
-loop-less c = omega arith
+    let i = turn .loop .i in
+    sym (turn .loop .inv ∙ side-repeated (a .n) (a .region) (a .side) es i (in-loop .loop-test .taken)
+    (lt-ltb (getD es i 0) (a .n) (c .before .before .before .if1 .left)) (sym (c .before .contains .ensures) ∙ c .if2 .taken))
 
 loop-again : tie.Need-loop-again Inv-loop μ-loop
 loop-again c =
-    let a = c .before .before .before .before .before .before .before .before .args in
+    let in-loop : In-loop = search in
+    let turn = turn-before-in-loop in-loop in
+    let entry = entry-before-turn turn in
+    let a = entry .args in
     let es = now (a .edges) in
-    let i = c .before .before .before .before .before .before .loop .i in
-    c .before .before .before .before .before .before .loop .inv
-    ∙ side-next (a .n) (a .region) (a .side) es i (c .before .before .before .before .before .loop-test .taken) (lt-ltb (getD es i 0) (a .n) (c .before .before .before .if1 .left)) (sym (c .before .contains .ensures) ∙ c .if2 .left)
+    let i = turn .loop .i in
+    turn .loop .inv
+    ∙ side-next (a .n) (a .region) (a .side) es i (in-loop .loop-test .taken) (lt-ltb (getD es i 0) (a .n) (c .before .before .before .if1 .left)) (sym (c .before .contains .ensures) ∙ c .if2 .left)
 
 returns-3 : tie.Need-returns-3 Inv-loop μ-loop
 unfolding outcome
@@ -85,17 +94,5 @@ pub check-side-spec : {M : Type 1} → statement M
 check-side-spec =
     tie.close
     (tie.spec
-    Inv-loop
-    μ-loop
-    loop-holds
-    mul-e
-    shared-slice-read-e
-    cast-if1
-    returns
-    slice-aggregate-contains
-    contains-requires
-    returns-2
-    add-i
-    loop-less
-    loop-again
-    returns-3)
+    Inv-loop μ-loop (λ c. refl) (λ c. omega arith) (λ c. omega arith) cast-if1 returns slice-aggregate-contains (λ c κs. search needs)
+    returns-2 (λ c. omega arith) (λ c. omega arith) loop-again returns-3)

@@ -17,31 +17,22 @@ Inv-loop edges e i₀ i = any (eqb e) edges ≡ any (eqb e) (drop i edges)
 abbrev μ-loop : tie.MeasureT-loop
 μ-loop edges e i₀ i = length edges - i
 
-loop-holds : tie.Need-loop-holds Inv-loop μ-loop
-loop-holds c = refl
-
-mul-if1 : tie.Need-mul-if1 Inv-loop μ-loop
-mul-if1 c = omega arith
-
-shared-slice-read-if1 : tie.Need-shared-slice-read-if1 Inv-loop μ-loop
-shared-slice-read-if1 c = omega arith
+-- The places that needs look back to, and the ways from one to an earlier one; `search` goes by the types.
+abbrev Entry : Type 0
+Entry = tie.Start Inv-loop μ-loop
 
 returns : tie.Need-returns Inv-loop μ-loop
 returns c =
-    let a = c .before .before .before .before .args in
+    let entry : Entry = search in
+    let a = entry .args in
     let es = now (a .edges) in
     let i = c .before .before .before .loop .i in
     sym (member-any (a .e) es ∙ c .before .before .before .loop .inv ∙ any-here es 0 i (eqb (a .e)) (c .before .before .loop-test .taken) (eq-eqb (a .e) (getD es i 0) (c .if1 .taken)))
 
-add-i : tie.Need-add-i Inv-loop μ-loop
-add-i c = omega arith
-
-loop-less : tie.Need-loop-less Inv-loop μ-loop
-loop-less c = omega arith
-
 loop-again : tie.Need-loop-again Inv-loop μ-loop
 loop-again c =
-    let a = c .before .before .before .before .args in
+    let entry : Entry = search in
+    let a = entry .args in
     let es = now (a .edges) in
     let i = c .before .before .before .loop .i in
     c .before .before .before .loop .inv
@@ -57,13 +48,4 @@ pub contains-spec : {M : Type 1} → statement M
 contains-spec =
     tie.close
     (tie.spec
-    Inv-loop
-    μ-loop
-    loop-holds
-    mul-if1
-    shared-slice-read-if1
-    returns
-    add-i
-    loop-less
-    loop-again
-    returns-2)
+    Inv-loop μ-loop (λ c. refl) (λ c. omega arith) (λ c. omega arith) returns (λ c. omega arith) (λ c. omega arith) loop-again returns-2)

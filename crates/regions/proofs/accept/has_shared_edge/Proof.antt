@@ -17,43 +17,40 @@ Inv-loop a b i₀ i = shared-edge a b ≡ shared-edge (drop i a) b
 abbrev μ-loop : tie.MeasureT-loop
 μ-loop a b i₀ i = length a - i
 
-loop-holds : tie.Need-loop-holds Inv-loop μ-loop
-loop-holds c = refl
+-- The places that needs look back to, and the ways from one to an earlier one; `search` goes by the types.
+abbrev Entry : Type 0
+Entry = tie.Start Inv-loop μ-loop
 
-mul-e : tie.Need-mul-e Inv-loop μ-loop
-mul-e c = omega arith
+abbrev Turn : Type 0
+Turn = tie.At-loop Inv-loop μ-loop
 
-shared-slice-read-e : tie.Need-shared-slice-read-e Inv-loop μ-loop
-shared-slice-read-e c = omega arith
-
-contains-requires : tie.Need-contains-requires Inv-loop μ-loop
-contains-requires c κs = search needs
+abbrev entry-before-turn : Turn → Entry
+entry-before-turn turn = turn .before .before .before
 
 returns : tie.Need-returns Inv-loop μ-loop
 returns c =
-    let a = now (c .before .before .before .before .before .before .before .args .a) in
-    let b = now (c .before .before .before .before .before .before .before .args .b) in
-    let i = c .before .before .before .before .loop .i in
-    sym (c .before .before .before .before .loop .inv ∙ any-here a 0 i (λ (e : ℕ). member e b) (c .before .before .before .loop-test .taken) (sym (c .before .contains .ensures) ∙ c .if1 .taken))
-
-add-i : tie.Need-add-i Inv-loop μ-loop
-add-i c = omega arith
-
-loop-less : tie.Need-loop-less Inv-loop μ-loop
-loop-less c = omega arith
+    let turn : Turn = search in
+    let entry = entry-before-turn turn in
+    let a = now (entry .args .a) in
+    let b = now (entry .args .b) in
+    let i = turn .loop .i in
+    sym (turn .loop .inv ∙ any-here a 0 i (λ (e : ℕ). member e b) (c .before .before .before .loop-test .taken) (sym (c .before .contains .ensures) ∙ c .if1 .taken))
 
 loop-again : tie.Need-loop-again Inv-loop μ-loop
 loop-again c =
-    let a = now (c .before .before .before .before .before .before .before .args .a) in
-    let b = now (c .before .before .before .before .before .before .before .args .b) in
-    let i = c .before .before .before .before .loop .i in
-    c .before .before .before .before .loop .inv
+    let turn : Turn = search in
+    let entry = entry-before-turn turn in
+    let a = now (entry .args .a) in
+    let b = now (entry .args .b) in
+    let i = turn .loop .i in
+    turn .loop .inv
     ∙ any-next a 0 i (λ (e : ℕ). member e b) (c .before .before .before .loop-test .taken) (sym (c .before .contains .ensures) ∙ c .if1 .left)
 
 returns-2 : tie.Need-returns-2 Inv-loop μ-loop
 returns-2 c =
-    let a = now (c .before .before .before .before .args .a) in
-    let b = now (c .before .before .before .before .args .b) in
+    let entry : Entry = search in
+    let a = now (entry .args .a) in
+    let b = now (entry .args .b) in
     let i = c .before .loop .i in
     sym (c .before .loop .inv ∙ any-end a 0 i (λ (e : ℕ). member e b) (c .loop-test .left))
 
@@ -61,14 +58,5 @@ pub has-shared-edge-spec : {M : Type 1} → statement M
 has-shared-edge-spec =
     tie.close
     (tie.spec
-    Inv-loop
-    μ-loop
-    loop-holds
-    mul-e
-    shared-slice-read-e
-    contains-requires
-    returns
-    add-i
-    loop-less
-    loop-again
-    returns-2)
+    Inv-loop μ-loop (λ c. refl) (λ c. omega arith) (λ c. omega arith) (λ c κs. search needs) returns (λ c. omega arith) (λ c. omega arith)
+    loop-again returns-2)

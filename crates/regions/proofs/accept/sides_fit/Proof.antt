@@ -14,10 +14,15 @@ use Rattle.regions.proofs.accept.sides_fit.Statement.{statement}
 use Rattle.regions.proofs.accept.sides_fit.Tie as tie
 
 abbrev Inv-loop : tie.InvT-loop
-Inv-loop regions at₀ at = ((length regions - at) % side-size places ≡ 0) × (sides-fit places (region-count places regions) regions ≡ each-fits places ((length regions - at) / side-size places) (drop at regions))
+Inv-loop regions at₀ at = ((length regions - at) % side-size places ≡ 0)
+    × (sides-fit places (region-count places regions) regions ≡ each-fits places ((length regions - at) / side-size places) (drop at regions))
 
 abbrev μ-loop : tie.MeasureT-loop
 μ-loop regions at₀ at = length regions - at
+
+-- The places that needs look back to, and the ways from one to an earlier one; `search` goes by the types.
+abbrev Entry : Type 0
+Entry = tie.Start Inv-loop μ-loop
 
 loop-holds : tie.Need-loop-holds Inv-loop μ-loop
 loop-holds c =
@@ -32,30 +37,20 @@ left l at = (length l - (at + side-size places)) / side-size places
 one-more : (l : List ℕ) (at : ℕ) → at < length l → (length l - at) % side-size places ≡ 0 → (length l - at) / side-size places ≡ suc (left l at)
 one-more l at h w = omega arith
 
-mul-if1 : tie.Need-mul-if1 Inv-loop μ-loop
-mul-if1 c = omega arith
-
-shared-slice-read-if1 : tie.Need-shared-slice-read-if1 Inv-loop μ-loop
-shared-slice-read-if1 c = omega arith
-
 returns : tie.Need-returns Inv-loop μ-loop
 returns c =
-    let l = now (c .before .before .before .before .args .regions) in
+    let entry : Entry = search in
+    let l = now (entry .args .regions) in
     let at = c .before .before .before .loop .at in
     sym
     (c .before .before .before .loop .inv .1
     ∙ ap (λ (k : ℕ). each-fits places k (drop at l)) (one-more l at (c .before .before .loop-test .taken) (c .before .before .before .loop .inv .0))
     ∙ fits-not places (left l at) l at (lt-leb (getD l at 0) places (c .if1 .taken)))
 
-add-at : tie.Need-add-at Inv-loop μ-loop
-add-at c = omega arith
-
-loop-less : tie.Need-loop-less Inv-loop μ-loop
-loop-less c = omega arith
-
 loop-again : tie.Need-loop-again Inv-loop μ-loop
 loop-again c =
-    let l = now (c .before .before .before .before .args .regions) in
+    let entry : Entry = search in
+    let l = now (entry .args .regions) in
     let at = c .before .before .before .loop .at in
     let e = one-more l at (c .before .before .loop-test .taken) (c .before .before .before .loop .inv .0) in (
       omega arith,
@@ -75,13 +70,4 @@ pub sides-fit-spec : {M : Type 1} → statement M
 sides-fit-spec =
     tie.close
     (tie.spec
-    Inv-loop
-    μ-loop
-    loop-holds
-    mul-if1
-    shared-slice-read-if1
-    returns
-    add-at
-    loop-less
-    loop-again
-    returns-2)
+    Inv-loop μ-loop loop-holds (λ c. omega arith) (λ c. omega arith) returns (λ c. omega arith) (λ c. omega arith) loop-again returns-2)

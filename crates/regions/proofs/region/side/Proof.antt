@@ -19,90 +19,42 @@ no-side : (l : List ℕ) (k : ℕ) → length l ≤ k * side-size places → [] 
 no-side l k h = sym (ap (λ (n : ℕ). take n (drop (suc (k * side-size places)) l)) (List·getD-eq-default l 0 h))
 
 -- it ends before the last edge
-cut-side : (l : List ℕ) (k : ℕ) → length l < k * side-size places + 1 + getD l (k * side-size places) 0 → take (length l - (k * side-size places + 1)) (drop (k * side-size places + 1) l) ≡ side places l k
+cut-side : (l : List ℕ) (k : ℕ) → length l < k * side-size places + 1 + getD l (k * side-size places) 0
+    → take (length l - (k * side-size places + 1)) (drop (k * side-size places + 1) l) ≡ side places l k
 cut-side l k h =
     let r : List ℕ = drop (k * side-size places + 1) l in
     let e : length r ≡ length l - (k * side-size places + 1) = length-drop (k * side-size places + 1) l in
-    rest (k * side-size places + 1) l ∙ sym (take-all (getD l (k * side-size places) 0) r (omega arith)) ∙ ap (λ (n : ℕ). take (getD l (k * side-size places) 0) (drop n l)) (add-one (k * side-size places))
+    rest (k * side-size places + 1) l ∙ sym (take-all (getD l (k * side-size places) 0) r (omega arith))
+    ∙ ap (λ (n : ℕ). take (getD l (k * side-size places) 0) (drop n l)) (add-one (k * side-size places))
 
 whole-side : (l : List ℕ) (k : ℕ) → take (k * side-size places + 1 + getD l (k * side-size places) 0 - (k * side-size places + 1)) (drop (k * side-size places + 1) l) ≡ side places l k
 whole-side l k =
     let e : k * side-size places + 1 + getD l (k * side-size places) 0 - (k * side-size places + 1) ≡ getD l (k * side-size places) 0 = omega arith in
     ap (λ (n : ℕ). take n (drop (k * side-size places + 1) l)) e ∙ ap (λ (n : ℕ). take (getD l (k * side-size places) 0) (drop n l)) (add-one (k * side-size places))
 
-mul-at : tie.Need-mul-at
-mul-at c = search needs
-
-slice-aggregate-result : tie.Need-slice-aggregate-result
-slice-aggregate-result c = search needs
-
 returns : tie.Need-returns
 returns c = no-side (now (c .before .before .args .records)) (c .before .before .args .k) (c .before .if1 .taken)
-
-mul-n : tie.Need-mul-n
-mul-n c = search needs
-
-shared-slice-read-n : tie.Need-shared-slice-read-n
-shared-slice-read-n c = search needs
 
 cast-n : tie.Need-cast-n
 cast-n c = omega (arith, c .shared-slice-known .given (c .before .before .args .k * side-size places))
 
-add-start : tie.Need-add-start
-add-start c = search needs
-
 add-end : tie.Need-add-end
 add-end c = omega (arith, c .shared-slice-known .given (c .before .before .args .k * side-size places))
 
-mul-result : tie.Need-mul-result
-mul-result c = search needs
-
-sub-result : tie.Need-sub-result
-sub-result c = search needs
-
-part-result-start : tie.Need-part-result-start
-part-result-start c = search needs
-
-part-result-end : tie.Need-part-result-end
-part-result-end c = search needs
-
 returns-2 : tie.Need-returns-2
-returns-2 c = cut-side (now (c .before .before .before .before .args .records)) (c .before .before .before .before .args .k) (c .before .if2 .taken)
-
-mul-result-2 : tie.Need-mul-result-2
-mul-result-2 c = search needs
-
-sub-result-2 : tie.Need-sub-result-2
-sub-result-2 c = search needs
-
-part-result-start-2 : tie.Need-part-result-start-2
-part-result-start-2 c = search needs
-
-part-result-end-2 : tie.Need-part-result-end-2
-part-result-end-2 c = search needs
+returns-2 c =
+    let entry : tie.Start = search in
+    cut-side (now (entry .args .records)) (entry .args .k) (c .before .if2 .taken)
 
 returns-3 : tie.Need-returns-3
-returns-3 c = whole-side (now (c .before .before .before .before .args .records)) (c .before .before .before .before .args .k)
+returns-3 c =
+    let entry : tie.Start = search in
+    whole-side (now (entry .args .records)) (entry .args .k)
 
 pub side-spec : {M : Type 1} → statement M
 side-spec =
     tie.close
     (tie.spec
-    mul-at
-    slice-aggregate-result
-    returns
-    mul-n
-    shared-slice-read-n
-    cast-n
-    add-start
-    add-end
-    mul-result
-    sub-result
-    part-result-start
-    part-result-end
-    returns-2
-    mul-result-2
-    sub-result-2
-    part-result-start-2
-    part-result-end-2
-    returns-3)
+    (λ c. search needs) (λ c. search needs) returns (λ c. search needs) (λ c. search needs) cast-n (λ c. search needs) add-end
+    (λ c. search needs) (λ c. search needs) (λ c. search needs) (λ c. search needs) returns-2 (λ c. search needs) (λ c. search needs)
+    (λ c. search needs) (λ c. search needs) returns-3)
