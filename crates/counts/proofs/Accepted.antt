@@ -1,8 +1,8 @@
 -- What accepted regions give: in each constraint every edge is below n, none stands twice in a side and none on both sides; and no edge is
 -- in three constraints. Assumes nothing.
 use mathlib.Core.Logic.{_≢_, inl, inr}
-use mathlib.Core.Path.{refl, sym, subst, _∙_}
-use mathlib.Core.Bool.{Bool, true, false, not, cond}
+use mathlib.Core.Path.{_≡_, refl, sym, _∙_}
+use mathlib.Core.Bool.{true, false}
 use mathlib.Core.List.{List, [], _∷_}
 use Prim.Native.Nat.{ℕ, zero, suc, _+_, _≤_, _<_}
 use native.Mathlib.Nat.{add-zero, zero-add, suc-add, add-suc}
@@ -13,12 +13,12 @@ use Rattle.base.specs.Lists.{In, member, Distinct}
 use Rattle.base.specs.Refusal.{is-passed, refused, then-test, refuse-if}
 use Rattle.regions.specs.Region.{Constraint, constraint, constraints, graph, holds, incidence, no-sides, record-size, region-count, side}
 use Rattle.regions.specs.Accept.{accepted, limits-test, regions-test, pairs-test, region-test, pair-test, side-test, overused-test, shared-edge}
-use Rattle.base.proofs.BoolLaws.{clash, or-split, or-left, or-right, eq→eqb}
+use Rattle.base.proofs.BoolLaws.{by-truth, clash, or-split, or-left, or-right, eq→eqb, true-T, false-T}
+use Rattle.counts.proofs.MoveLaws.{Apart}
 use Rattle.counts.proofs.Complete.{Thin}
-use Rattle.base.proofs.ListLaws.{member→in}
+use Rattle.base.proofs.ListLaws.{member→in, none-out}
 use Rattle.regions.proofs.region.Constraints.{holds→incidence}
 use Rattle.base.proofs.TestLaws.{then-left, then-right, not-refused}
-use Rattle.counts.proofs.Sound.{none-out}
 
 -- ---- one side
 
@@ -31,23 +31,14 @@ side-ok : (n r k : ℕ) (seen l : List ℕ) → T (is-passed (side-test n r k se
 unfolding side-test
 side-ok n r k seen [] t = record { below = λ x i. absurd i; once = tt; apart = λ x i. absurd i }
 side-ok n r k seen (e ∷ es) t =
-    go (ltb e n) (member e seen) (λ u. u) (λ u v. clash (member e seen) v u) (side-ok n r k (e ∷ seen) es) t
-  where
-    go : (b c : Bool) → (T b → T (ltb e n)) → (T (not c) → T (member e seen) → ⊥)
-        → (T (is-passed (side-test n r k (e ∷ seen) es)) → SideOk n (e ∷ seen) es)
-        → T (is-passed (cond b (cond c (refused 4 r k) (side-test n r k (e ∷ seen) es)) (refused 3 r k))) → SideOk n seen (e ∷ es)
-    go true true f h ih t = absurd t
-    go true false f h ih t =
-        let w = ih t in
-        record {
-          below = λ x i. elim i [ inl q ↦ subst (λ (y : ℕ). T (ltb y n)) (sym q) (f tt) | inr j ↦ w .below x j ];
-          once = (not-T (member e es) (λ u. w .apart e (member→in e es u) (or-left (eqb e e) (member e seen) (eq→eqb e e refl))), w .once);
-          apart = λ x i u. elim i [
-            | inl q ↦ h tt (subst (λ (y : ℕ). T (member y seen)) q u)
-            | inr j ↦ w .apart x j (or-right (eqb x e) (member x seen) u)
-          ];
-        }
-    go false c f h ih t = absurd t
+    let inside : ltb e n ≡ true = by-truth (ltb e n) (λ q. q) (λ q. absurd (rw q at t)) in
+    let new : member e seen ≡ false = by-truth (member e seen) (λ q. absurd (rw (inside, q) at t)) (λ q. q) in
+    let w = side-ok n r k (e ∷ seen) es (rw (inside, new) at t) in
+    record {
+      below = λ x i. elim i [ inl q ↦ rw q (true-T _ inside) | inr j ↦ w .below x j ];
+      once = (not-T (member e es) (λ u. w .apart e (member→in e es u) (or-left (eqb e e) (member e seen) (eq→eqb e e refl))), w .once);
+      apart = λ x i u. elim i [ inl q ↦ clash (member e seen) (rw q at u) (false-T _ new) | inr j ↦ w .apart x j (or-right (eqb x e) (member x seen) u) ];
+    }
 
 -- ---- one constraint
 
@@ -55,7 +46,7 @@ pub record ConstraintOk (n : ℕ) (c : Constraint) : Type 0 where
   pub inside : (x : ℕ) → T (holds c x) → T (ltb x n)
   pub once-a : Distinct (c .a)
   pub once-b : Distinct (c .b)
-  pub sided : (x : ℕ) → T (member x (c .a)) → T (member x (c .b)) → ⊥
+  pub sided : Apart c
 
 pair-ok : (n r j k : ℕ) (a b : List ℕ) → T (is-passed (pair-test n r j k a b)) → ConstraintOk n (record { a = a; b = b })
 unfolding pair-test
@@ -82,11 +73,11 @@ pub pairs-ok : (p n r m : ℕ) (l : List ℕ) → T (is-passed (pairs-test p n r
 unfolding pairs-test constraints
 pairs-ok p n r zero l t i = no-sides-ok n
 pairs-ok p n r (suc m) l t zero =
-    pair-ok n r 0 2 (side p l 0) (side p l 2)
-    (then-left (pair-test n r 0 2 (side p l 0) (side p l 2)) (pair-test n r 1 3 (side p l 1) (side p l 3)) (then-left (region-test p n r l) (pairs-test p n (suc r) m (drop (record-size p) l)) t))
+    let now = then-left (region-test p n r l) (pairs-test p n (suc r) m (drop (record-size p) l)) t in
+    pair-ok n r 0 2 (side p l 0) (side p l 2) (then-left (pair-test n r 0 2 (side p l 0) (side p l 2)) (pair-test n r 1 3 (side p l 1) (side p l 3)) now)
 pairs-ok p n r (suc m) l t (suc zero) =
-    pair-ok n r 1 3 (side p l 1) (side p l 3)
-    (then-right (pair-test n r 0 2 (side p l 0) (side p l 2)) (pair-test n r 1 3 (side p l 1) (side p l 3)) (then-left (region-test p n r l) (pairs-test p n (suc r) m (drop (record-size p) l)) t))
+    let now = then-left (region-test p n r l) (pairs-test p n (suc r) m (drop (record-size p) l)) t in
+    pair-ok n r 1 3 (side p l 1) (side p l 3) (then-right (pair-test n r 0 2 (side p l 0) (side p l 2)) (pair-test n r 1 3 (side p l 1) (side p l 3)) now)
 pairs-ok p n r (suc m) l t (suc (suc i)) =
     pairs-ok p n (suc r) m (drop (record-size p) l) (then-right (region-test p n r l) (pairs-test p n (suc r) m (drop (record-size p) l)) t) i
 
@@ -97,15 +88,13 @@ unfolding overused-test
 overused-ok g e zero t d h = absurd (omega arith)
 overused-ok g e (suc m) t zero h =
     let six = refuse-if (ltb 2 (length (incidence g e))) (refused 6 e 0) in
-    subst (λ (n : ℕ). length (incidence g n) ≤ 2) (sym (add-zero e))
-    (nltb→le 2 (length (incidence g e)) (not-refused (ltb 2 (length (incidence g e))) 5 e 0 (then-left six (overused-test g (suc e) m) t)))
+    rw add-zero (nltb→le 2 (length (incidence g e)) (not-refused (ltb 2 (length (incidence g e))) 5 e 0 (then-left six (overused-test g (suc e) m) t)))
 overused-ok g e (suc m) t (suc d) h =
     let six = refuse-if (ltb 2 (length (incidence g e))) (refused 6 e 0) in
-    subst (λ (n : ℕ). length (incidence g n) ≤ 2) (suc-add e d ∙ sym (add-suc e d))
-    (overused-ok g (suc e) m (then-right six (overused-test g (suc e) m) t) d (omega arith))
+    rw (suc-add, ← add-suc) at (overused-ok g (suc e) m (then-right six (overused-test g (suc e) m) t) d (omega arith))
 
 -- of three numbers in a list of two, two are the same
-three : (l : List ℕ) → length l ≤ 2 → (i j k : ℕ) → In i l → In j l → In k l → i ≢ j → j ≢ k → i ≢ k → ⊥
+pub three : (l : List ℕ) → length l ≤ 2 → (i j k : ℕ) → In i l → In j l → In k l → i ≢ j → j ≢ k → i ≢ k → ⊥
 three [] b i j k p q r ij jk ik = p
 three (a ∷ []) b i j k (inl p) (inl q) r ij jk ik = ij (p ∙ sym q)
 three (a ∷ []) b i j k (inl p) (inr q) r ij jk ik = q
@@ -138,7 +127,7 @@ regions-ok p n regions t =
     record {
       constraint-ok = ok;
       thin = λ x i j k hi hj hk.
-          three (incidence g x) (subst (λ (m : ℕ). length (incidence g m) ≤ 2) (zero-add x) (few x (ltb→lt x n (ok i .inside x hi)))) i j k
+          three (incidence g x) (rw zero-add at (few x (ltb→lt x n (ok i .inside x hi)))) i j k
           (holds→incidence g i x hi) (holds→incidence g j x hj) (holds→incidence g k x hk);
     }
 

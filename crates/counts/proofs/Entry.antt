@@ -3,7 +3,7 @@
 use mathlib.Core.Path.{_≡_, refl, sym, ap, subst, _∙_}
 use mathlib.Core.Bool.{Bool, true, false, cond}
 use mathlib.Core.List.{List, [], _∷_, _++_}
-use Prim.Native.Nat.{ℕ, zero, suc, _+_, _≤_}
+use Prim.Native.Nat.{ℕ, zero, suc, _≤_}
 use native.Mathlib.Omega.{arith}
 use lib.ListN.{length, getD, take, drop, replicate, length-take, length-replicate}
 use lib.Dec.{T, eqb, leb→le}
@@ -11,15 +11,16 @@ use lib.Ieee.{Float}
 use Rattle.base.specs.declared.verdict.Verdict.{Verdict}
 use Rattle.base.specs.Refusal.{passed, refused, is-passed, then-test, outcome, verdict-of}
 use Rattle.regions.specs.Region.{Constraint, places, region-count, graph}
-use Rattle.counts.specs.Cost.{CostModel, Spacing, within, costs-of, edges-of}
+use Rattle.counts.specs.Cost.{CostModel, Spacing, by-ranges, within, costs-of, edges-of}
 use Rattle.counts.specs.Round.{find-move, Solved, solve-from, solve-zeros, max-moves}
-use Rattle.regions.specs.Accept.{limits-test, pairs-test, overused-test, regions-test, max-edges}
-use Rattle.counts.specs.Values.{spacing-lengths, counts-test, count-ok, first-bad, max-count}
-use Rattle.counts.specs.Solver.{Round, round-of, round-by, round-refused, round-with, round, round-test, Solve, solve-of, solve-part, with-rest, solve-refused, solve-with, solve, solve-test}
+use Rattle.regions.specs.Accept.{pairs-test, overused-test, regions-test}
+use Rattle.counts.specs.Values.{counts-test, count-ok, first-bad, max-count}
+use Rattle.counts.specs.Solver.{Round, round-of, round-by, round-refused, round-with, round, round-test, Solve, solve-of, solve-part, with-rest}
+use Rattle.counts.specs.Solver.{solve-refused, solve-with, solve, solve-test}
 use Rattle.counts.specs.inner.Checks.{round-head, solve-head}
-use Rattle.counts.specs.inner.Tables.{Tables, the-graph}
-use Rattle.counts.specs.inner.Graph.{Built}
-use Rattle.counts.specs.inner.RoundContract.{RoundInput, solved-of}
+use Rattle.counts.specs.inner.Tables.{Tables, the-graph, no-constraint, edge-slots}
+use Rattle.counts.specs.inner.Graph.{Built, MayBuild}
+use Rattle.counts.specs.inner.RoundContract.{SolveInput, RoundInput, MovesInput, solved-of}
 use Rattle.counts.specs.declared.answer.RoundAnswer.{RoundAnswer}
 use Rattle.counts.specs.declared.answer.RoundAnswer.the-variants as round-answer
 use Rattle.counts.specs.declared.answer.SolveAnswer.{SolveAnswer}
@@ -38,7 +39,8 @@ use Rattle.counts.proofs.SolverLaws.{round-test-chain, solve-test-chain
 -- ---- a chain that ends with test 6
 
 -- the head refused
-head-refused : {c : Check} {r : Refusal} {head : Verdict} (six : Verdict) → c ≡ Refused r → outcome c ≡ head → (verdict-of r ≡ then-test head six) × (is-passed (then-test head six) ≡ false)
+head-refused : {c : Check} {r : Refusal} {head : Verdict} (six : Verdict) → c ≡ Refused r → outcome c ≡ head
+    → (verdict-of r ≡ then-test head six) × (is-passed (then-test head six) ≡ false)
 head-refused {c} {r} {head} six e o =
     let q = was-refused e o in
     let h : then-test head six ≡ head = ap (λ (b : Bool). cond b six head) (q .1) in
@@ -50,7 +52,8 @@ head-passed head six p = ap (λ (b : Bool). cond b six head) p
 
 -- ---- 2 and 9 passed: no value is other than it should be
 
-pub none-bad : {A : Type 0} (ok : A → Bool) (number i : ℕ) (l : List A) (d : A) → eqb number 0 ≡ false → T (ok d) → is-passed (first-bad ok number i l) ≡ true → (x : ℕ) → T (ok (getD l x d))
+pub none-bad : {A : Type 0} (ok : A → Bool) (number i : ℕ) (l : List A) (d : A) → eqb number 0 ≡ false → T (ok d)
+    → is-passed (first-bad ok number i l) ≡ true → (x : ℕ) → T (ok (getD l x d))
 unfolding first-bad
 none-bad ok number i [] d n t h x = t
 none-bad {A} ok number i (s ∷ l) d n t h x = go (ok s) refl h x (none-bad ok number (suc i) l d n t)
@@ -64,87 +67,120 @@ none-bad {A} ok number i (s ∷ l) d n t h x = go (ok s) refl h x (none-bad ok n
 counts-small : (counts : List ℕ) → is-passed (counts-test counts) ≡ true → (x : ℕ) → getD counts x 0 ≤ max-count
 counts-small counts h x = leb→le (getD counts x 0) max-count (none-bad count-ok 9 0 counts 0 refl tt h x)
 
--- ---- the regions pass, by the head and by test 6
+-- ---- the regions pass, by the tests of the pairs and by test 6
 
-regions-pass : (regions : List ℕ) (n : ℕ) → is-passed (pairs-test places n 0 (region-count places regions) regions) ≡ true → is-passed (overused-test (graph places regions) 0 n) ≡ true
+abbrev pairs : List ℕ → ℕ → Verdict
+pairs regions n = pairs-test places n 0 (region-count places regions) regions
+
+abbrev six : List ℕ → ℕ → Verdict
+six regions n = overused-test (graph places regions) 0 n
+
+regions-pass : (regions : List ℕ) (n : ℕ) → is-passed (pairs regions n) ≡ true → is-passed (six regions n) ≡ true
     → T (is-passed (regions-test places n regions))
 unfolding regions-test
-regions-pass regions n h s =
-    then-both (pairs-test places n 0 (region-count places regions) regions) (overused-test (graph places regions) 0 n) (true-T _ h) (true-T _ s)
+regions-pass regions n h s = then-both (pairs regions n) (six regions n) (true-T (is-passed (pairs regions n)) h)
+    (true-T (is-passed (six regions n)) s)
+
+-- the tables, once test 6 has passed
+built-tables : {d : Check} {n : ℕ} {regions incident own : List ℕ} → Built n regions incident own (outcome d) → d ≡ Passed
+    → Tables regions incident own
+unfolding outcome
+built-tables b e = b .tables (subst (λ (x : Check). T (is-passed (outcome x))) (sym e) tt)
 
 -- ---- a round
 
-module _ (regions : List ℕ) (spacing : Spacing) (counts : List ℕ) (limit : ℕ) where
-  head : Verdict
-  head = round-head places regions spacing counts limit
+-- the tests up to 6 passed, with the limit that the call stands for
+pub record RoundEarly (regions : List ℕ) (spacing : Spacing) (counts : List ℕ) (limit stated : ℕ) : Type 0 where
+  pub passes : is-passed (round-head places regions spacing counts limit) ≡ true
+  pub limit-is : limit ≡ stated
 
-  six : Verdict
-  six = overused-test (graph places regions) 0 (edges-of spacing)
+module _ (regions : List ℕ) (spacing : Spacing) (counts : List ℕ) (limit : ℕ) where
+  abbrev all-tests : Verdict
+  all-tests = round-test places regions spacing counts limit
 
   by-verdict : Verdict → Bool → Round
-  by-verdict v b = elim b [ true ↦ round-by (find-move (graph places regions) (costs-of spacing) counts limit) counts | false ↦ round-refused v counts ]
+  by-verdict v b = elim b [
+    | true ↦ round-by (find-move (graph places regions) (costs-of spacing) counts limit) counts
+    | false ↦ round-refused v counts
+  ]
 
-  round-opens : round regions spacing counts limit ≡ by-verdict (round-test places regions spacing counts limit) (is-passed (round-test places regions spacing counts limit))
+  round-opens : round regions spacing counts limit ≡ by-verdict all-tests (is-passed all-tests)
   unfolding round round-with by-verdict
   round-opens = refl
 
-  turned-away : (r : Refusal) → verdict-of r ≡ round-test places regions spacing counts limit → is-passed (round-test places regions spacing counts limit) ≡ false
+  turned-away : (r : Refusal) → verdict-of r ≡ all-tests → is-passed all-tests ≡ false
       → round-of (round-answer.Refused r) counts ≡ round regions spacing counts limit
   unfolding round-of by-verdict
-  turned-away r q f =
-      ap (λ (v : Verdict). round-refused v counts) q
-      ∙ ap (by-verdict (round-test places regions spacing counts limit)) (sym f) ∙ sym round-opens
+  turned-away r q f = ap (λ (v : Verdict). round-refused v counts) q ∙ ap (by-verdict all-tests) (sym f) ∙ sym round-opens
 
-  pub round-refused-early : {c : Check} {r : Refusal} → c ≡ Refused r → outcome c ≡ round-head places regions spacing counts limit
-      → round-of (round-answer.Refused r) counts ≡ round regions spacing counts limit
-  round-refused-early {c} {r} e o =
-      let q = head-refused (overused-test (graph places regions) 0 (edges-of spacing)) e o in
-      let k = round-test-chain places regions spacing counts limit in turned-away r (q .0 ∙ sym k) (ap is-passed k ∙ q .1)
+pub round-refused-early : (regions : List ℕ) (spacing : Spacing) (counts : List ℕ) {limit stated : ℕ} {c : Check} {r : Refusal} → limit ≡ stated
+    → c ≡ Refused r → outcome c ≡ round-head places regions spacing counts limit
+    → round-of (round-answer.Refused r) counts ≡ round regions spacing counts stated
+round-refused-early regions spacing counts {limit} {r = r} s e o =
+    let q = head-refused (six regions (edges-of spacing)) e o in
+    let k = round-test-chain places regions spacing counts limit in
+    turned-away regions spacing counts limit r (q .0 ∙ sym k) (ap is-passed k ∙ q .1) ∙ ap (round regions spacing counts) s
 
-  pub round-refused-late : {c d : Check} {r : Refusal} → c ≡ Passed → outcome c ≡ round-head places regions spacing counts limit
-      → d ≡ Refused r → outcome d ≡ overused-test (graph places regions) 0 (edges-of spacing) → round-of (round-answer.Refused r) counts ≡ round regions spacing counts limit
-  round-refused-late {c} {d} {r} e o f p =
+module _ {regions : List ℕ} {spacing : Spacing} {counts : List ℕ} {limit stated : ℕ} (t : RoundEarly regions spacing counts limit stated) where
+  six-decides : round-test places regions spacing counts limit ≡ six regions (edges-of spacing)
+  six-decides =
+      round-test-chain places regions spacing counts limit
+      ∙ head-passed (round-head places regions spacing counts limit) (six regions (edges-of spacing)) (t .passes)
+
+  pub round-refused-late : {d : Check} {r : Refusal} → d ≡ Refused r → outcome d ≡ six regions (edges-of spacing)
+      → round-of (round-answer.Refused r) counts ≡ round regions spacing counts stated
+  round-refused-late {r = r} f p =
       let q = was-refused f p in
-      let k = round-test-chain places regions spacing counts limit ∙ head-passed (round-head places regions spacing counts limit) (overused-test (graph places regions) 0 (edges-of spacing)) (was-passed e o) in
-      turned-away r (q .0 ∙ sym k) (ap is-passed k ∙ q .1)
+      turned-away regions spacing counts limit r (q .0 ∙ sym six-decides) (ap is-passed six-decides ∙ q .1)
+      ∙ ap (round regions spacing counts) (t .limit-is)
 
-  pub round-done : {c d : Check} (r : RoundAnswer) (after : List ℕ) → c ≡ Passed → outcome c ≡ round-head places regions spacing counts limit
-      → d ≡ Passed → outcome d ≡ overused-test (graph places regions) 0 (edges-of spacing)
+  pub round-done : {d : Check} (r : RoundAnswer) (after : List ℕ) → d ≡ Passed → outcome d ≡ six regions (edges-of spacing)
       → round-of r after ≡ round-by (find-move (graph places regions) (costs-of spacing) counts limit) counts
-      → round-of r after ≡ round regions spacing counts limit
+      → round-of r after ≡ round regions spacing counts stated
   unfolding by-verdict
-  round-done r after e o f p a =
-      let k = round-test-chain places regions spacing counts limit ∙ head-passed (round-head places regions spacing counts limit) (overused-test (graph places regions) 0 (edges-of spacing)) (was-passed e o) in
-      a ∙ ap (by-verdict (round-test places regions spacing counts limit)) (sym (ap is-passed k ∙ was-passed f p)) ∙ sym round-opens
+  round-done r after f p a =
+      a
+      ∙ ap (by-verdict regions spacing counts limit (all-tests regions spacing counts limit)) (sym (ap is-passed six-decides ∙ was-passed f p))
+      ∙ sym (round-opens regions spacing counts limit)
+      ∙ ap (round regions spacing counts) (t .limit-is)
 
-  head-said : {c : Check} → c ≡ Passed → outcome c ≡ round-head places regions spacing counts limit → RoundPassed places regions spacing counts (pairs-test places (edges-of spacing) 0 (region-count places regions) regions)
+  early-says : RoundPassed places regions spacing counts (pairs regions (edges-of spacing))
   unfolding round-head
-  head-said e o = round-passed places regions spacing counts limit (pairs-test places (edges-of spacing) 0 (region-count places regions) regions) (was-passed e o)
+  early-says = round-passed places regions spacing counts limit (pairs regions (edges-of spacing)) (t .passes)
 
-  pub round-tables : {c : Check} → c ≡ Passed → outcome c ≡ round-head places regions spacing counts limit
-      → T (is-passed (limits-test places (edges-of spacing) regions)) × T (is-passed (pairs-test places (edges-of spacing) 0 (region-count places regions) regions))
-  round-tables e o = let h = head-said e o in (true-T _ (h .limits), true-T _ (h .last-ok))
+  pub round-tables : {incident own : List ℕ} → incident ≡ replicate edge-slots no-constraint → length own ≡ edge-slots
+      → MayBuild (edges-of spacing) regions incident own
+  round-tables i s =
+      let h = early-says in
+      record { limits-pass = true-T _ (h .limits); pairs-pass = true-T _ (h .last-ok); incident-empty = i; own-size = s }
 
-  pub round-tested : {c d : Check} → c ≡ Passed → outcome c ≡ round-head places regions spacing counts limit
-      → d ≡ Passed → outcome d ≡ overused-test (graph places regions) 0 (edges-of spacing) → RoundInput regions counts × (edges-of spacing ≡ length counts) × (is-passed (spacing-lengths spacing) ≡ true)
-  round-tested e o f p =
-      let h = head-said e o in
-      let m = h .values .as-many in (
-        record {
-          few = let q = limits-passed places (edges-of spacing) regions (h .limits) .0 in omega arith;
-          small = counts-small counts (h .values .counts-ok);
-          regions-pass = subst (λ (n : ℕ). T (is-passed (regions-test places n regions))) (sym m) (regions-pass regions (edges-of spacing) (h .last-ok) (was-passed f p));
-        },
-        sym m,
-        h .values .lists,
-      )
-
--- the tables, once test 6 has passed
-pub built-tables : {d : Check} (n : ℕ) (regions incident own : List ℕ) → Built n regions incident own (outcome d) → d ≡ Passed → Tables regions incident own
-unfolding outcome
-built-tables n regions incident own b e = b .tables (subst (λ (x : Check). T (is-passed (outcome x))) (sym e) tt)
+-- the input of the inner round
+pub round-ready : {regions : List ℕ} {least most : List Float} {counts : List ℕ} {limit stated : ℕ} {incident own : List ℕ} {d : Check}
+    → RoundEarly regions (within least most) counts limit stated → d ≡ Passed → Built (length least) regions incident own (outcome d)
+    → RoundInput regions incident own least most counts
+round-ready {regions} {least} {most} {counts} t f b =
+    let h = early-says t in
+    let m = h .values .as-many in
+    let few = limits-passed places (length least) regions (h .limits) .0 in
+    record {
+      input =
+          record {
+            tables = built-tables b f;
+            few = omega arith;
+            least-long = sym m;
+            most-long = sym (same-lengths (length least) (length most) (h .values .lists)) ∙ sym m;
+            regions-pass = subst (λ (n : ℕ). T (is-passed (regions-test places n regions))) (sym m)
+                (regions-pass regions (length least) (h .last-ok) (was-passed f (b .verdict-is)));
+          };
+      small = counts-small counts (h .values .counts-ok);
+    }
 
 -- ---- solve
+
+-- the tests up to 6 passed, with the limit that the call stands for
+pub record SolveEarly (regions : List ℕ) (spacing : Spacing) (lent : List ℕ) (limit stated : ℕ) : Type 0 where
+  pub passes : is-passed (solve-head places regions spacing (length lent) limit) ≡ true
+  pub limit-is : limit ≡ stated
 
 module _ (regions : List ℕ) (spacing : Spacing) (lent : List ℕ) (limit : ℕ) where
   abbrev test : Verdict
@@ -164,104 +200,131 @@ module _ (regions : List ℕ) (spacing : Spacing) (lent : List ℕ) (limit : ℕ
   unfolding solve-of by-test
   turned r q f = ap (λ (v : Verdict). solve-refused v lent) q ∙ ap (by-test test part) (sym f) ∙ sym solve-opens
 
-  pub solve-refused-early : {c : Check} {r : Refusal} → c ≡ Refused r → outcome c ≡ solve-head places regions spacing (length lent) limit
-      → solve-of (solve-answer.Refused r) lent ≡ solve regions spacing lent limit
-  solve-refused-early {c} {r} e o =
-      let q = head-refused (overused-test (graph places regions) 0 (edges-of spacing)) e o in
-      let k = solve-test-chain places regions spacing (length lent) limit in turned r (q .0 ∙ sym k) (ap is-passed k ∙ q .1)
-
-  pub solve-refused-late : {c d : Check} {r : Refusal} → c ≡ Passed → outcome c ≡ solve-head places regions spacing (length lent) limit
-      → d ≡ Refused r → outcome d ≡ overused-test (graph places regions) 0 (edges-of spacing) → solve-of (solve-answer.Refused r) lent ≡ solve regions spacing lent limit
-  solve-refused-late {c} {d} {r} e o f p =
-      let q = was-refused f p in
-      let k = solve-test-chain places regions spacing (length lent) limit ∙ head-passed (solve-head places regions spacing (length lent) limit) (overused-test (graph places regions) 0 (edges-of spacing)) (was-passed e o) in
-      turned r (q .0 ∙ sym k) (ap is-passed k ∙ q .1)
-
-  rest-of : (r : SolveAnswer) (after : List ℕ) → solve-of r (after ++ drop (edges-of spacing) lent) ≡ with-rest (edges-of spacing) (solve-of r after) lent
+  rest-of : (r : SolveAnswer) (after : List ℕ)
+      → solve-of r (after ++ drop (edges-of spacing) lent) ≡ with-rest (edges-of spacing) (solve-of r after) lent
   unfolding solve-of
   rest-of (solve-answer.Moves m) after = refl
   rest-of (solve-answer.Refused r) after = refl
 
-  pub solve-done : {c d : Check} (r : SolveAnswer) (after whole : List ℕ) → c ≡ Passed → outcome c ≡ solve-head places regions spacing (length lent) limit
-      → d ≡ Passed → outcome d ≡ overused-test (graph places regions) 0 (edges-of spacing)
-      → solve-of r after ≡ part → whole ≡ after ++ drop (edges-of spacing) lent
-      → solve-of r whole ≡ solve regions spacing lent limit
+pub solve-refused-early : (regions : List ℕ) (spacing : Spacing) (lent : List ℕ) {limit stated : ℕ} {c : Check} {r : Refusal} → limit ≡ stated
+    → c ≡ Refused r → outcome c ≡ solve-head places regions spacing (length lent) limit
+    → solve-of (solve-answer.Refused r) lent ≡ solve regions spacing lent stated
+solve-refused-early regions spacing lent {limit} {r = r} s e o =
+    let q = head-refused (six regions (edges-of spacing)) e o in
+    let k = solve-test-chain places regions spacing (length lent) limit in
+    turned regions spacing lent limit r (q .0 ∙ sym k) (ap is-passed k ∙ q .1) ∙ ap (solve regions spacing lent) s
+
+module _ {regions : List ℕ} {spacing : Spacing} {lent : List ℕ} {limit stated : ℕ} (t : SolveEarly regions spacing lent limit stated) where
+  last-decides : test regions spacing lent limit ≡ six regions (edges-of spacing)
+  last-decides =
+      solve-test-chain places regions spacing (length lent) limit
+      ∙ head-passed (solve-head places regions spacing (length lent) limit) (six regions (edges-of spacing)) (t .passes)
+
+  pub solve-refused-late : {d : Check} {r : Refusal} → d ≡ Refused r → outcome d ≡ six regions (edges-of spacing)
+      → solve-of (solve-answer.Refused r) lent ≡ solve regions spacing lent stated
+  solve-refused-late {r = r} f p =
+      let q = was-refused f p in
+      turned regions spacing lent limit r (q .0 ∙ sym last-decides) (ap is-passed last-decides ∙ q .1) ∙ ap (solve regions spacing lent) (t .limit-is)
+
+  pub solve-done : {d : Check} (r : SolveAnswer) (after : List ℕ) {whole : List ℕ} → d ≡ Passed → outcome d ≡ six regions (edges-of spacing)
+      → solve-of r after ≡ part regions spacing lent limit → whole ≡ after ++ drop (edges-of spacing) lent
+      → solve-of r whole ≡ solve regions spacing lent stated
   unfolding by-test
-  solve-done r after whole e o f p a w =
-      let k = solve-test-chain places regions spacing (length lent) limit ∙ head-passed (solve-head places regions spacing (length lent) limit) (overused-test (graph places regions) 0 (edges-of spacing)) (was-passed e o) in
-      ap (solve-of r) w ∙ rest-of r after ∙ ap (λ (s : Solve). with-rest (edges-of spacing) s lent) a
-      ∙ ap (by-test test part) (sym (ap is-passed k ∙ was-passed f p)) ∙ sym solve-opens
+  solve-done r after f p a w =
+      ap (solve-of r) w ∙ rest-of regions spacing lent limit r after ∙ ap (λ (s : Solve). with-rest (edges-of spacing) s lent) a
+      ∙ ap (by-test regions spacing lent limit (test regions spacing lent limit) (part regions spacing lent limit))
+      (sym (ap is-passed last-decides ∙ was-passed f p))
+      ∙ sym (solve-opens regions spacing lent limit)
+      ∙ ap (solve regions spacing lent) (t .limit-is)
 
-  tested : {c : Check} → c ≡ Passed → outcome c ≡ solve-head places regions spacing (length lent) limit → SolvePassed places regions spacing (length lent) (pairs-test places (edges-of spacing) 0 (region-count places regions) regions)
+  tested : SolvePassed places regions spacing (length lent) (pairs regions (edges-of spacing))
   unfolding solve-head
-  tested e o = solve-passed places regions spacing (length lent) limit (pairs-test places (edges-of spacing) 0 (region-count places regions) regions) (was-passed e o)
+  tested = solve-passed places regions spacing (length lent) limit (pairs regions (edges-of spacing)) (t .passes)
 
-  pub solve-tables : {c : Check} → c ≡ Passed → outcome c ≡ solve-head places regions spacing (length lent) limit
-      → T (is-passed (limits-test places (edges-of spacing) regions)) × T (is-passed (pairs-test places (edges-of spacing) 0 (region-count places regions) regions))
-  solve-tables e o = let h = tested e o in (true-T _ (h .limits), true-T _ (h .last-ok))
+  pub solve-tables : {incident own : List ℕ} → incident ≡ replicate edge-slots no-constraint → length own ≡ edge-slots
+      → MayBuild (edges-of spacing) regions incident own
+  solve-tables i s =
+      let h = tested in
+      record { limits-pass = true-T _ (h .limits); pairs-pass = true-T _ (h .last-ok); incident-empty = i; own-size = s }
 
-  pub solve-room : {c : Check} → c ≡ Passed → outcome c ≡ solve-head places regions spacing (length lent) limit → (edges-of spacing ≤ length lent) × (edges-of spacing ≤ max-edges) × (is-passed (spacing-lengths spacing) ≡ true)
-  solve-room e o = let h = tested e o in (h .enough, limits-passed places (edges-of spacing) regions (h .limits) .0, h .lists)
+  pub solve-room : edges-of spacing ≤ length lent
+  solve-room = tested .enough
 
-  pub solve-regions : {c d : Check} → c ≡ Passed → outcome c ≡ solve-head places regions spacing (length lent) limit
-      → d ≡ Passed → outcome d ≡ overused-test (graph places regions) 0 (edges-of spacing) → T (is-passed (regions-test places (edges-of spacing) regions))
-  solve-regions e o f p = regions-pass regions (edges-of spacing) (tested e o .last-ok) (was-passed f p)
+-- the input of the inner solve: the part of the lent counts that it writes, and both lists of ranges
+pub solve-ready : {regions : List ℕ} {least most : List Float} {lent : List ℕ} {limit stated : ℕ} {incident own : List ℕ} {d : Check}
+    → SolveEarly regions (within least most) lent limit stated → d ≡ Passed → Built (length least) regions incident own (outcome d)
+    → SolveInput regions incident own least most (take (length least) lent)
+solve-ready {regions} {least} {most} {lent} t f b =
+    let h = tested t in
+    let few = limits-passed places (length least) regions (h .limits) .0 in
+    let m : length least ≡ length (take (length least) lent) = (let l = length-take (length least) lent in let r = h .enough in omega arith) in
+    record {
+      tables = built-tables b f;
+      few = omega arith;
+      least-long = m;
+      most-long = sym (same-lengths (length least) (length most) (h .lists)) ∙ m;
+      regions-pass = subst (λ (n : ℕ). T (is-passed (regions-test places n regions))) m
+          (regions-pass regions (length least) (h .last-ok) (was-passed f (b .verdict-is)));
+    }
 
 -- ---- the needed part of a solve
 
-zeros-open : (g : List Constraint) (costs : CostModel) (limit n : ℕ) → solve-zeros g costs limit n ≡ solve-from g costs limit max-moves 0 (replicate n 0)
+zeros-open : (g : List Constraint) (costs : CostModel) (limit n : ℕ)
+    → solve-zeros g costs limit n ≡ solve-from g costs limit max-moves 0 (replicate n 0)
 unfolding solve-zeros
 zeros-open g costs limit n = refl
 
-module _ (regions : List ℕ) (model : CostModel) (n limit : ℕ) (counts zeros : List ℕ) (as-many : n ≡ length counts) (cleared : zeros ≡ replicate (length counts) 0) where
-  zeros-long : length zeros ≡ length counts
-  zeros-long = ap length cleared ∙ length-replicate (length counts) 0
+module _ {regions incident own : List ℕ} {least most : List Float} {counts zeros : List ℕ} (input : SolveInput regions incident own least most counts)
+    (cleared : zeros ≡ replicate (length counts) 0) where
+  pub zeros-ready : MovesInput regions incident own least most zeros
+  zeros-ready =
+      let e : length zeros ≡ length counts = ap length cleared ∙ length-replicate (length counts) 0 in
+      record {
+        round =
+            record {
+              input =
+                  record {
+                    tables = input .tables;
+                    few = let f = input .few in omega arith;
+                    least-long = input .least-long ∙ sym e;
+                    most-long = input .most-long ∙ sym e;
+                    regions-pass = subst (λ (k : ℕ). T (is-passed (regions-test places k regions))) (sym e) (input .regions-pass);
+                  };
+              small = λ x. (let q = ap (λ (l : List ℕ). getD l x 0) cleared ∙ getD-zeros (length counts) x in omega arith);
+            };
+        zeros = cleared ∙ ap (λ (k : ℕ). replicate k 0) (sym e);
+      }
 
-  pub zeros-tested : length counts ≤ max-edges → T (is-passed (regions-test places (length counts) regions)) → RoundInput regions zeros × (n ≡ length zeros) × (zeros ≡ replicate (length zeros) 0)
-  zeros-tested f t = (
-    record {
-      few = let l = zeros-long in omega arith;
-      small = λ x. (let e = ap (λ (l : List ℕ). getD l x 0) cleared ∙ getD-zeros (length counts) x in omega arith);
-      regions-pass = subst (λ (k : ℕ). T (is-passed (regions-test places k regions))) (sym zeros-long) t;
-    },
-    as-many ∙ sym zeros-long,
-    cleared ∙ ap (λ (k : ℕ). replicate k 0) (sym zeros-long),
-  )
+  module _ (limit : ℕ) (r : MovesMade) where
+    abbrev whole : Solved
+    whole = solve-zeros (the-graph regions) (by-ranges least most) limit (length least)
 
-  abbrev from-zeros : Solved
-  from-zeros = solve-from (the-graph regions) model limit max-moves 0 zeros
+    -- the moves from the cleared counts are those from zeros, one for each range
+    from-zeros : {after : List ℕ} → solved-of r after ≡ solve-from (the-graph regions) (by-ranges least most) limit max-moves 0 zeros
+        → solved-of r after ≡ whole
+    from-zeros e =
+        e
+        ∙ ap (solve-from (the-graph regions) (by-ranges least most) limit max-moves 0)
+        (cleared ∙ ap (λ (k : ℕ). replicate k 0) (sym (input .least-long)))
+        ∙ sym (zeros-open (the-graph regions) (by-ranges least most) limit (length least))
 
-  abbrev whole : Solved
-  whole = solve-zeros (the-graph regions) model limit n
+    -- by whether a move was found too many
+    by-more : List ℕ → Bool → Solve
+    by-more after b =
+        cond b (record { verdict = refused 7 0 0; moves = 0; counts = replicate (length least) 0 })
+        (record { verdict = passed; moves = r .moves; counts = after })
 
-  zeros-whole : from-zeros ≡ whole
-  zeros-whole =
-      ap (λ (l : List ℕ). solve-from (the-graph regions) model limit max-moves 0 l) (cleared ∙ ap (λ (k : ℕ). replicate k 0) (sym as-many))
-      ∙ sym (zeros-open (the-graph regions) model limit n)
+    pub part-done : {after : List ℕ} → solved-of r after ≡ solve-from (the-graph regions) (by-ranges least most) limit max-moves 0 zeros
+        → r .more ≡ false → solve-of (solve-answer.Moves (r .moves)) after ≡ solve-part (length least) whole
+    unfolding solve-of by-more
+    part-done {after} e f = ap (by-more after) (sym f) ∙ ap (solve-part (length least)) (from-zeros e)
 
-  pub part-done : (r : MovesMade) (after : List ℕ) → solved-of r after ≡ from-zeros → r .more ≡ false → solve-of (solve-answer.Moves (r .moves)) after ≡ solve-part n whole
-  unfolding solve-of
-  part-done r after e f =
-      ap (λ (b : Bool). cond b (record { verdict = refused 7 0 0; moves = 0; counts = replicate n 0 }) (record { verdict = passed; moves = r .moves; counts = after })) (sym f)
-      ∙ ap (solve-part n) (e ∙ zeros-whole)
-
-  pub part-stopped : (r : MovesMade) (after again : List ℕ) → solved-of r after ≡ from-zeros → r .more ≡ true → again ≡ replicate (length after) 0 → length after ≡ length counts
-      → solve-of (solve-answer.Refused TooManyMoves) again ≡ solve-part n whole
-  unfolding solve-of verdict-of
-  part-stopped r after again e f a l =
-      ap (λ (c : List ℕ). record { verdict = refused 7 0 0; moves = 0; counts = c }) (a ∙ ap (λ (k : ℕ). replicate k 0) (l ∙ sym as-many))
-      ∙ ap (λ (b : Bool). cond b (record { verdict = refused 7 0 0; moves = 0; counts = replicate n 0 }) (record { verdict = passed; moves = r .moves; counts = after })) (sym f)
-      ∙ ap (solve-part n) (e ∙ zeros-whole)
-
--- the part of the lent counts that solve writes, and both lists of ranges
-pub part-ready : (regions : List ℕ) (least most : List Float) (lent : List ℕ)
-    → (length least ≤ length lent) × (length least ≤ max-edges) × (is-passed (spacing-lengths (within least most)) ≡ true) → T (is-passed (regions-test places (length least) regions))
-    → (length least ≡ length (take (length least) lent)) × (length most ≡ length (take (length least) lent)) × (length (take (length least) lent) ≤ max-edges)
-    × T (is-passed (regions-test places (length (take (length least) lent)) regions))
-part-ready regions least most lent h t =
-    let e : length least ≡ length (take (length least) lent) = (let l = length-take (length least) lent in omega arith) in
-    (e, sym (same-lengths (length least) (length most) (h .2)) ∙ e, omega arith, subst (λ (n : ℕ). T (is-passed (regions-test places n regions))) e t)
-
--- both lists of ranges are as long as the counts
-pub ends-ready : (least most : List Float) (n : ℕ) → length least ≡ n → is-passed (spacing-lengths (within least most)) ≡ true → length most ≡ n
-ends-ready least most n e h = sym (same-lengths (length least) (length most) h) ∙ e
+    pub part-stopped : {after again : List ℕ} → solved-of r after ≡ solve-from (the-graph regions) (by-ranges least most) limit max-moves 0 zeros
+        → r .more ≡ true → again ≡ replicate (length after) 0 → length after ≡ length counts
+        → solve-of (solve-answer.Refused TooManyMoves) again ≡ solve-part (length least) whole
+    unfolding solve-of verdict-of by-more
+    part-stopped {after} e f a l =
+        ap (λ (c : List ℕ). record { verdict = refused 7 0 0; moves = 0; counts = c })
+        (a ∙ ap (λ (k : ℕ). replicate k 0) (l ∙ sym (input .least-long)))
+        ∙ ap (by-more after) (sym f)
+        ∙ ap (solve-part (length least)) (from-zeros e)

@@ -5,6 +5,13 @@ pub mod Accepted
 pub mod Sound
 pub mod Complete
 pub mod Find
+-- moves in general: listed in another order, that each has a reading, and the orders in which it can be read
+pub mod Rearranged
+pub mod ReadingFound
+pub mod ReadingOrders
+-- unit moves, by a test
+pub mod MoveTest
+pub mod OddMoves
 -- a move made, and balance
 pub mod Makes
 pub mod Balance
@@ -15,3 +22,5 @@ pub mod Entry
 pub mod Rounds
 pub mod Solving
 pub mod EqualEnds
+-- constraints with both sides empty
+pub mod Skipped

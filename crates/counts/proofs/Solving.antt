@@ -1,16 +1,17 @@
 -- Solve's counts are balanced: zeros are, and each move keeps the difference of opposite sides. Assumes nothing.
-use mathlib.Core.Logic.{_≢_, inl, inr}
-use mathlib.Core.Path.{_≡_, refl, sym, ap, subst, _∙_}
-use mathlib.Core.Bool.{Bool, true, false, cond}
+use mathlib.Core.Logic.{inl, inr}
+use mathlib.Core.Path.{_≡_, refl, sym, ap, _∙_}
+use mathlib.Core.Bool.{true, false}
 use mathlib.Core.List.{List, [], _∷_, _++_}
 use Prim.Native.Nat.{ℕ, zero, suc, _+_, _*_, _<_}
+use native.Mathlib.Decide.{ℕ-discrete}
 use native.Mathlib.Omega.{arith}
 use lib.ListN.{length, getD, set, drop, replicate, length-replicate, List·getD-append}
 use lib.Seq.{getD-set-same, getD-set-other}
-use lib.Dec.{T, eqb, eqb→eq, ltb→lt}
-use Rattle.base.specs.Lists.{In, member}
+use lib.Dec.{T, ltb→lt}
+use Rattle.base.specs.Lists.{In}
 use Rattle.base.specs.declared.verdict.Verdict.{Verdict}
-use Rattle.base.specs.Refusal.{passed, is-passed, refused}
+use Rattle.base.specs.Refusal.{is-passed}
 use Rattle.regions.specs.Region.{Constraint, constraint, graph, holds, places, region-count, side, side-sum}
 use Rattle.counts.specs.Move.{Change, apply-changes}
 use Rattle.counts.specs.Cost.{CostModel, Spacing, costs-of, edges-of}
@@ -20,7 +21,8 @@ use Rattle.counts.specs.Solver.{Solve, expansions, solve, solve-test, so
 use Rattle.counts.specs.declared.search_limit.SearchLimit.{SearchLimit}
 use Rattle.counts.specs.Demand.{Balanced}
 use Rattle.counts.proofs.Accepted.{Accepted, accepted-ok}
-use Rattle.base.proofs.BoolLaws.{by-cases, clash, eq→eqb, or-left, or-right, true-T, T-true}
+use Rattle.base.proofs.BoolLaws.{by-truth, clash, T-true, true-T, false-T}
+use Rattle.regions.proofs.region.Constraints.{holds-a, holds-b}
 use Rattle.base.proofs.ListLaws.{in→member}
 use Rattle.base.proofs.TestLaws.{then-both}
 use Rattle.counts.proofs.SolverLaws.{solve-passed}
@@ -41,20 +43,19 @@ sum-zeros : (n : ℕ) (l : List ℕ) → side-sum (replicate n 0) l ≡ 0
 sum-zeros n [] = refl
 sum-zeros n (x ∷ l) = let e = getD-zeros n x in let h = sum-zeros n l in omega arith
 
-pub level-zeros : (g : List Constraint) (n : ℕ) → Level g n (replicate n 0)
+level-zeros : (g : List Constraint) (n : ℕ) → Level g n (replicate n 0)
 level-zeros g n =
     record { level = λ i. sum-zeros n (constraint g i .a) ∙ sym (sum-zeros n (constraint g i .b)); long = length-replicate n 0 }
 
-pub level-steady : (g : List Constraint) (n : ℕ) (before after : List ℕ) → Level g n before → Steady g before after → Level g n after
-level-steady g n before after l s =
+level-steady : {g : List Constraint} {n : ℕ} {before after : List ℕ} → Level g n before → Steady g before after → Level g n after
+level-steady l s =
     record { level = λ i. (let d = s .difference i in let e = l .level i in omega arith); long = s .as-long ∙ l .long }
 
 level-move : (g : List Constraint) (n : ℕ) → Accepted n g → (costs : CostModel) (limit : ℕ) (counts : List ℕ) → Level g n counts
     → Level g n (apply-changes (find-move g costs counts limit .best) counts)
 level-move g n ok costs limit counts l =
-    let ok' = subst (λ (m : ℕ). Accepted m g) (sym (l .long)) ok in
-    level-steady g n counts (apply-changes (find-move g costs counts limit .best) counts) l
-    (steady-found g counts ok' costs limit (find-move g costs counts limit) (found g counts ok' costs limit))
+    let ok' = rw (← (l .long)) at ok in
+    level-steady l (steady-found g counts ok' costs limit (find-move g costs counts limit) (found g counts ok' costs limit))
 
 -- ---- solve
 
@@ -88,12 +89,13 @@ sum-append counts rest (x ∷ side) h =
 level-append : (g : List Constraint) (n : ℕ) (counts rest : List ℕ) → Accepted n g → Level g n counts
     → (i : ℕ) → side-sum (counts ++ rest) (constraint g i .a) ≡ side-sum (counts ++ rest) (constraint g i .b)
 level-append g n counts rest ok l i =
-    sum-append counts rest (constraint g i .a) (λ x m. inside x (or-left (member x (constraint g i .a)) (member x (constraint g i .b)) (in→member x (constraint g i .a) m)))
+    let c = constraint g i in
+    sum-append counts rest (c .a) (λ x m. inside x (holds-a c x (in→member x (c .a) m)))
     ∙ l .level i
-    ∙ sym (sum-append counts rest (constraint g i .b) (λ x m. inside x (or-right (member x (constraint g i .a)) (member x (constraint g i .b)) (in→member x (constraint g i .b) m))))
+    ∙ sym (sum-append counts rest (c .b) (λ x m. inside x (holds-b c x (in→member x (c .b) m))))
   where
     inside : (x : ℕ) → T (holds (constraint g i) x) → x < length counts
-    inside x t = subst (λ (m : ℕ). x < m) (sym (l .long)) (ltb→lt x n (ok .constraint-ok i .inside x t))
+    inside x t = rw (l .long) (ltb→lt x n (ok .constraint-ok i .inside x t))
 
 -- ---- the public solve
 
@@ -103,21 +105,10 @@ by-verdict v n s lent = elim (is-passed v) [ true ↦ with-rest n (solve-part n 
 
 done : (v : Verdict) (n : ℕ) (s : Solved) (lent : List ℕ) → T (is-passed (by-verdict v n s lent .verdict))
     → T (is-passed v) × (by-verdict v n s lent .counts ≡ s .counts ++ drop n lent)
-done v n s lent t = go (is-passed v) refl t
-  where
-    out : Bool → Solve
-    out b = elim b [ true ↦ with-rest n (solve-part n s) lent | false ↦ solve-refused v lent ]
-
-    choice : Bool → Solve
-    choice b = cond b (record { verdict = refused 7 0 0; moves = 0; counts = replicate n 0 }) (record { verdict = passed; moves = s .moves; counts = s .counts })
-
-    counts-of : (b : Bool) → T (is-passed (choice b .verdict)) → choice b .counts ++ drop n lent ≡ s .counts ++ drop n lent
-    counts-of true t = absurd t
-    counts-of false t = refl
-
-    go : (b : Bool) → is-passed v ≡ b → T (is-passed (out b .verdict)) → T b × (out b .counts ≡ s .counts ++ drop n lent)
-    go true e t = (tt, counts-of (s .more) t)
-    go false e t = (subst T e t, absurd (subst T e t))
+done v n s lent t =
+    by-truth (is-passed v)
+    (λ e. (true-T _ e, by-truth (s .more) (λ m. absurd (rw (e, by-verdict, m) at t)) (λ m. rw (e, by-verdict, m))))
+    (λ e. absurd (clash (is-passed v) (rw (e, by-verdict) at t) (false-T _ e)))
 
 -- an accepted solve: its regions are accepted, and its counts are those of the definition
 pub record SolveIs (regions : List ℕ) (spacing : Spacing) (lent : List ℕ) (limit : ℕ) : Type 0 where
@@ -127,11 +118,13 @@ pub record SolveIs (regions : List ℕ) (spacing : Spacing) (lent : List ℕ) (l
 
 solve-opens : (regions : List ℕ) (spacing : Spacing) (lent : List ℕ) (limit : ℕ)
     → solve regions spacing lent limit
-    ≡ by-verdict (solve-test places regions spacing (length lent) limit) (edges-of spacing) (solve-zeros (graph places regions) (costs-of spacing) limit (edges-of spacing)) lent
+    ≡ by-verdict (solve-test places regions spacing (length lent) limit) (edges-of spacing)
+    (solve-zeros (graph places regions) (costs-of spacing) limit (edges-of spacing)) lent
 unfolding solve solve-with
 solve-opens regions spacing lent limit = refl
 
-test-accepts : (regions : List ℕ) (spacing : Spacing) (room limit : ℕ) → T (is-passed (solve-test places regions spacing room limit)) → T (accepted places (edges-of spacing) regions)
+test-accepts : (regions : List ℕ) (spacing : Spacing) (room limit : ℕ) → T (is-passed (solve-test places regions spacing room limit))
+    → T (accepted places (edges-of spacing) regions)
 unfolding solve-test accepted
 test-accepts regions spacing room limit u =
     let l = limits-test places (edges-of spacing) regions in
@@ -139,12 +132,13 @@ test-accepts regions spacing room limit u =
     let h = solve-passed places regions spacing room limit r (T-true _ u) in
     then-both l r (true-T _ (h .limits)) (true-T _ (h .last-ok))
 
-pub solve-is : (regions : List ℕ) (spacing : Spacing) (lent : List ℕ) (limit : ℕ) → T (is-passed (solve regions spacing lent limit .verdict)) → SolveIs regions spacing lent limit
+pub solve-is : (regions : List ℕ) (spacing : Spacing) (lent : List ℕ) (limit : ℕ) → T (is-passed (solve regions spacing lent limit .verdict))
+    → SolveIs regions spacing lent limit
 solve-is regions spacing lent limit t =
     let e = solve-opens regions spacing lent limit in
-    let d = done (solve-test places regions spacing (length lent) limit) (edges-of spacing) (solve-zeros (graph places regions) (costs-of spacing) limit (edges-of spacing)) lent
-    (subst (λ (o : Solve). T (is-passed (o .verdict))) e t) in
-    record { regions-accepted = test-accepts regions spacing (length lent) limit (d .0); counts-are = ap (λ (o : Solve). o .counts) e ∙ d .1 }
+    let solved = solve-zeros (graph places regions) (costs-of spacing) limit (edges-of spacing) in
+    let d = done (solve-test places regions spacing (length lent) limit) (edges-of spacing) solved lent (rw e at t) in
+    record { regions-accepted = test-accepts regions spacing (length lent) limit (d .0); counts-are = rw e (d .1) }
 
 -- Counts that an accepted solve wrote, by spacings of either kind, are balanced in every region. 02: "Balance holds at any limit", stated or not.
 pub solve-balanced : (regions : List ℕ) (spacing : Spacing) (lent : List ℕ) (limit : SearchLimit)
@@ -172,19 +166,19 @@ solve-balanced regions spacing lent limit t =
 
     even : (i : ℕ) → side-sum o (constraint g i .a) ≡ side-sum o (constraint g i .b)
     even i =
-        subst (λ (l : List ℕ). side-sum l (constraint g i .a) ≡ side-sum l (constraint g i .b)) (sym (s .counts-are))
-        (level-append g n (solve-zeros g (costs-of spacing) (expansions limit) n .counts) (drop n lent) ok (level-solved g n ok (costs-of spacing) (expansions limit)) i)
+        let l = level-solved g n ok (costs-of spacing) (expansions limit) in
+        rw (s .counts-are) (level-append g n (solve-zeros g (costs-of spacing) (expansions limit) n .counts) (drop n lent) ok l i)
 
     at : (i : ℕ) (c : Constraint) → constraint g i ≡ c → side-sum o (c .a) ≡ side-sum o (c .b)
-    at i c e = subst (λ (c : Constraint). side-sum o (c .a) ≡ side-sum o (c .b)) e (even i)
+    at i c e = rw e at (even i)
 
 -- ---- counts cleared one after the other
 
 pub clear-turn : (l : List ℕ) (i : ℕ) → i < length l → ((k : ℕ) → k < i → getD l k 0 ≡ 0) → (k : ℕ) → k < i + 1 → getD (set l i 0) k 0 ≡ 0
-clear-turn l i h f k b =
-    by-cases (eqb k i)
-    (λ t. ap (λ (x : ℕ). getD (set l i 0) x 0) (eqb→eq k i t) ∙ getD-set-same l i 0 0 h)
-    (λ t. let n : k ≢ i = (λ q. clash (eqb k i) (eq→eqb k i q) t) in getD-set-other l i k 0 0 n ∙ f k (omega arith))
+clear-turn l i h f k b = elim (ℕ-discrete k i) [
+  | yes e ↦ rw e (getD-set-same l i 0 0 h)
+  | no n ↦ getD-set-other l i k 0 0 n ∙ f k (omega arith)
+]
 
 pub all-zeros : (l : List ℕ) → ((k : ℕ) → k < length l → getD l k 0 ≡ 0) → l ≡ replicate (length l) 0
 all-zeros [] f = refl

@@ -1,9 +1,8 @@
 -- The laws of the search from one start. Assumes nothing.
 pub mod Acts
+pub mod Alike
 pub mod Endings
 pub mod Laws
-pub mod Marks
-pub mod Same
 pub mod Scan
 pub mod Slots
 pub mod Start

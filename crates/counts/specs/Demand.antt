@@ -7,13 +7,13 @@ use mathlib.Core.Bool.{not}
 use mathlib.Core.List.{List, [], _∷_}
 use Prim.Native.Nat.{ℕ, _<_}
 use lib.Dec.{T}
-use lib.Ieee.{lt, neg}
+use lib.Ieee.{Float, neg}
 use Rattle.base.specs.Refusal.{is-passed}
 use Rattle.regions.specs.Region.{places, graph, region-count, from-region, side, side-sum}
-use Rattle.counts.specs.Move.{Change, Reading, Makes, cost}
+use Rattle.counts.specs.Move.{Change, UnitMove, CostsLess, Costs, Makes}
 use Rattle.counts.specs.Cost.{CostModel, Spacing, costs-of}
 use Rattle.counts.specs.Search.{eps, two-eps}
-use Rattle.counts.specs.Solver.{Round, expansions, round}
+use Rattle.counts.specs.Solver.{Round, none, made, expansions, round}
 use Rattle.counts.specs.declared.search_limit.SearchLimit.{SearchLimit}
 
 -- "A side adds up to the sum of its edges' counts (..); 0 and 2 are opposite, and 1 and 3": side k of region r
@@ -29,14 +29,29 @@ module _ {Request : Type 0} (regions : List ℕ) (answer : Request → List ℕ 
   left-by-all counts [] = counts
   left-by-all counts (request ∷ requests) = left-by-all (left counts request) requests
 
-  -- What is claimed of one round, on the counts that it got. A move costs less than a bound if some reading does.
+  -- "Each of these rounds that changes the counts makes one unit move (..) that costs less than -1e-12 and makes no count negative": the move that
+  -- a round made
+  pub record MadeBy (counts : List ℕ) (request : Request) : Type 0 where
+    pub changes : List Change
+    pub move : UnitMove (graph places regions) counts changes
+    -- "a move costs less than a bound if some reading does"
+    pub less : CostsLess (graph places regions) counts (costs request counts) changes (neg eps)
+    -- "the counts that it leaves differ from these by the move's +1 and -1 alone", none of them negative
+    pub makes : Makes counts changes (left counts request)
+    -- "the cost of the move made, or none": the round answers the cost of a reading of this move
+    pub answered : Float
+    pub told : answer request counts .move ≡ made answered
+    pub is-cost : Costs (graph places regions) counts (costs request counts) changes answered
+
+  -- What is claimed of one round, on the counts that it got
   pub record RoundClaim (counts : List ℕ) (request : Request) : Type 0 where
-    -- "Each of these rounds that changes the counts makes one unit move (..) that costs less than -1e-12 and makes no count negative"
-    pub changed : left counts request ≢ counts
-        → (r : List Change) × Reading (graph places regions) counts r × T (lt (cost (costs request counts) r) (neg eps)) × Makes counts r (left counts request)
+    pub changed : left counts request ≢ counts → MadeBy counts request
+    -- "or none": a round that changes nothing, refused or not, answers no cost
+    pub unchanged : left counts request ≡ counts → answer request counts .move ≡ none
     -- "Each accepted one that changes nothing and reports no search cut short leaves no unit move that costs less than -2e-12"
     pub idle : T (is-passed (answer request counts .verdict)) → left counts request ≡ counts → T (not (answer request counts .cut))
-        → (r : List Change) → Reading (graph places regions) counts r → T (lt (cost (costs request counts) r) (neg two-eps)) → ⊥
+        → (r : List Change) → UnitMove (graph places regions) counts r
+        → CostsLess (graph places regions) counts (costs request counts) r (neg two-eps) → ⊥
 
   abbrev pub RoundClaims : List ℕ → List Request → Type 0
   RoundClaims counts [] = Unit {0}

@@ -2,6 +2,8 @@
 pub mod Cost
 pub mod Demand
 pub mod Move
+pub mod MoveTest
+pub mod OddMoves
 pub mod Round
 pub mod Search
 pub mod Solver

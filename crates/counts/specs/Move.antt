@@ -1,11 +1,12 @@
 -- 01, "Unit moves", first paragraph: unit moves, their readings and what a reading costs. Nothing here knows of a search. Assumes nothing.
+use mathlib.Core.Logic.{_↔_}
 use mathlib.Core.Path.{_≡_}
 use mathlib.Core.Bool.{Bool, true, false, not, _&&_, _||_, cond, Bool·beq}
-use mathlib.Core.List.{List, [], _∷_}
+use mathlib.Core.List.{List, [], _∷_, _++_, reverse}
 use Prim.Native.Nat.{ℕ, suc, _-_, _<_}
 use lib.ListN.{length, getD, set}
 use lib.Dec.{T, ltb}
-use lib.Ieee.{Float, nan, add, binary64}
+use lib.Ieee.{Float, nan, add, lt, binary64}
 use Rattle.base.specs.Lists.{In, member, Distinct, any, all}
 use Rattle.regions.specs.Region.{Constraint, constraint, holds}
 
@@ -65,6 +66,33 @@ pub record Reading (g : List Constraint) (counts : List ℕ) (r : List Change) :
   pub move : UnitMove g counts r
   pub linked : Linked g r
 
+-- the same changes, listed in another order
+abbrev pub Rearranged : List Change → List Change → Type 0
+Rearranged r q = (z : Change) → In z r ↔ In z q
+
+-- q reads the move whose changes r lists
+pub record ReadingOf (g : List Constraint) (counts : List ℕ) (r q : List Change) : Type 0 where
+  pub lists : Rearranged r q
+  pub reads : Reading g counts q
+
+-- the edge listed last, after z
+abbrev pub last-edge : Change → List Change → ℕ
+last-edge z [] = z .0
+last-edge z (w ∷ r) = last-edge w r
+
+-- a reading of a loop comes back: its first and its last edge share a constraint. (So do the two edges of any move of two; from either edge
+-- and from either end is the same there.)
+abbrev pub Loop : List Constraint → List Change → Type 0
+Loop g [] = ⊥
+Loop g (z ∷ r) = T (share g (z .0) (last-edge z r))
+
+-- "a chain from either end, a loop from any edge either way": how else what one reading lists can be read
+pub data ReadAs (g : List Constraint) : List Change → List Change → Type 0 where
+  as-listed : (r : List Change) → ReadAs g r r
+  from-the-end : (r : List Change) → ReadAs g r (reverse r)
+  around : (p q : List Change) → Loop g (p ++ q) → ReadAs g (p ++ q) (q ++ p)
+  around-the-other-way : (p q : List Change) → Loop g (p ++ q) → ReadAs g (p ++ q) (reverse (q ++ p))
+
 -- what a change costs: any function of the edge and the sign
 abbrev pub EdgeCost : Type 0
 EdgeCost = ℕ → Bool → Float
@@ -77,6 +105,18 @@ cost-from edge-cost t (z ∷ r) = cost-from edge-cost (add binary64 t (edge-cost
 abbrev pub cost : EdgeCost → List Change → Float
 cost edge-cost [] = nan
 cost edge-cost (z ∷ r) = cost-from edge-cost (edge-cost (z .0) (z .1)) r
+
+-- "a move costs less than a bound if some reading does": the move whose changes r lists
+pub record CostsLess (g : List Constraint) (counts : List ℕ) (edge-cost : EdgeCost) (r : List Change) (bound : Float) : Type 0 where
+  pub reading : List Change
+  pub of-move : ReadingOf g counts r reading
+  pub less : T (lt (cost edge-cost reading) bound)
+
+-- a move has a cost for each of its readings: k is one of these
+pub record Costs (g : List Constraint) (counts : List ℕ) (edge-cost : EdgeCost) (r : List Change) (k : Float) : Type 0 where
+  pub reading : List Change
+  pub of-move : ReadingOf g counts r reading
+  pub sum : k ≡ cost edge-cost reading
 
 -- `apply_changes`: the counts after the changes
 abbrev pub changed : Bool → ℕ → ℕ

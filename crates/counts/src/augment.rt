@@ -12,16 +12,15 @@ use crate::search::run;
 use crate::search::wide;
 ghost use mathlib.Core.Path.{_≡_};
 ghost use mathlib.Core.Bool.{false, _||_};
-ghost use Prim.Native.Nat.{_*_, _/_, _≤_, _<_};
-ghost use lib.Dec.{T, ltb};
-ghost use lib.ListN.{length, replicate};
+ghost use Prim.Native.Nat.{_*_, _≤_, _<_};
+ghost use lib.ListN.{replicate};
 ghost use Rattle.counts.specs.Cost.{by-ranges};
 ghost use Rattle.counts.specs.Move.{changed, apply-changes as changed-counts};
 ghost use Rattle.counts.specs.Round.{improves as improves-on};
-ghost use Rattle.counts.specs.inner.Tables.{Tables, path-of, changes, path-size};
-ghost use Rattle.counts.specs.inner.RoundContract.{Buffers, SearchedFrom, Remembered, Recalled, AllKnown, FoundIn, Priced, CanApply, start-at, weighed as weighed-of, chosen};
+ghost use Rattle.counts.specs.inner.Tables.{MayFillCosts, path-of, changes};
+ghost use Rattle.counts.specs.inner.RoundContract.{MaySearch, SearchedFrom, MayRecall, Recalled, MayFind, AllKnown, FoundIn, Started};
+ghost use Rattle.counts.specs.inner.RoundContract.{MayChange, MayApply, StartIs, ChosenOf, weighed as weighed-of};
 ghost use Rattle.regions.specs.Accept.{max-edges};
-ghost use Rattle.counts.specs.Values.{max-count};
 
 const NO_START: usize = CHANGES;
 
@@ -51,7 +50,7 @@ fn either(a: bool, b: bool) -> bool
 // The k-th start, packed: edges upward, +1 before -1.
 fn start_at(k: usize) -> usize
     requires { ⌜ k < changes ⌝ }
-    ensures { λ r. ⌜ (r ≡ start-at k) × (r < changes) × (r / 2 ≡ k / 2) ⌝ }
+    ensures { λ r. ⌜ StartIs k r ⌝ }
 {
     k / 2 * 2 + (1 - k % 2)
 }
@@ -69,9 +68,9 @@ fn search_from(
     best: &mut [u16; PATH_SIZE],
     c: usize,
 ) -> SearchState
-    requires { ⌜ Tables (now regions) (now incident) (now own) × (c < changes) ⌝ }
-    requires { ⌜ Buffers (now used) (now path) (now best) ⌝ }
-    ensures { λ r. ⌜ SearchedFrom (now (regions .entry)) (now (costs .entry)) (now (allowed .entry)) limit c (now (used .exit)) (now (path .exit)) (now (best .exit)) r ⌝ }
+    requires { ⌜ MaySearch (now regions) (now incident) (now own) (now used) (now path) (now best) c ⌝ }
+    ensures { λ r. ⌜ SearchedFrom (now (regions .entry)) (now (costs .entry)) (now (allowed .entry)) limit c
+        (now (used .exit)) (now (path .exit)) (now (best .exit)) r ⌝ }
 {
     if allowed[c] {
         return run(
@@ -106,10 +105,10 @@ fn recall(
     known: &mut [bool; CHANGES],
     c: usize,
 )
-    requires { ⌜ Tables (now regions) (now incident) (now own) × (c < changes) ⌝ }
-    requires { ⌜ Buffers (now used) (now path) (now best) ⌝ }
-    requires { ⌜ Remembered (now regions) (now costs) (now allowed) limit (now kept) (now cut) (now known) ⌝ }
-    ensures { λ _. ⌜ Recalled (now (regions .entry)) (now (costs .entry)) (now (allowed .entry)) limit c (now (known .entry)) (now (used .exit)) (now (path .exit)) (now (best .exit)) (now (kept .exit)) (now (cut .exit)) (now (known .exit)) ⌝ }
+    requires { ⌜ MayRecall (now regions) (now incident) (now own) (now costs) (now allowed) limit
+        (now used) (now path) (now best) (now kept) (now cut) (now known) c ⌝ }
+    ensures { λ _. ⌜ Recalled (now (regions .entry)) (now (costs .entry)) (now (allowed .entry)) limit c (now (known .entry))
+        (now (used .exit)) (now (path .exit)) (now (best .exit)) (now (kept .exit)) (now (cut .exit)) (now (known .exit)) ⌝ }
 {
     if known[c] {
         return;
@@ -147,10 +146,10 @@ fn search_starts(
     known: &mut [bool; CHANGES],
     n: usize,
 )
-    requires { ⌜ Tables (now regions) (now incident) (now own) × (n ≤ max-edges) ⌝ }
-    requires { ⌜ Buffers (now used) (now path) (now best) ⌝ }
-    requires { ⌜ Remembered (now regions) (now costs) (now allowed) limit (now kept) (now cut) (now known) ⌝ }
-    ensures { λ _. ⌜ AllKnown (now (regions .entry)) (now (costs .entry)) (now (allowed .entry)) limit (n * 2) (now (used .exit)) (now (path .exit)) (now (best .exit)) (now (kept .exit)) (now (cut .exit)) (now (known .exit)) ⌝ }
+    requires { ⌜ MayFind (now regions) (now incident) (now own) (now costs) (now allowed) limit
+        (now used) (now path) (now best) (now kept) (now cut) (now known) n ⌝ }
+    ensures { λ _. ⌜ AllKnown (now (regions .entry)) (now (costs .entry)) (now (allowed .entry)) limit (n * 2)
+        (now (used .exit)) (now (path .exit)) (now (best .exit)) (now (kept .exit)) (now (cut .exit)) (now (known .exit)) ⌝ }
 {
     let mut c = 0;
     while c < n * 2 {
@@ -206,7 +205,7 @@ impl Choice {
 // The start whose cost is kept, the starts weighed in their order.
 fn choose(kept: &[f64; CHANGES], cut: &[bool; CHANGES], n: usize) -> Choice
     requires { ⌜ n ≤ max-edges ⌝ }
-    ensures { λ r. ⌜ (r ≡ chosen (now (kept .entry)) (now (cut .entry)) (n * 2)) × (r .winner ≤ changes) ⌝ }
+    ensures { λ r. ⌜ ChosenOf (now (kept .entry)) (now (cut .entry)) n r ⌝ }
 {
     let mut out = Choice {
         kept: infinity(),
@@ -238,10 +237,10 @@ pub(crate) fn find_augmentation(
     known: &mut [bool; CHANGES],
     n: usize,
 ) -> FoundMove
-    requires { ⌜ Tables (now regions) (now incident) (now own) × (n ≤ max-edges) ⌝ }
-    requires { ⌜ Buffers (now used) (now path) (now best) ⌝ }
-    requires { ⌜ Remembered (now regions) (now costs) (now allowed) limit (now kept) (now cut) (now known) ⌝ }
-    ensures { λ r. ⌜ FoundIn (now (regions .entry)) (now (costs .entry)) (now (allowed .entry)) limit n (now (used .exit)) (now (path .exit)) (now (best .exit)) (now (kept .exit)) (now (cut .exit)) (now (known .exit)) r ⌝ }
+    requires { ⌜ MayFind (now regions) (now incident) (now own) (now costs) (now allowed) limit
+        (now used) (now path) (now best) (now kept) (now cut) (now known) n ⌝ }
+    ensures { λ r. ⌜ FoundIn (now (regions .entry)) (now (costs .entry)) (now (allowed .entry)) limit n
+        (now (used .exit)) (now (path .exit)) (now (best .exit)) (now (kept .exit)) (now (cut .exit)) (now (known .exit)) r ⌝ }
 {
     search_starts(
         regions,
@@ -288,7 +287,7 @@ pub(crate) fn find_augmentation(
 
 // A count after +1 or -1.
 fn changed_count(s: u32, plus: bool) -> u32
-    requires { ⌜ (s ≤ max-count) × T (plus || ltb 0 s) ⌝ }
+    requires { ⌜ MayChange s plus ⌝ }
     ensures { λ r. ⌜ r ≡ changed plus s ⌝ }
 {
     if plus {
@@ -299,7 +298,7 @@ fn changed_count(s: u32, plus: bool) -> u32
 
 // The first `len` changes, made.
 pub(crate) fn apply_changes(counts: &mut [u32], best: &[u16; PATH_SIZE], len: usize)
-    requires { ⌜ CanApply (now counts) (path-of len (now best)) × (len ≤ path-size) × (length (now best) ≡ path-size) ⌝ }
+    requires { ⌜ MayApply (now counts) (now best) len ⌝ }
     ensures { λ _. ⌜ now (counts .exit) ≡ changed-counts (path-of len (now (best .entry))) (now (counts .entry)) ⌝ }
 {
     let mut i = 0;
@@ -328,8 +327,9 @@ pub(crate) fn start_tables(
     allowed: &mut [bool; CHANGES],
     known: &mut [bool; CHANGES],
 )
-    requires { ⌜ (length (now counts) ≤ max-edges) × (length (now least) ≡ length (now counts)) × (length (now most) ≡ length (now counts)) × (length (now costs) ≡ changes) × (length (now allowed) ≡ changes) ⌝ }
-    ensures { λ _. ⌜ Priced (by-ranges (now (least .entry)) (now (most .entry))) (now (counts .entry)) (now (costs .exit)) (now (allowed .exit)) × (now (known .exit) ≡ replicate changes false) ⌝ }
+    requires { ⌜ MayFillCosts (now counts) (now least) (now most) (now costs) (now allowed) ⌝ }
+    ensures { λ _. let model = by-ranges (now (least .entry)) (now (most .entry)) in
+        ⌜ Started model (now (counts .entry)) (now (costs .exit)) (now (allowed .exit)) (now (known .exit)) ⌝ }
 {
     fill_costs(counts, least, most, costs, allowed);
     forget(known);

@@ -9,14 +9,15 @@ use regions::accept::check_records;
 use regions::region::MAX_EDGES;
 ghost use mathlib.Core.Path.{_≡_};
 ghost use mathlib.Core.List.{[]};
-ghost use Prim.Native.Nat.{_+_, _≤_, _<_};
+ghost use Prim.Native.Nat.{_≤_};
 ghost use lib.ListN.{length};
 ghost use Rattle.regions.specs.Region.{places};
 ghost use Rattle.base.specs.Refusal.{outcome};
 ghost use Rattle.counts.specs.Cost.{within};
 ghost use Rattle.regions.specs.Accept.{limits-test, max-edges};
-ghost use Rattle.counts.specs.Values.{ideal-ok, first-bad, ranges, ends-ok, in-order, ranges-test, counts-test, limit-test, spacing-limits, values-test};
-ghost use Rattle.counts.specs.inner.Checks.{round-head, solve-head};
+ghost use Rattle.counts.specs.Values.{ideal-ok, first-bad, ranges, ends-ok, in-order};
+ghost use Rattle.counts.specs.Values.{ranges-test, counts-test, limit-test, spacing-limits, values-test};
+ghost use Rattle.counts.specs.inner.Checks.{MayTestRanges, round-head, solve-head};
 ghost use Rattle.counts.specs.Solver.{energy-test};
 
 // Finite and above 0.
@@ -50,7 +51,7 @@ fn is_in_order(least: f64, most: f64) -> bool
 
 // 2: an end of a range that is not finite or not above 0.
 fn check_ends(least: &[f64], most: &[f64]) -> Check
-    requires { ⌜ (length (now least) ≤ max-edges) × (length (now most) ≡ length (now least)) ⌝ }
+    requires { ⌜ MayTestRanges (now least) (now most) ⌝ }
     ensures { λ r. ⌜ outcome r ≡ first-bad ends-ok 2 0 (ranges (now (least .entry)) (now (most .entry))) ⌝ }
 {
     let mut e = 0usize;
@@ -69,7 +70,7 @@ fn check_ends(least: &[f64], most: &[f64]) -> Check
 
 // 35: a least above its most.
 fn check_order(least: &[f64], most: &[f64]) -> Check
-    requires { ⌜ (length (now least) ≤ max-edges) × (length (now most) ≡ length (now least)) ⌝ }
+    requires { ⌜ MayTestRanges (now least) (now most) ⌝ }
     ensures { λ r. ⌜ outcome r ≡ first-bad in-order 35 0 (ranges (now (least .entry)) (now (most .entry))) ⌝ }
 {
     let mut e = 0usize;
@@ -88,7 +89,7 @@ fn check_order(least: &[f64], most: &[f64]) -> Check
 
 // 2, then 35.
 fn check_ranges(least: &[f64], most: &[f64]) -> Check
-    requires { ⌜ (length (now least) ≤ max-edges) × (length (now most) ≡ length (now least)) ⌝ }
+    requires { ⌜ MayTestRanges (now least) (now most) ⌝ }
     ensures { λ r. ⌜ outcome r ≡ ranges-test (now (least .entry)) (now (most .entry)) ⌝ }
 {
     let ends = check_ends(least, most);
@@ -157,7 +158,8 @@ pub(crate) fn check_round(
     counts: &[u32],
     limit: u32,
 ) -> Check
-    ensures { λ r. ⌜ outcome r ≡ round-head places (now (regions .entry)) (within (now (least .entry)) (now (most .entry))) (now (counts .entry)) limit ⌝ }
+    ensures { λ r. let ranges = within (now (least .entry)) (now (most .entry)) in
+        ⌜ outcome r ≡ round-head places (now (regions .entry)) ranges (now (counts .entry)) limit ⌝ }
 {
     let of_spacing = check_spacing_limits(regions, least, most);
     let of_counts = check_limits(regions, counts.len());
@@ -182,7 +184,8 @@ pub(crate) fn check_solve(
     room: usize,
     limit: u32,
 ) -> Check
-    ensures { λ r. ⌜ outcome r ≡ solve-head places (now (regions .entry)) (within (now (least .entry)) (now (most .entry))) room limit ⌝ }
+    ensures { λ r. let ranges = within (now (least .entry)) (now (most .entry)) in
+        ⌜ outcome r ≡ solve-head places (now (regions .entry)) ranges room limit ⌝ }
 {
     let of_spacing = check_spacing_limits(regions, least, most);
     let of_limit = check_limit(limit);

@@ -8,11 +8,12 @@ use crate::limits::NO_CONSTRAINT;
 use crate::search::wide;
 use regions::region::MAX_EDGES;
 ghost use mathlib.Core.Path.{_≡_};
-ghost use Prim.Native.Nat.{ℕ, _*_, _≤_, _<_};
+ghost use Prim.Native.Nat.{_*_, _<_};
 ghost use lib.ListN.{length, getD};
 ghost use Rattle.counts.specs.Cost.{range-delta, by-ranges};
-ghost use Rattle.counts.specs.inner.Tables.{no-constraint, changes, max-constraints};
-ghost use Rattle.counts.specs.inner.Components.{Labels, StillEqual, OneMark, Taken, EdgeRefreshed, Refreshed, renamed as renamed-to};
+ghost use Rattle.counts.specs.inner.Tables.{no-constraint, max-constraints};
+ghost use Rattle.counts.specs.inner.Components.{Labels, MayJoin, MarksLent, LabelsLent, Renamed, MarksJoined, AllJoined, AllTaken};
+ghost use Rattle.counts.specs.inner.Components.{renamed as renamed-to, EdgeRefreshed, Refreshed, MayRefreshEdge, MayRefresh};
 ghost use Rattle.regions.specs.Accept.{max-edges};
 
 // ---- labels
@@ -29,7 +30,7 @@ fn renamed(label: u16, from: u16, to: u16) -> u16
 // Mark `from` becomes `to`, wherever it stands.
 fn rename(marks: &mut [u16; MAX_CONSTRAINTS], from: u16, to: u16)
     requires { ⌜ length (now marks) ≡ max-constraints ⌝ }
-    ensures { λ _. ⌜ (length (now (marks .exit)) ≡ max-constraints) × ((i : ℕ) → i < max-constraints → getD (now (marks .exit)) i 0 ≡ renamed-to from to (getD (now (marks .entry)) i 0)) ⌝ }
+    ensures { λ _. ⌜ Renamed (now (marks .entry)) from to (now (marks .exit)) ⌝ }
 {
     let mut i = 0usize;
     while i < MAX_CONSTRAINTS {
@@ -40,8 +41,8 @@ fn rename(marks: &mut [u16; MAX_CONSTRAINTS], from: u16, to: u16)
 
 // The two constraints of edge e, if it has two, get one mark.
 fn join_at(incident: &[u16; EDGE_SLOTS], e: usize, marks: &mut [u16; MAX_CONSTRAINTS])
-    requires { ⌜ (e < max-edges) × (length (now marks) ≡ max-constraints) ⌝ }
-    ensures { λ _. ⌜ StillEqual (now (marks .entry)) (now (marks .exit)) × OneMark (now (incident .entry)) (now (marks .exit)) e ⌝ }
+    requires { ⌜ MayJoin e (now marks) ⌝ }
+    ensures { λ _. ⌜ MarksJoined (now (incident .entry)) e (now (marks .entry)) (now (marks .exit)) ⌝ }
 {
     let a = wide(incident[e * 2]);
     let b = wide(incident[e * 2 + 1]);
@@ -61,8 +62,8 @@ fn join_at(incident: &[u16; EDGE_SLOTS], e: usize, marks: &mut [u16; MAX_CONSTRA
 
 // The constraints of each of n edges get one mark.
 fn join_constraints(incident: &[u16; EDGE_SLOTS], n: usize, marks: &mut [u16; MAX_CONSTRAINTS])
-    requires { ⌜ (n ≤ max-edges) × (length (now marks) ≡ max-constraints) ⌝ }
-    ensures { λ _. ⌜ ((x : ℕ) → x < n → OneMark (now (incident .entry)) (now (marks .exit)) x) ⌝ }
+    requires { ⌜ MarksLent n (now marks) ⌝ }
+    ensures { λ _. ⌜ AllJoined n (now (incident .entry)) (now (marks .exit)) ⌝ }
 {
     let mut e = 0usize;
     while e < n {
@@ -86,7 +87,8 @@ fn number_constraints(marks: &mut [u16; MAX_CONSTRAINTS])
 // The label of edge e is the mark of its constraints; an edge in no constraint is a component of its own.
 fn label_of(incident: &[u16; EDGE_SLOTS], marks: &[u16; MAX_CONSTRAINTS], e: usize) -> u16
     requires { ⌜ e < max-edges ⌝ }
-    ensures { λ r. ⌜ (getD (now (incident .entry)) (e * 2) 0 < no-constraint → r ≡ getD (now (marks .entry)) (getD (now (incident .entry)) (e * 2) 0) 0) ⌝ }
+    ensures { λ r. let first = getD (now (incident .entry)) (e * 2) 0 in
+        ⌜ (first < no-constraint → r ≡ getD (now (marks .entry)) first 0) ⌝ }
 {
     let a = wide(incident[e * 2]);
     if a < NO_CONSTRAINT {
@@ -101,8 +103,8 @@ fn take_marks(
     marks: &[u16; MAX_CONSTRAINTS],
     labels: &mut [u16; MAX_EDGES],
 )
-    requires { ⌜ (n ≤ max-edges) × (length (now labels) ≡ max-edges) ⌝ }
-    ensures { λ _. ⌜ ((x : ℕ) → x < n → Taken (now (incident .entry)) (now (marks .entry)) (now (labels .exit)) x) ⌝ }
+    requires { ⌜ LabelsLent n (now labels) ⌝ }
+    ensures { λ _. ⌜ AllTaken n (now (incident .entry)) (now (marks .entry)) (now (labels .exit)) ⌝ }
 {
     let mut e = 0usize;
     while e < n {
@@ -113,7 +115,7 @@ fn take_marks(
 
 // The labels of n edges.
 pub(crate) fn label_edges(incident: &[u16; EDGE_SLOTS], n: usize, labels: &mut [u16; MAX_EDGES])
-    requires { ⌜ (n ≤ max-edges) × (length (now labels) ≡ max-edges) ⌝ }
+    requires { ⌜ LabelsLent n (now labels) ⌝ }
     ensures { λ _. ⌜ Labels n (now (incident .entry)) (now (labels .exit)) ⌝ }
 {
     let mut marks = [0; MAX_CONSTRAINTS];
@@ -136,8 +138,9 @@ fn refresh_edge(
     allowed: &mut [bool; CHANGES],
     known: &mut [bool; CHANGES],
 )
-    requires { ⌜ (e < max-edges) × (length (now costs) ≡ changes) × (length (now allowed) ≡ changes) × (length (now known) ≡ changes) ⌝ }
-    ensures { λ _. ⌜ EdgeRefreshed label component s (range-delta s least most) e (now (costs .entry)) (now (allowed .entry)) (now (known .entry)) (now (costs .exit)) (now (allowed .exit)) (now (known .exit)) ⌝ }
+    requires { ⌜ MayRefreshEdge e (now costs) (now allowed) (now known) ⌝ }
+    ensures { λ _. ⌜ EdgeRefreshed label component s (range-delta s least most) e
+        (now (costs .entry)) (now (allowed .entry)) (now (known .entry)) (now (costs .exit)) (now (allowed .exit)) (now (known .exit)) ⌝ }
 {
     if label != component {
         return;
@@ -158,9 +161,10 @@ pub(crate) fn refresh_component(
     allowed: &mut [bool; CHANGES],
     known: &mut [bool; CHANGES],
 )
-    requires { ⌜ (length (now counts) ≤ max-edges) × (length (now least) ≡ length (now counts)) × (length (now most) ≡ length (now counts)) ⌝ }
-    requires { ⌜ (length (now costs) ≡ changes) × (length (now allowed) ≡ changes) × (length (now known) ≡ changes) ⌝ }
-    ensures { λ _. ⌜ Refreshed (length (now (counts .entry))) (now (labels .entry)) component (now (counts .entry)) (by-ranges (now (least .entry)) (now (most .entry))) (now (costs .entry)) (now (allowed .entry)) (now (known .entry)) (now (costs .exit)) (now (allowed .exit)) (now (known .exit)) ⌝ }
+    requires { ⌜ MayRefresh (now counts) (now least) (now most) (now costs) (now allowed) (now known) ⌝ }
+    ensures { λ _. ⌜ Refreshed (length (now (counts .entry))) (now (labels .entry)) component
+        (now (counts .entry)) (by-ranges (now (least .entry)) (now (most .entry)))
+        (now (costs .entry)) (now (allowed .entry)) (now (known .entry)) (now (costs .exit)) (now (allowed .exit)) (now (known .exit)) ⌝ }
 {
     let mut e = 0usize;
     while e < counts.len() {

@@ -6,9 +6,9 @@ ghost use Prim.Native.Nat.{_≤_};
 ghost use lib.ListN.{length};
 ghost use lib.Dec.{T};
 ghost use Rattle.base.specs.Lists.{all};
-ghost use Rattle.regions.specs.Region.{places, constraints, graph, record-size};
-ghost use Rattle.regions.specs.Accept.{sides-fit, records-whole};
-ghost use Rattle.counts.specs.inner.Checks.{sum-of-side};
+ghost use Rattle.regions.specs.Region.{places, constraints, graph};
+ghost use Rattle.regions.specs.Accept.{records-whole};
+ghost use Rattle.counts.specs.inner.Checks.{RecordThere, sum-of-side};
 ghost use Rattle.counts.specs.Solver.{constraint-holds};
 
 // What a side adds up to.
@@ -53,8 +53,7 @@ fn constraint_holds(counts: &[u32], a: &[u16], b: &[u16]) -> bool
 
 // Both constraints of the record that stands first hold.
 fn region_holds(records: &[u16], counts: &[u32]) -> bool
-    requires { ⌜ record-size places ≤ length (now records) ⌝ }
-    requires { ⌜ T (sides-fit places 1 (now records)) ⌝ }
+    requires { ⌜ RecordThere (now records) ⌝ }
     ensures { λ r. ⌜ r ≡ all (constraint-holds (now (counts .entry))) (constraints places 1 (now (records .entry))) ⌝ }
 {
     let bottom = side(records, 0);

@@ -2,13 +2,11 @@
 use crate::limits::CHANGES;
 ghost use mathlib.Core.Path.{_≡_};
 ghost use mathlib.Core.Bool.{true, false};
-ghost use Prim.Native.Nat.{ℕ, _≤_, _<_};
 ghost use lib.ListN.{length};
 ghost use lib.Dec.{ltb};
 ghost use lib.Ieee.{ofBits, add, sub, binary64};
 ghost use Rattle.counts.specs.Cost.{deviation, square, step, range-deviation, range-delta, by-ranges, energy-from};
-ghost use Rattle.counts.specs.inner.Tables.{set-both, Entries, changes};
-ghost use Rattle.regions.specs.Accept.{max-edges};
+ghost use Rattle.counts.specs.inner.Tables.{set-both, MaySetCosts, MayFillCosts, CostsFilled};
 
 // A reading is taken in place of another one only where it costs less by more than this: 01's E.
 pub(crate) const EPS_IMPROVEMENT: f64 = 1e-12;
@@ -74,8 +72,9 @@ pub(crate) fn set_costs(
     costs: &mut [f64; CHANGES],
     allowed: &mut [bool; CHANGES],
 )
-    requires { ⌜ (e < max-edges) × (length (now costs) ≡ changes) × (length (now allowed) ≡ changes) ⌝ }
-    ensures { λ _. ⌜ (now (costs .exit) ≡ set-both (now (costs .entry)) e (range-delta s least most true) (range-delta s least most false)) × (now (allowed .exit) ≡ set-both (now (allowed .entry)) e true (ltb 0 s)) ⌝ }
+    requires { ⌜ MaySetCosts e (now costs) (now allowed) ⌝ }
+    ensures { λ _. ⌜ (now (costs .exit) ≡ set-both (now (costs .entry)) e (range-delta s least most true) (range-delta s least most false))
+        × (now (allowed .exit) ≡ set-both (now (allowed .entry)) e true (ltb 0 s)) ⌝ }
 {
     let down = e * 2;
     let up = down + 1;
@@ -95,11 +94,9 @@ pub(crate) fn fill_costs(
     costs: &mut [f64; CHANGES],
     allowed: &mut [bool; CHANGES],
 )
-    requires { ⌜ length (now counts) ≤ max-edges ⌝ }
-    requires { ⌜ (length (now least) ≡ length (now counts)) × (length (now most) ≡ length (now counts)) ⌝ }
-    requires { ⌜ (length (now costs) ≡ changes) × (length (now allowed) ≡ changes) ⌝ }
-    ensures { λ r. ⌜ ((y : ℕ) → y < length (now (counts .entry)) → Entries (now (counts .entry)) (by-ranges (now (least .entry)) (now (most .entry))) (now (costs .exit)) (now (allowed .exit)) y) ⌝ }
-    ensures { λ r. ⌜ (length (now (costs .exit)) ≡ changes) × (length (now (allowed .exit)) ≡ changes) ⌝ }
+    requires { ⌜ MayFillCosts (now counts) (now least) (now most) (now costs) (now allowed) ⌝ }
+    ensures { λ _. ⌜ CostsFilled (length (now (counts .entry))) (now (counts .entry)) (by-ranges (now (least .entry)) (now (most .entry)))
+        (now (costs .exit)) (now (allowed .exit)) ⌝ }
 {
     let mut e = 0usize;
     while e < counts.len() {

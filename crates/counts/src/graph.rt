@@ -1,8 +1,8 @@
 // `build_graph`: the tables that tell the search which constraints hold an edge. In 000 these are lists of lists; here the constraints stay in
 // the records, and each edge has two slots, since test 6 turns away an edge in over two constraints. Tests 1 and 3 to 5 come before.
-// At slot 2 * e + k, k being 0 or 1, `incident` has the number of the k-th constraint that holds edge e, NO_CONSTRAINT if there is none, and `own` the
-// side on which e stands in it. Sides are counted over all records: side s starts at s * SIDE_SIZE, with its number of edges, and constraint ci has
-// the sides ci / 2 * 4 + ci % 2 and, two further on, the opposite one.
+// At slot 2 * e + k, k being 0 or 1, `incident` has the number of the k-th constraint that holds edge e, NO_CONSTRAINT if there is none, and
+// `own` the side on which e stands in it. Sides are counted over all records: side s starts at s * SIDE_SIZE, with its number of edges, and
+// constraint ci has the sides ci / 2 * 4 + ci % 2 and, two further on, the opposite one.
 use crate::limits::EDGE_SLOTS;
 use base::refusal::Check;
 use base::refusal::Refusal;
@@ -12,13 +12,12 @@ use regions::region::SIDE_SIZE;
 ghost use mathlib.Core.Path.{_≡_};
 ghost use mathlib.Core.List.{List, [], _∷_};
 ghost use Prim.Native.Nat.{ℕ, _≤_, _<_};
-ghost use lib.ListN.{length, getD, replicate};
-ghost use lib.Dec.{T};
-ghost use Rattle.base.specs.Refusal.{is-passed, outcome};
-ghost use Rattle.regions.specs.Region.{Constraint, places, region-count, incidence};
-ghost use Rattle.regions.specs.Accept.{limits-test, pairs-test, overused-test, max-edges};
-ghost use Rattle.counts.specs.inner.Tables.{the-graph, edges-on, no-constraint, edge-slots, max-sides};
-ghost use Rattle.counts.specs.inner.Graph.{SideTested, Tested, Sized, Placed, Filled, Built};
+ghost use lib.ListN.{length, getD};
+ghost use Rattle.base.specs.Refusal.{outcome};
+ghost use Rattle.regions.specs.Region.{Constraint, incidence};
+ghost use Rattle.regions.specs.Accept.{overused-test, max-edges};
+ghost use Rattle.counts.specs.inner.Tables.{the-graph, edges-on};
+ghost use Rattle.counts.specs.inner.Graph.{MayPlaceEdge, MayPlaceSide, MayPlace, MayBuild, Placed, Filled, Built};
 
 // Edge e stands on side s of constraint ci: both go to its next slot. An edge in over two constraints is only counted, for test 6.
 fn place_edge(
@@ -29,9 +28,9 @@ fn place_edge(
     s: usize,
     e: usize,
 )
-    requires { ⌜ Sized (now incident) (now own) (now uses) ⌝ }
-    requires { ⌜ (ci < no-constraint) × (s < max-sides) × (e < max-edges) × (getD (now uses) e 0 ≤ max-sides) ⌝ }
-    ensures { λ _. ⌜ Placed ci s (e ∷ []) (now (incident .entry)) (now (own .entry)) (now (uses .entry)) (now (incident .exit)) (now (own .exit)) (now (uses .exit)) ⌝ }
+    requires { ⌜ MayPlaceEdge (now incident) (now own) (now uses) ci s e ⌝ }
+    ensures { λ _. ⌜ Placed ci s (e ∷ [])
+        (now (incident .entry)) (now (own .entry)) (now (uses .entry)) (now (incident .exit)) (now (own .exit)) (now (uses .exit)) ⌝ }
 {
     let n = uses[e] as usize;
     uses[e] = (n + 1) as u16;
@@ -52,9 +51,9 @@ fn place_side(
     ci: usize,
     s: usize,
 )
-    requires { ⌜ SideTested (now regions) s × (ci < no-constraint) ⌝ }
-    requires { ⌜ Sized (now incident) (now own) (now uses) × ((y : ℕ) → y < max-edges → getD (now uses) y 0 ≤ max-sides) ⌝ }
-    ensures { λ _. ⌜ Placed ci s (edges-on (now (regions .entry)) s) (now (incident .entry)) (now (own .entry)) (now (uses .entry)) (now (incident .exit)) (now (own .exit)) (now (uses .exit)) ⌝ }
+    requires { ⌜ MayPlaceSide (now regions) (now incident) (now own) (now uses) ci s ⌝ }
+    ensures { λ _. ⌜ Placed ci s (edges-on (now (regions .entry)) s)
+        (now (incident .entry)) (now (own .entry)) (now (uses .entry)) (now (incident .exit)) (now (own .exit)) (now (uses .exit)) ⌝ }
 {
     let start = s * SIDE_SIZE;
     let count = regions[start] as usize;
@@ -73,9 +72,9 @@ fn place_constraints(
     own: &mut [u16; EDGE_SLOTS],
     uses: &mut [u16; MAX_EDGES],
 )
-    requires { ⌜ Tested (now regions) ⌝ }
-    requires { ⌜ (now incident ≡ replicate edge-slots no-constraint) × (length (now own) ≡ edge-slots) × (now uses ≡ replicate max-edges 0) ⌝ }
-    ensures { λ _. ⌜ Filled (the-graph (now (regions .entry))) (the-graph (now (regions .entry))) (now (incident .exit)) (now (own .exit)) (now (uses .exit)) ⌝ }
+    requires { ⌜ MayPlace (now regions) (now incident) (now own) (now uses) ⌝ }
+    ensures { λ _. let g = the-graph (now (regions .entry)) in
+        ⌜ Filled g g (now (incident .exit)) (now (own .exit)) (now (uses .exit)) ⌝ }
 {
     let m = regions.len() / RECORD_SIZE * 2;
     let mut ci = 0;
@@ -90,7 +89,8 @@ fn place_constraints(
 // 6: the lowest edge in over two constraints, by the numbers counted in `uses`: of whatever graph they are the numbers, the answer is its test.
 fn check_overused(uses: &[u16; MAX_EDGES], n: usize) -> Check
     requires { ⌜ n ≤ max-edges ⌝ }
-    ensures { λ r. ⌜ ((g : List Constraint) → ((y : ℕ) → y < n → getD (now (uses .entry)) y 0 ≡ length (incidence g y)) → outcome r ≡ overused-test g 0 n) ⌝ }
+    ensures { λ r. ⌜ ((g : List Constraint) → ((y : ℕ) → y < n → getD (now (uses .entry)) y 0 ≡ length (incidence g y))
+        → outcome r ≡ overused-test g 0 n) ⌝ }
 {
     let mut e = 0;
     while e < n {
@@ -109,8 +109,7 @@ pub(crate) fn build_graph(
     incident: &mut [u16; EDGE_SLOTS],
     own: &mut [u16; EDGE_SLOTS],
 ) -> Check
-    requires { ⌜ T (is-passed (limits-test places n (now regions))) × T (is-passed (pairs-test places n 0 (region-count places (now regions)) (now regions))) ⌝ }
-    requires { ⌜ (now incident ≡ replicate edge-slots no-constraint) × (length (now own) ≡ edge-slots) ⌝ }
+    requires { ⌜ MayBuild n (now regions) (now incident) (now own) ⌝ }
     ensures { λ r. ⌜ Built n (now (regions .entry)) (now (incident .exit)) (now (own .exit)) (outcome r) ⌝ }
 {
     let mut uses = [0; MAX_EDGES];

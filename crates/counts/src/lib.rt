@@ -40,7 +40,8 @@ pub fn round_within(
     counts: &mut [u32],
     limit: SearchLimit,
 ) -> RoundAnswer
-    ensures { λ r. ⌜ round-of r (now (counts .exit)) ≡ round (now (regions .entry)) (within (now (least .entry)) (now (most .entry))) (now (counts .entry)) (expansions limit) ⌝ }
+    ensures { λ r. let ranges = within (now (least .entry)) (now (most .entry)) in
+        ⌜ round-of r (now (counts .exit)) ≡ round (now (regions .entry)) ranges (now (counts .entry)) (expansions limit) ⌝ }
 {
     let limit = limit.expansions();
     if let Check::Refused(r) = check_round(regions, least, most, counts, limit) {
@@ -56,7 +57,8 @@ pub fn round_within(
 
 // One round, with an ideal for each edge: a range whose ends are equal.
 pub fn round(regions: &[u16], ideals: &[f64], counts: &mut [u32], limit: SearchLimit) -> RoundAnswer
-    ensures { λ r. ⌜ round-of r (now (counts .exit)) ≡ round (now (regions .entry)) (by (now (ideals .entry))) (now (counts .entry)) (expansions limit) ⌝ }
+    ensures { λ r. let ideal = by (now (ideals .entry)) in
+        ⌜ round-of r (now (counts .exit)) ≡ round (now (regions .entry)) ideal (now (counts .entry)) (expansions limit) ⌝ }
 {
     round_within(regions, ideals, ideals, counts, limit)
 }
@@ -69,7 +71,8 @@ pub fn solve_counts_within(
     counts: &mut [u32],
     limit: SearchLimit,
 ) -> SolveAnswer
-    ensures { λ r. ⌜ solve-of r (now (counts .exit)) ≡ solve (now (regions .entry)) (within (now (least .entry)) (now (most .entry))) (now (counts .entry)) (expansions limit) ⌝ }
+    ensures { λ r. let ranges = within (now (least .entry)) (now (most .entry)) in
+        ⌜ solve-of r (now (counts .exit)) ≡ solve (now (regions .entry)) ranges (now (counts .entry)) (expansions limit) ⌝ }
 {
     let limit = limit.expansions();
     let room = counts.len();
@@ -100,7 +103,8 @@ pub fn solve_counts(
     counts: &mut [u32],
     limit: SearchLimit,
 ) -> SolveAnswer
-    ensures { λ r. ⌜ solve-of r (now (counts .exit)) ≡ solve (now (regions .entry)) (by (now (ideals .entry))) (now (counts .entry)) (expansions limit) ⌝ }
+    ensures { λ r. let ideal = by (now (ideals .entry)) in
+        ⌜ solve-of r (now (counts .exit)) ≡ solve (now (regions .entry)) ideal (now (counts .entry)) (expansions limit) ⌝ }
 {
     solve_counts_within(regions, ideals, ideals, counts, limit)
 }

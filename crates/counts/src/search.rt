@@ -10,7 +10,7 @@
 //   dfs                         `visit` of one unused constraint of the last edge; close_loop where that is `home`
 //   try_step, end_chain         `try-step`, and with it `dfs` of the edge that is entered; end_chain where no constraint of it is left
 //   changed_in                  `others-changed`
-// Inside the search the state is handed over in fresh structs and not lent: a struct that a call is given as it stands lives in memory from then
+// SidesInside the search the state is handed over in fresh structs and not lent: a struct that a call is given as it stands lives in memory from then
 // on, which makes the search two to three times as slow. It is lent where that is done once for each start, to `enter` and `cross`.
 use crate::cost::EPS_IMPROVEMENT;
 use crate::limits::CHANGES;
@@ -21,16 +21,18 @@ use crate::limits::PATH_SIZE;
 use regions::region::SIDE_SIZE;
 ghost use mathlib.Core.Path.{_≡_};
 ghost use mathlib.Core.Bool.{true, false};
-ghost use Prim.Native.Nat.{_/_, _%_, _≤_, _<_};
+ghost use mathlib.Core.List.{_++_};
+ghost use Prim.Native.Nat.{_/_, _%_, _<_};
 ghost use lib.ListN.{length, take, getD};
-ghost use lib.Dec.{T, eqb};
+ghost use lib.Dec.{eqb, ltb};
 ghost use lib.Ieee.{nan, inf};
-ghost use Rattle.base.specs.Lists.{member};
-ghost use Rattle.regions.specs.Region.{constraint, holds};
-ghost use Rattle.counts.specs.Move.{balances};
-ghost use Rattle.counts.specs.Search.{is-used, others-changed};
-ghost use Rattle.counts.specs.inner.Tables.{decoded, path-of, the-graph, across, Other, Tables, edge-slots, changes, marks-size, path-size, no-constraint, max-sides};
-ghost use Rattle.counts.specs.inner.SearchContract.{both-sides, both-signed, changed-by, SidesAt, MayCross, MayStep, Crossed, Stepped, Ended, no-marks, fresh-state, Entered, CrossedAll, Searched};
+ghost use Rattle.regions.specs.Accept.{max-edges};
+ghost use Rattle.counts.specs.Search.{is-used};
+ghost use Rattle.counts.specs.inner.Tables.{decoded, path-of, across, edges-on, edge-slots, changes, marks-size, path-size, max-sides};
+ghost use Rattle.counts.specs.inner.SearchContract.{SlotOf, OtherSlot, BalancesThere, MayReadSides, SidesRead, SidesInside, both-in, signed-in, changed-by};
+ghost use Rattle.counts.specs.inner.SearchContract.{changed-among, MayScan, MayKeepPath, MayEndChain, Ended, MayCloseLoop, Closed, MayTryStep};
+ghost use Rattle.counts.specs.inner.SearchContract.{Stepped, MayDfs, Crossed, fresh-state, MayEnter, Entered, MayCrossAll, CrossedAll, MayRun};
+ghost use Rattle.counts.specs.inner.SearchContract.{Searched};
 
 // The kept cost and the length of the kept reading, how many entries there were, and whether one was turned back.
 pub struct SearchState {
@@ -99,47 +101,27 @@ fn number_at(regions: &[u16], i: usize) -> usize
 }
 
 // The slot of the edge's constraint besides ci.
-fn other_slot(
-    regions: &[u16],
-    incident: &[u16; EDGE_SLOTS],
-    own: &[u16; EDGE_SLOTS],
-    edge: usize,
-    ci: usize,
-) -> usize
-    requires { ⌜ Tables (now regions) (now incident) (now own) ⌝ }
-    requires { ⌜ T (holds (constraint (the-graph (now regions)) ci) edge) ⌝ }
-    ensures { λ r. ⌜ (r < edge-slots) × (r / 2 ≡ edge) × (getD (now (incident .entry)) r 0 ≤ no-constraint) × Other (the-graph (now (regions .entry))) edge ci (getD (now (incident .entry)) r 0) ⌝ }
+fn other_slot(incident: &[u16; EDGE_SLOTS], edge: usize, ci: usize) -> usize
+    requires { ⌜ edge < max-edges ⌝ }
+    ensures { λ r. ⌜ OtherSlot (now (incident .entry)) edge ci r ⌝ }
 {
     let k = edge * 2;
     if entry(incident, k) == ci { k + 1 } else { k }
 }
 
 // The slot of the edge's constraint ci.
-fn slot_in(
-    regions: &[u16],
-    incident: &[u16; EDGE_SLOTS],
-    own: &[u16; EDGE_SLOTS],
-    edge: usize,
-    ci: usize,
-) -> usize
-    requires { ⌜ Tables (now regions) (now incident) (now own) ⌝ }
-    requires { ⌜ T (holds (constraint (the-graph (now regions)) ci) edge) ⌝ }
-    ensures { λ r. ⌜ (r < edge-slots) × (r / 2 ≡ edge) × (getD (now (incident .entry)) r 0 ≡ ci) ⌝ }
+fn slot_in(incident: &[u16; EDGE_SLOTS], edge: usize, ci: usize) -> usize
+    requires { ⌜ edge < max-edges ⌝ }
+    ensures { λ r. ⌜ SlotOf (now (incident .entry)) edge ci r ⌝ }
 {
     let k = edge * 2;
     if entry(incident, k) == ci { k } else { k + 1 }
 }
 
-// Whether the edge stands on the first side of the constraint at its slot.
-fn on_first_side(
-    regions: &[u16],
-    incident: &[u16; EDGE_SLOTS],
-    own: &[u16; EDGE_SLOTS],
-    slot: usize,
-) -> bool
-    requires { ⌜ Tables (now regions) (now incident) (now own) ⌝ }
-    requires { ⌜ (slot < edge-slots) × (getD (now incident) slot 0 < no-constraint) ⌝ }
-    ensures { λ r. ⌜ r ≡ member (slot / 2) (constraint (the-graph (now (regions .entry))) (getD (now (incident .entry)) slot 0) .a) ⌝ }
+// Whether the edge stands on the first side of the constraint at its slot: the sides of a record are 0 to 3, and 0 and 1 are first sides.
+fn on_first_side(own: &[u16; EDGE_SLOTS], slot: usize) -> bool
+    requires { ⌜ slot < edge-slots ⌝ }
+    ensures { λ r. ⌜ r ≡ ltb (getD (now (own .entry)) slot 0 % 4) 2 ⌝ }
 {
     entry(own, slot) % 4 < 2
 }
@@ -149,20 +131,15 @@ fn on_first_side(
 // The side opposite to one, sides counted over all records.
 fn opposite(side: usize) -> usize
     requires { ⌜ side < max-sides ⌝ }
-    ensures { λ r. ⌜ r ≡ across side ⌝ }
+    ensures { λ r. ⌜ (r ≡ across side) × (r < max-sides) ⌝ }
 {
     if side % 4 < 2 { side + 2 } else { side - 2 }
 }
 
-fn sides_of(
-    regions: &[u16],
-    incident: &[u16; EDGE_SLOTS],
-    own: &[u16; EDGE_SLOTS],
-    slot: usize,
-) -> Sides
-    requires { ⌜ Tables (now regions) (now incident) (now own) ⌝ }
-    requires { ⌜ (slot < edge-slots) × (getD (now incident) slot 0 < no-constraint) ⌝ }
-    ensures { λ r. ⌜ SidesAt (now (regions .entry)) (getD (now (incident .entry)) slot 0) (slot / 2) (r .opposite) (r .split) (r .own) (r .total) ⌝ }
+// The side on which a slot's edge stands, and the opposite one.
+fn sides_of(regions: &[u16], own: &[u16; EDGE_SLOTS], slot: usize) -> Sides
+    requires { ⌜ (slot < edge-slots) × MayReadSides (now regions) (getD (now own) slot 0) ⌝ }
+    ensures { λ r. ⌜ SidesRead (now (regions .entry)) (getD (now (own .entry)) slot 0) r ⌝ }
 {
     let here = entry(own, slot);
     let there = opposite(here);
@@ -177,18 +154,9 @@ fn sides_of(
 }
 
 // The edge at j of the two sides.
-fn edge_at(
-    regions: &[u16],
-    incident: &[u16; EDGE_SLOTS],
-    own: &[u16; EDGE_SLOTS],
-    sides: Sides,
-    slot: usize,
-    j: usize,
-) -> usize
-    requires { ⌜ Tables (now regions) (now incident) (now own) ⌝ }
-    requires { ⌜ SidesAt (now regions) (getD (now incident) slot 0) (slot / 2) (sides .opposite) (sides .split) (sides .own) (sides .total) ⌝ }
-    requires { ⌜ j < sides .total ⌝ }
-    ensures { λ r. ⌜ r ≡ getD (both-sides (constraint (the-graph (now (regions .entry))) (getD (now (incident .entry)) slot 0)) (slot / 2)) j 0 ⌝ }
+fn edge_at(regions: &[u16], sides: Sides, j: usize) -> usize
+    requires { ⌜ SidesInside (now regions) sides × (j < sides .total) ⌝ }
+    ensures { λ r. ⌜ r ≡ getD (both-in (now (regions .entry)) sides) j 0 ⌝ }
 {
     let split = sides.split;
     if j < split {
@@ -199,19 +167,9 @@ fn edge_at(
 }
 
 // The same as a change that could follow: the same sign on the opposite side, the other sign on the own side.
-fn partner(
-    regions: &[u16],
-    incident: &[u16; EDGE_SLOTS],
-    own: &[u16; EDGE_SLOTS],
-    sides: Sides,
-    slot: usize,
-    change: usize,
-    j: usize,
-) -> usize
-    requires { ⌜ Tables (now regions) (now incident) (now own) ⌝ }
-    requires { ⌜ SidesAt (now regions) (getD (now incident) slot 0) (slot / 2) (sides .opposite) (sides .split) (sides .own) (sides .total) ⌝ }
-    requires { ⌜ j < sides .total ⌝ }
-    ensures { λ r. ⌜ (r < changes) × T (holds (constraint (the-graph (now (regions .entry))) (getD (now (incident .entry)) slot 0)) (r / 2)) × (decoded r ≡ getD (both-signed (constraint (the-graph (now (regions .entry))) (getD (now (incident .entry)) slot 0)) (slot / 2) (eqb (change % 2) 1)) j (decoded 0)) ⌝ }
+fn partner(regions: &[u16], sides: Sides, change: usize, j: usize) -> usize
+    requires { ⌜ SidesInside (now regions) sides × (j < sides .total) ⌝ }
+    ensures { λ r. ⌜ decoded r ≡ getD (signed-in (now (regions .entry)) sides (eqb (change % 2) 1)) j (decoded 0) ⌝ }
 {
     let split = sides.split;
     if j < split {
@@ -223,7 +181,6 @@ fn partner(
 
 // Whether the start's change and another one, at a slot of `home`, balance there.
 fn balances_with_start(
-    regions: &[u16],
     incident: &[u16; EDGE_SLOTS],
     own: &[u16; EDGE_SLOTS],
     slot: usize,
@@ -231,13 +188,12 @@ fn balances_with_start(
     start: usize,
     home: usize,
 ) -> bool
-    requires { ⌜ Tables (now regions) (now incident) (now own) ⌝ }
-    requires { ⌜ (slot < edge-slots) × (slot / 2 ≡ change / 2) × (getD (now incident) slot 0 ≡ home) × (home < no-constraint) × T (holds (constraint (the-graph (now regions)) home) (start / 2)) ⌝ }
-    ensures { λ r. ⌜ r ≡ balances (constraint (the-graph (now (regions .entry))) home) (decoded start) (decoded change) ⌝ }
+    requires { ⌜ (slot < edge-slots) × (start < changes) ⌝ }
+    ensures { λ r. ⌜ BalancesThere (now (incident .entry)) (now (own .entry)) slot change start home r ⌝ }
 {
-    let start_slot = slot_in(regions, incident, own, start / 2, home);
-    let start_first = on_first_side(regions, incident, own, start_slot);
-    let first = on_first_side(regions, incident, own, slot);
+    let start_slot = slot_in(incident, start / 2, home);
+    let start_first = on_first_side(own, start_slot);
+    let first = on_first_side(own, slot);
     if start_first == first {
         return start % 2 != change % 2;
     }
@@ -247,18 +203,17 @@ fn balances_with_start(
 // The changed edges that the constraint at a slot holds besides the slot's own edge; left at the second one found.
 fn changed_in(
     regions: &[u16],
-    incident: &[u16; EDGE_SLOTS],
     own: &[u16; EDGE_SLOTS],
     slot: usize,
     path: &[u16; PATH_SIZE],
     depth: usize,
 ) -> Changed
-    requires { ⌜ Tables (now regions) (now incident) (now own) ⌝ }
-    requires { ⌜ (slot < edge-slots) × (getD (now incident) slot 0 < no-constraint) ⌝ }
-    requires { ⌜ (depth ≤ path-size) × (length (now path) ≡ path-size) ⌝ }
-    ensures { λ r. ⌜ r ≡ changed-by (others-changed (constraint (the-graph (now (regions .entry))) (getD (now (incident .entry)) slot 0)) (slot / 2) (path-of depth (now (path .entry)))) ⌝ }
+    requires { ⌜ MayScan (now regions) (now own) (now path) depth slot ⌝ }
+    ensures { λ r. ⌜ (let side = getD (now (own .entry)) slot 0 in
+        let edges = edges-on (now (regions .entry)) (across side) ++ edges-on (now (regions .entry)) side in
+        r ≡ changed-by (changed-among edges (slot / 2) (path-of depth (now (path .entry))))) ⌝ }
 {
-    let sides = sides_of(regions, incident, own, slot);
+    let sides = sides_of(regions, own, slot);
     let total = sides.total;
     let mut found = Changed::Nothing;
     let mut i = 0;
@@ -267,7 +222,7 @@ fn changed_in(
         if edge != slot / 2 {
             let mut j = 0;
             while j < total {
-                if edge_at(regions, incident, own, sides, slot, j) == edge {
+                if edge_at(regions, sides, j) == edge {
                     match found {
                         Changed::Nothing => {
                             found = Changed::One(edge);
@@ -290,7 +245,7 @@ fn changed_in(
 // ---- keeping a reading
 
 fn keep_path(path: &[u16; PATH_SIZE], depth: usize, best: &mut [u16; PATH_SIZE])
-    requires { ⌜ (depth ≤ path-size) × (length (now path) ≡ path-size) × (length (now best) ≡ path-size) ⌝ }
+    requires { ⌜ MayKeepPath (now path) (now best) depth ⌝ }
     ensures { λ _. ⌜ (take depth (now (best .exit)) ≡ take depth (now (path .entry))) × (length (now (best .exit)) ≡ path-size) ⌝ }
 {
     let mut i = 0;
@@ -312,8 +267,9 @@ fn end_chain(
     home: usize,
     state: SearchState,
 ) -> SearchState
-    requires { ⌜ (depth < path-size) × (change < changes) × (length (now path) ≡ path-size) × (length (now best) ≡ path-size) ⌝ }
-    ensures { λ r. ⌜ Ended (now (costs .entry)) limit (now (path .entry)) (now (best .entry)) depth change cost home state (now (path .exit)) (now (best .exit)) r ⌝ }
+    requires { ⌜ MayEndChain (now path) (now best) depth change ⌝ }
+    ensures { λ r. ⌜ Ended (now (costs .entry)) limit (now (path .entry)) (now (best .entry)) depth change cost home state
+        (now (path .exit)) (now (best .exit)) r ⌝ }
 {
     if state.expansions >= limit {
         return SearchState {
@@ -349,10 +305,6 @@ fn close_loop(
     regions: &[u16],
     incident: &[u16; EDGE_SLOTS],
     own: &[u16; EDGE_SLOTS],
-    costs: &[f64; CHANGES],
-    allowed: &[bool; CHANGES],
-    limit: u32,
-    used: &[bool; MARKS],
     path: &[u16; PATH_SIZE],
     best: &mut [u16; PATH_SIZE],
     depth: usize,
@@ -361,17 +313,15 @@ fn close_loop(
     home: usize,
     state: SearchState,
 ) -> SearchState
-    requires { ⌜ Tables (now regions) (now incident) (now own) ⌝ }
-    requires { ⌜ MayCross (the-graph (now regions)) (now incident) (now used) (now path) depth slot home ⌝ }
-    requires { ⌜ getD (now incident) slot 0 ≡ home ⌝ }
-    requires { ⌜ length (now best) ≡ path-size ⌝ }
-    ensures { λ r. ⌜ Crossed (now (regions .entry)) (now (incident .entry)) (now (costs .entry)) (now (allowed .entry)) limit (now (used .entry)) (now (path .entry)) (now (best .entry)) depth slot cost state (now (used .entry)) (now (path .entry)) (now (best .exit)) r ⌝ }
+    requires { ⌜ MayCloseLoop (now regions) (now incident) (now own) (now path) (now best) depth slot home ⌝ }
+    ensures { λ r. ⌜ Closed (now (regions .entry)) (now (incident .entry)) (now (path .entry)) (now (best .entry)) depth slot home cost state
+        (now (best .exit)) r ⌝ }
 {
     let start = wide(path[0]);
     let change = wide(path[depth - 1]);
-    if balances_with_start(regions, incident, own, slot, change, start, home) {
+    if balances_with_start(incident, own, slot, change, start, home) {
         if cost < state.kept - EPS_IMPROVEMENT {
-            if let Changed::One(edge) = changed_in(regions, incident, own, slot, path, depth) {
+            if let Changed::One(edge) = changed_in(regions, own, slot, path, depth) {
                 if edge == start / 2 {
                     keep_path(path, depth, best);
                     let len = depth as u32;
@@ -409,14 +359,14 @@ fn try_step(
     home: usize,
     state: SearchState,
 ) -> SearchState
-    requires { ⌜ Tables (now regions) (now incident) (now own) ⌝ }
-    requires { ⌜ MayStep (the-graph (now regions)) (now used) (now path) depth current ci change home ⌝ }
-    requires { ⌜ length (now best) ≡ path-size ⌝ }
-    ensures { λ r. ⌜ Stepped (now (regions .entry)) (now (costs .entry)) (now (allowed .entry)) limit (now (used .entry)) (now (path .entry)) (now (best .entry)) depth current ci change cost state (now (used .exit)) (now (path .exit)) (now (best .exit)) r ⌝ }
+    requires { ⌜ MayTryStep (now regions) (now incident) (now own) (now used) (now path) (now best) depth current ci change home ⌝ }
+    ensures { λ r. ⌜ Stepped (now (regions .entry)) (now (costs .entry)) (now (allowed .entry)) limit
+        (now (used .entry)) (now (path .entry)) (now (best .entry)) depth current ci change cost state
+        (now (used .exit)) (now (path .exit)) (now (best .exit)) r ⌝ }
 {
     if change / 2 != current {
         if is_allowed(allowed, change) {
-            let slot = other_slot(regions, incident, own, change / 2, ci);
+            let slot = other_slot(incident, change / 2, ci);
             let other = entry(incident, slot);
             if other == NO_CONSTRAINT {
                 let t = SearchState {
@@ -490,10 +440,10 @@ fn dfs(
     home: usize,
     state: SearchState,
 ) -> SearchState
-    requires { ⌜ Tables (now regions) (now incident) (now own) ⌝ }
-    requires { ⌜ MayCross (the-graph (now regions)) (now incident) (now used) (now path) depth slot home ⌝ }
-    requires { ⌜ length (now best) ≡ path-size ⌝ }
-    ensures { λ r. ⌜ Crossed (now (regions .entry)) (now (incident .entry)) (now (costs .entry)) (now (allowed .entry)) limit (now (used .entry)) (now (path .entry)) (now (best .entry)) depth slot cost state (now (used .exit)) (now (path .exit)) (now (best .exit)) r ⌝ }
+    requires { ⌜ MayDfs (now regions) (now incident) (now own) (now used) (now path) (now best) depth slot home ⌝ }
+    ensures { λ r. ⌜ Crossed (now (regions .entry)) (now (incident .entry)) (now (costs .entry)) (now (allowed .entry)) limit
+        (now (used .entry)) (now (path .entry)) (now (best .entry)) depth slot cost state
+        (now (used .exit)) (now (path .exit)) (now (best .exit)) r ⌝ }
 {
     let ci = entry(incident, slot);
     if ci == home {
@@ -507,10 +457,6 @@ fn dfs(
             regions,
             incident,
             own,
-            costs,
-            allowed,
-            limit,
-            used,
             path,
             best,
             depth,
@@ -521,7 +467,7 @@ fn dfs(
         );
     }
     let last = wide(path[depth - 1]);
-    let sides = sides_of(regions, incident, own, slot);
+    let sides = sides_of(regions, own, slot);
     let total = sides.total;
     let mut out = SearchState {
         kept: state.kept,
@@ -532,7 +478,7 @@ fn dfs(
     used[ci] = true;
     let mut j = 0;
     while j < total {
-        let change = partner(regions, incident, own, sides, slot, last, j);
+        let change = partner(regions, sides, last, j);
         out = try_step(
             regions,
             incident,
@@ -583,18 +529,17 @@ pub(crate) fn fresh() -> SearchState
 // The entry to the start, which is turned back past the limit. An edge without a constraint is a move by itself.
 fn enter_start(
     state: SearchState,
-    regions: &[u16],
     incident: &[u16; EDGE_SLOTS],
-    own: &[u16; EDGE_SLOTS],
     costs: &[f64; CHANGES],
     limit: u32,
     path: &mut [u16; PATH_SIZE],
     best: &mut [u16; PATH_SIZE],
     start: usize,
 ) -> SearchState
-    requires { ⌜ Tables (now regions) (now incident) (now own) ⌝ }
-    requires { ⌜ (start < changes) × (length (now path) ≡ path-size) × (length (now best) ≡ path-size) ⌝ }
-    ensures { λ r. ⌜ Entered (now (regions .entry)) (now (costs .entry)) limit start (now (path .entry)) (now (best .entry)) state (now (path .exit)) (now (best .exit)) r ⌝ }
+    requires { ⌜ MayEnter (now path) (now best) start ⌝ }
+    ensures { λ r. ⌜ Entered (now (incident .entry)) (now (costs .entry)) limit start
+        (now (path .entry)) (now (best .entry)) state
+        (now (path .exit)) (now (best .exit)) r ⌝ }
 {
     path[0] = start as u16;
     if limit <= state.expansions {
@@ -641,9 +586,10 @@ fn cross_start(
     best: &mut [u16; PATH_SIZE],
     start: usize,
 ) -> SearchState
-    requires { ⌜ Tables (now regions) (now incident) (now own) ⌝ }
-    requires { ⌜ (start < changes) × (now used ≡ no-marks) × (length (now path) ≡ path-size) × (getD (now path) 0 0 ≡ start) × (length (now best) ≡ path-size) ⌝ }
-    ensures { λ r. ⌜ CrossedAll (now (regions .entry)) (now (costs .entry)) (now (allowed .entry)) limit start (now (used .entry)) (now (path .entry)) (now (best .entry)) state (now (used .exit)) (now (path .exit)) (now (best .exit)) r ⌝ }
+    requires { ⌜ MayCrossAll (now regions) (now incident) (now own) (now used) (now path) (now best) start ⌝ }
+    ensures { λ r. ⌜ CrossedAll (now (regions .entry)) (now (costs .entry)) (now (allowed .entry)) limit start
+        (now (used .entry)) (now (path .entry)) (now (best .entry)) state
+        (now (used .exit)) (now (path .exit)) (now (best .exit)) r ⌝ }
 {
     if state.cut {
         return state;
@@ -711,30 +657,19 @@ fn cross_start(
 
 fn enter(
     state: &mut SearchState,
-    regions: &[u16],
     incident: &[u16; EDGE_SLOTS],
-    own: &[u16; EDGE_SLOTS],
     costs: &[f64; CHANGES],
     limit: u32,
     path: &mut [u16; PATH_SIZE],
     best: &mut [u16; PATH_SIZE],
     start: usize,
 )
-    requires { ⌜ Tables (now regions) (now incident) (now own) ⌝ }
-    requires { ⌜ (start < changes) × (length (now path) ≡ path-size) × (length (now best) ≡ path-size) ⌝ }
-    ensures { λ _. ⌜ Entered (now (regions .entry)) (now (costs .entry)) limit start (now (path .entry)) (now (best .entry)) (now (state .entry)) (now (path .exit)) (now (best .exit)) (now (state .exit)) ⌝ }
+    requires { ⌜ MayEnter (now path) (now best) start ⌝ }
+    ensures { λ _. ⌜ Entered (now (incident .entry)) (now (costs .entry)) limit start
+        (now (path .entry)) (now (best .entry)) (now (state .entry))
+        (now (path .exit)) (now (best .exit)) (now (state .exit)) ⌝ }
 {
-    *state = enter_start(
-        *state,
-        regions,
-        incident,
-        own,
-        costs,
-        limit,
-        path,
-        best,
-        start,
-    );
+    *state = enter_start(*state, incident, costs, limit, path, best, start);
 }
 
 fn cross(
@@ -750,9 +685,10 @@ fn cross(
     best: &mut [u16; PATH_SIZE],
     start: usize,
 )
-    requires { ⌜ Tables (now regions) (now incident) (now own) ⌝ }
-    requires { ⌜ (start < changes) × (now used ≡ no-marks) × (length (now path) ≡ path-size) × (getD (now path) 0 0 ≡ start) × (length (now best) ≡ path-size) ⌝ }
-    ensures { λ _. ⌜ CrossedAll (now (regions .entry)) (now (costs .entry)) (now (allowed .entry)) limit start (now (used .entry)) (now (path .entry)) (now (best .entry)) (now (state .entry)) (now (used .exit)) (now (path .exit)) (now (best .exit)) (now (state .exit)) ⌝ }
+    requires { ⌜ MayCrossAll (now regions) (now incident) (now own) (now used) (now path) (now best) start ⌝ }
+    ensures { λ _. ⌜ CrossedAll (now (regions .entry)) (now (costs .entry)) (now (allowed .entry)) limit start
+        (now (used .entry)) (now (path .entry)) (now (best .entry)) (now (state .entry))
+        (now (used .exit)) (now (path .exit)) (now (best .exit)) (now (state .exit)) ⌝ }
 {
     *state = cross_start(
         *state,
@@ -782,22 +718,12 @@ pub(crate) fn run(
     best: &mut [u16; PATH_SIZE],
     start: usize,
 ) -> SearchState
-    requires { ⌜ Tables (now regions) (now incident) (now own) ⌝ }
-    requires { ⌜ (start < changes) × (now used ≡ no-marks) × (length (now path) ≡ path-size) × (length (now best) ≡ path-size) ⌝ }
-    ensures { λ r. ⌜ Searched (now (regions .entry)) (now (costs .entry)) (now (allowed .entry)) limit start (now (used .exit)) (now (path .exit)) (now (best .exit)) r ⌝ }
+    requires { ⌜ MayRun (now regions) (now incident) (now own) (now used) (now path) (now best) start ⌝ }
+    ensures { λ r. ⌜ Searched (now (regions .entry)) (now (costs .entry)) (now (allowed .entry)) limit start
+        (now (used .exit)) (now (path .exit)) (now (best .exit)) r ⌝ }
 {
     let mut state = fresh();
-    enter(
-        &mut state,
-        regions,
-        incident,
-        own,
-        costs,
-        limit,
-        path,
-        best,
-        start,
-    );
+    enter(&mut state, incident, costs, limit, path, best, start);
     cross(
         &mut state,
         regions,

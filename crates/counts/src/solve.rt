@@ -16,19 +16,12 @@ use crate::search::wide;
 use base::refusal::Refusal;
 use regions::region::MAX_EDGES;
 ghost use mathlib.Core.Path.{_≡_};
-ghost use Prim.Native.Nat.{_/_, _≤_, _<_};
-ghost use lib.Dec.{T};
-ghost use lib.ListN.{length, getD, replicate};
-ghost use Rattle.base.specs.Refusal.{is-passed};
-ghost use Rattle.regions.specs.Region.{places};
-ghost use Rattle.regions.specs.Accept.{regions-test, max-edges};
-ghost use Rattle.counts.specs.Move.{apply-changes as changed-counts};
+ghost use lib.ListN.{length, replicate};
 ghost use Rattle.counts.specs.Cost.{by-ranges};
 ghost use Rattle.counts.specs.Round.{find-move, solve-from, solve-zeros, max-moves};
 ghost use Rattle.counts.specs.Solver.{round-of, round-by, solve-of, solve-part};
-ghost use Rattle.counts.specs.inner.Tables.{Tables, the-graph, path-of, changes, path-size};
-ghost use Rattle.counts.specs.inner.Components.{Labels, Refreshed};
-ghost use Rattle.counts.specs.inner.RoundContract.{Buffers, TableSizes, RoundInput, CanApply, solved-of};
+ghost use Rattle.counts.specs.inner.Tables.{the-graph};
+ghost use Rattle.counts.specs.inner.RoundContract.{SolveInput, RoundInput, RoundLent, MovesInput, MovesLent, MayMove, MoveApplied, solved-of};
 
 fn wide_len(x: u32) -> usize
     ensures { λ r. ⌜ r ≡ x ⌝ }
@@ -60,9 +53,11 @@ fn round_in(
     cut: &mut [bool; CHANGES],
     known: &mut [bool; CHANGES],
 ) -> RoundAnswer
-    requires { ⌜ Tables (now regions) (now incident) (now own) × RoundInput (now regions) (now counts) × (length (now least) ≡ length (now counts)) × (length (now most) ≡ length (now counts)) ⌝ }
-    requires { ⌜ Buffers (now used) (now path) (now best) × TableSizes (now costs) (now allowed) (now kept) (now cut) (now known) ⌝ }
-    ensures { λ r. ⌜ round-of r (now (counts .exit)) ≡ round-by (find-move (the-graph (now (regions .entry))) (by-ranges (now (least .entry)) (now (most .entry))) (now (counts .entry)) limit) (now (counts .entry)) ⌝ }
+    requires { ⌜ RoundLent (now regions) (now incident) (now own) (now least) (now most) (now counts)
+        (now costs) (now allowed) (now used) (now path) (now best) (now kept) (now cut) (now known) ⌝ }
+    ensures { λ r. let before = now (counts .entry) in
+        let model = by-ranges (now (least .entry)) (now (most .entry)) in
+        ⌜ round-of r (now (counts .exit)) ≡ round-by (find-move (the-graph (now (regions .entry))) model before limit) before ⌝ }
 {
     start_tables(counts, least, most, costs, allowed, known);
     let found = find_augmentation(
@@ -97,8 +92,10 @@ pub(crate) fn make_round(
     counts: &mut [u32],
     limit: u32,
 ) -> RoundAnswer
-    requires { ⌜ Tables (now regions) (now incident) (now own) × RoundInput (now regions) (now counts) × (length (now least) ≡ length (now counts)) × (length (now most) ≡ length (now counts)) ⌝ }
-    ensures { λ r. ⌜ round-of r (now (counts .exit)) ≡ round-by (find-move (the-graph (now (regions .entry))) (by-ranges (now (least .entry)) (now (most .entry))) (now (counts .entry)) limit) (now (counts .entry)) ⌝ }
+    requires { ⌜ RoundInput (now regions) (now incident) (now own) (now least) (now most) (now counts) ⌝ }
+    ensures { λ r. let before = now (counts .entry) in
+        let model = by-ranges (now (least .entry)) (now (most .entry)) in
+        ⌜ round-of r (now (counts .exit)) ≡ round-by (find-move (the-graph (now (regions .entry))) model before limit) before ⌝ }
 {
     let mut costs = [0.0; CHANGES];
     let mut allowed = [false; CHANGES];
@@ -140,13 +137,10 @@ fn make_move(
     allowed: &mut [bool; CHANGES],
     known: &mut [bool; CHANGES],
 )
-    requires { ⌜ CanApply (now counts) (path-of len (now best)) × (len ≤ path-size) × (length (now best) ≡ path-size) ⌝ }
-    requires { ⌜ (0 < len) × (length (now counts) ≤ max-edges) × (length (now least) ≡ length (now counts)) × (length (now most) ≡ length (now counts)) ⌝ }
-    requires { ⌜ (length (now costs) ≡ changes) × (length (now allowed) ≡ changes) × (length (now known) ≡ changes) ⌝ }
-    ensures { λ _. ⌜ now (counts .exit) ≡ changed-counts (path-of len (now (best .entry))) (now (counts .entry)) ⌝ }
-    ensures { λ _. ⌜ Refreshed (length (now (counts .entry))) (now (labels .entry)) (getD (now (labels .entry)) (getD (now (best .entry)) 0 0 / 2) 0)
-        (now (counts .exit)) (by-ranges (now (least .entry)) (now (most .entry)))
-        (now (costs .entry)) (now (allowed .entry)) (now (known .entry)) (now (costs .exit)) (now (allowed .exit)) (now (known .exit)) ⌝ }
+    requires { ⌜ MayMove (now counts) (now least) (now most) (now best) len (now costs) (now allowed) (now known) ⌝ }
+    ensures { λ _. ⌜ MoveApplied (now (counts .entry)) (now (least .entry)) (now (most .entry)) (now (labels .entry)) (now (best .entry)) len
+        (now (costs .entry)) (now (allowed .entry)) (now (known .entry))
+        (now (counts .exit)) (now (costs .exit)) (now (allowed .exit)) (now (known .exit)) ⌝ }
 {
     apply_changes(counts, best, len);
     let first = wide(best[0]) / 2;
@@ -182,10 +176,10 @@ fn moves_in(
     cut: &mut [bool; CHANGES],
     known: &mut [bool; CHANGES],
 ) -> MovesMade
-    requires { ⌜ Tables (now regions) (now incident) (now own) × RoundInput (now regions) (now counts) × (length (now least) ≡ length (now counts)) × (length (now most) ≡ length (now counts))
-        × (now counts ≡ replicate (length (now counts)) 0) × Labels (length (now counts)) (now incident) (now labels) ⌝ }
-    requires { ⌜ Buffers (now used) (now path) (now best) × TableSizes (now costs) (now allowed) (now kept) (now cut) (now known) ⌝ }
-    ensures { λ r. ⌜ solved-of r (now (counts .exit)) ≡ solve-from (the-graph (now (regions .entry))) (by-ranges (now (least .entry)) (now (most .entry))) limit max-moves 0 (now (counts .entry)) ⌝ }
+    requires { ⌜ MovesLent (now regions) (now incident) (now own) (now labels) (now least) (now most) (now counts)
+        (now costs) (now allowed) (now used) (now path) (now best) (now kept) (now cut) (now known) ⌝ }
+    ensures { λ r. let model = by-ranges (now (least .entry)) (now (most .entry)) in
+        ⌜ solved-of r (now (counts .exit)) ≡ solve-from (the-graph (now (regions .entry))) model limit max-moves 0 (now (counts .entry)) ⌝ }
 {
     start_tables(counts, least, most, costs, allowed, known);
     let mut moves = 0;
@@ -236,9 +230,9 @@ pub(crate) fn make_moves(
     counts: &mut [u32],
     limit: u32,
 ) -> MovesMade
-    requires { ⌜ Tables (now regions) (now incident) (now own) × RoundInput (now regions) (now counts) × (length (now least) ≡ length (now counts)) × (length (now most) ≡ length (now counts))
-        × (now counts ≡ replicate (length (now counts)) 0) ⌝ }
-    ensures { λ r. ⌜ solved-of r (now (counts .exit)) ≡ solve-from (the-graph (now (regions .entry))) (by-ranges (now (least .entry)) (now (most .entry))) limit max-moves 0 (now (counts .entry)) ⌝ }
+    requires { ⌜ MovesInput (now regions) (now incident) (now own) (now least) (now most) (now counts) ⌝ }
+    ensures { λ r. let model = by-ranges (now (least .entry)) (now (most .entry)) in
+        ⌜ solved-of r (now (counts .exit)) ≡ solve-from (the-graph (now (regions .entry))) model limit max-moves 0 (now (counts .entry)) ⌝ }
 {
     let mut costs = [0.0; CHANGES];
     let mut allowed = [false; CHANGES];
@@ -291,10 +285,10 @@ pub(crate) fn solve_from_zeros(
     counts: &mut [u32],
     limit: u32,
 ) -> SolveAnswer
-    requires { ⌜ Tables (now regions) (now incident) (now own) × (length (now least) ≡ length (now counts)) × (length (now most) ≡ length (now counts))
-        × (length (now counts) ≤ max-edges) × T (is-passed (regions-test places (length (now counts)) (now regions))) ⌝ }
-    ensures { λ r. ⌜ solve-of r (now (counts .exit)) ≡ solve-part (length (now (least .entry)))
-        (solve-zeros (the-graph (now (regions .entry))) (by-ranges (now (least .entry)) (now (most .entry))) limit (length (now (least .entry)))) ⌝ }
+    requires { ⌜ SolveInput (now regions) (now incident) (now own) (now least) (now most) (now counts) ⌝ }
+    ensures { λ r. let n = length (now (least .entry)) in
+        let model = by-ranges (now (least .entry)) (now (most .entry)) in
+        ⌜ solve-of r (now (counts .exit)) ≡ solve-part n (solve-zeros (the-graph (now (regions .entry))) model limit n) ⌝ }
 {
     clear(counts);
     let made = make_moves(regions, incident, own, least, most, counts, limit);

@@ -8,15 +8,14 @@ use native.Mathlib.Numerals.{add-one}
 use native.Mathlib.Omega.{arith}
 use lib.ListN.{length, getD, set, length-set}
 use lib.Seq.{getD-set-other}
-use lib.Dec.{T, eqb, eqb→eq, ltb, not-T}
+use lib.Dec.{T, eqb, eqb→eq, not-T}
 use Rattle.base.specs.Lists.{In, member, Distinct}
 use Rattle.counts.specs.Move.{Change, edges, changed, apply-changes}
-use Rattle.counts.specs.inner.Tables.{decoded, path-of, path-size}
-use Rattle.counts.specs.inner.RoundContract.{CanApply}
+use Rattle.counts.specs.inner.Tables.{decoded, path-of}
+use Rattle.counts.specs.inner.RoundContract.{MayApply, MayChange}
 use Rattle.base.proofs.BoolLaws.{clash, or-split, or-left, or-right, eq→eqb}
 use Rattle.base.proofs.ListLaws.{in→member}
 use Rattle.counts.proofs.MoveLaws.{edges-in}
-use Rattle.counts.specs.Values.{max-count}
 
 -- ---- apply-changes
 
@@ -28,8 +27,10 @@ apply-length (z ∷ r) counts =
 pub apply-other : (r : List Change) (counts : List ℕ) (x : ℕ) → T (not (member x (edges r))) → getD (apply-changes r counts) x 0 ≡ getD counts x 0
 apply-other [] counts x t = refl
 apply-other (z ∷ r) counts x t =
-    apply-other r (set counts (z .0) (changed (z .1) (getD counts (z .0) 0))) x (not-T (member x (edges r)) (λ u. clash (member x (edges (z ∷ r))) (or-right (eqb x (z .0)) (member x (edges r)) u) t))
-    ∙ getD-set-other counts (z .0) x (changed (z .1) (getD counts (z .0) 0)) 0 (λ q. clash (member x (edges (z ∷ r))) (or-left (eqb x (z .0)) (member x (edges r)) (eq→eqb x (z .0) q)) t)
+    apply-other r (set counts (z .0) (changed (z .1) (getD counts (z .0) 0))) x
+    (not-T (member x (edges r)) (λ u. clash (member x (edges (z ∷ r))) (or-right (eqb x (z .0)) (member x (edges r)) u) t))
+    ∙ getD-set-other counts (z .0) x (changed (z .1) (getD counts (z .0) 0)) 0
+    (λ q. clash (member x (edges (z ∷ r))) (or-left (eqb x (z .0)) (member x (edges r)) (eq→eqb x (z .0) q)) t)
 
 apply-last : (r : List Change) (z : Change) (counts : List ℕ)
     → set (apply-changes r counts) (z .0) (changed (z .1) (getD (apply-changes r counts) (z .0) 0)) ≡ apply-changes (r ++ z ∷ []) counts
@@ -51,7 +52,8 @@ path-in (suc i) (suc n) [] h b = absurd (omega arith)
 path-in zero (suc n) (c ∷ l) h b = inl refl
 path-in (suc i) (suc n) (c ∷ l) h b = inr (path-in i n l (omega arith) (omega arith))
 
-path-distinct : (i n : ℕ) (l : List ℕ) → i < n → i < length l → Distinct (edges (path-of n l)) → T (not (member (getD l i 0 / 2) (edges (path-of i l))))
+path-distinct : (i n : ℕ) (l : List ℕ) → i < n → i < length l → Distinct (edges (path-of n l))
+    → T (not (member (getD l i 0 / 2) (edges (path-of i l))))
 path-distinct zero n l h b d = tt
 path-distinct (suc i) zero l h b d = absurd (omega arith)
 path-distinct (suc i) (suc n) [] h b d = absurd (omega arith)
@@ -72,36 +74,52 @@ path-distinct (suc i) (suc n) (c ∷ l) h b d =
 
 -- ---- one change
 
--- what is known when the change c at i is to be made
-pub record AtChange (c : ℕ) (now-counts : List ℕ) : Type 0 where
-  pub below : c / 2 < length now-counts
-  pub small : getD now-counts (c / 2) 0 ≤ max-count
-  pub down : T (eqb (c % 2) 1 || ltb 0 (getD now-counts (c / 2) 0))
+-- the first i changes are made
+pub record ChangesMade (counts₀ best : List ℕ) (len : ℕ) (counts : List ℕ) (i : ℕ) : Type 0 where
+  pub made : counts ≡ apply-changes (path-of i best) counts₀
+  pub in-range : i ≤ len
 
-module _ (counts best : List ℕ) (len i c : ℕ) (now-counts : List ℕ) (can : CanApply counts (path-of len best) × (len ≤ path-size) × (length best ≡ path-size)) (more : i < len)
-    (is : (c ≡ getD best i 0) × (c < 65536)) (so-far : now-counts ≡ apply-changes (path-of i best) counts) where
-  inside : i < length best
-  inside = let l = can .1 in let q = can .2 in omega arith
+-- what is known when change c is to be made
+pub record AtChange (c : ℕ) (counts : List ℕ) : Type 0 where
+  pub below : c / 2 < length counts
+  pub may : MayChange (getD counts (c / 2) 0) (eqb (c % 2) 1)
 
-  at-index : AtChange (getD best i 0) now-counts
-  at-index =
-      let z = decoded (getD best i 0) in
-      let there = path-in i len best more inside in
-      let same = ap (λ (l : List ℕ). getD l (z .0) 0) so-far ∙ apply-other (path-of i best) counts (z .0) (path-distinct i len best more inside (can .0 .distinct)) in
-      record {
-        below = subst (λ (n : ℕ). z .0 < n) (sym (ap length so-far ∙ apply-length (path-of i best) counts)) (can .0 .below z there);
-        small = subst (λ (n : ℕ). n ≤ max-count) (sym same) (can .0 .small (z .0));
-        down = subst (λ (n : ℕ). T (z .1 || ltb 0 n)) (sym same) (can .0 .down z there);
-      }
+module _ {counts₀ best : List ℕ} {len : ℕ} {counts : List ℕ} {i : ℕ} (so-far : ChangesMade counts₀ best len counts i) where
+  pub still-long : length counts ≡ length counts₀
+  still-long = ap length (so-far .made) ∙ apply-length (path-of i best) counts₀
 
-  pub at-change : AtChange c now-counts
-  at-change = subst (λ (x : ℕ). AtChange x now-counts) (sym (is .0)) at-index
+  pub all-made : len ≤ i → counts ≡ apply-changes (path-of len best) counts₀
+  all-made h =
+      so-far .made ∙ (let l = so-far .in-range in let e : i ≡ len = omega arith in ap (λ (n : ℕ). apply-changes (path-of n best) counts₀) e)
 
-  pub apply-turn : (s : ℕ) → s ≡ changed (eqb (c % 2) 1) (getD now-counts (c / 2) 0) → set now-counts (c / 2) s ≡ apply-changes (path-of (i + 1) best) counts
-  apply-turn s q =
-      ap (λ (x : ℕ). set now-counts (c / 2) x) q
-      ∙ ap (λ (x : ℕ). set now-counts (x / 2) (changed (eqb (x % 2) 1) (getD now-counts (x / 2) 0))) (is .0)
-      ∙ ap (λ (l : List ℕ). set l (getD best i 0 / 2) (changed (eqb (getD best i 0 % 2) 1) (getD l (getD best i 0 / 2) 0))) so-far
-      ∙ apply-last (path-of i best) (decoded (getD best i 0)) counts
-      ∙ ap (λ (r : List Change). apply-changes r counts) (sym (path-more i best inside))
-      ∙ ap (λ (n : ℕ). apply-changes (path-of n best) counts) (sym (add-one i))
+  module _ {c : ℕ} (may : MayApply counts₀ best len) (more : i < len) (is : c ≡ getD best i 0) where
+    inside : i < length best
+    inside = let l = may .len-fits in let q = may .best-long in omega arith
+
+    at-index : AtChange (getD best i 0) counts
+    at-index =
+        let z = decoded (getD best i 0) in
+        let there = path-in i len best more inside in
+        let same : getD counts (z .0) 0 ≡ getD counts₀ (z .0) 0 =
+        ap (λ (l : List ℕ). getD l (z .0) 0) (so-far .made)
+        ∙ apply-other (path-of i best) counts₀ (z .0) (path-distinct i len best more inside (may .can .distinct)) in
+        record {
+          below = subst (λ (n : ℕ). z .0 < n) (sym still-long) (may .can .below z there);
+          may = subst (λ (n : ℕ). MayChange n (z .1)) (sym same) (record { small = may .can .small (z .0); down = may .can .down z there });
+        }
+
+    pub at-change : AtChange c counts
+    at-change = subst (λ (x : ℕ). AtChange x counts) (sym is) at-index
+
+    pub apply-turn : {s : ℕ} → s ≡ changed (eqb (c % 2) 1) (getD counts (c / 2) 0) → ChangesMade counts₀ best len (set counts (c / 2) s) (i + 1)
+    apply-turn q =
+        record {
+          made =
+              ap (λ (x : ℕ). set counts (c / 2) x) q
+              ∙ ap (λ (x : ℕ). set counts (x / 2) (changed (eqb (x % 2) 1) (getD counts (x / 2) 0))) is
+              ∙ ap (λ (l : List ℕ). set l (getD best i 0 / 2) (changed (eqb (getD best i 0 % 2) 1) (getD l (getD best i 0 / 2) 0))) (so-far .made)
+              ∙ apply-last (path-of i best) (decoded (getD best i 0)) counts₀
+              ∙ ap (λ (r : List Change). apply-changes r counts₀) (sym (path-more i best inside))
+              ∙ ap (λ (n : ℕ). apply-changes (path-of n best) counts₀) (sym (add-one i));
+          in-range = omega arith;
+        }

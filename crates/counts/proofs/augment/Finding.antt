@@ -1,48 +1,46 @@
 -- The tables of a round stand for its edge costs: what is found by the tables is the move of the definition, and it can be made.
 -- Assumes nothing.
-use mathlib.Core.Logic.{inl, inr}
-use mathlib.Core.Path.{_≡_, refl, sym, ap, subst, _∙_}
+use mathlib.Core.Path.{_≡_, sym, ap, subst, _∙_}
 use mathlib.Core.Bool.{Bool, true, false, cond}
-use mathlib.Core.List.{List, [], _∷_}
+use mathlib.Core.List.{List}
 use Prim.Native.Nat.{ℕ, zero, suc, _*_, _≤_, _<_}
 use native.Mathlib.Nat.{add-zero, zero-add}
 use lib.ListN.{length, getD, replicate, length-replicate}
 use lib.Dec.{T, ltb, ltb→lt, lt→ltb}
 use lib.Ieee.{Float, nan}
-use Rattle.base.specs.Lists.{In, each}
 use Rattle.regions.specs.Region.{Constraint, places}
 use Rattle.counts.specs.Move.{Change, EdgeCost, is-allowed}
 use Rattle.counts.specs.Cost.{CostModel}
-use Rattle.counts.specs.inner.Tables.{Entries, the-graph, cost-in, allowed-in, changes}
+use Rattle.counts.specs.inner.Tables.{Entries, CostsFilled, the-graph, cost-in, allowed-in, changes}
 use Rattle.counts.specs.Search.{State, run}
 use Rattle.counts.specs.Round.{Found, weigh, starts, nothing-found, try-start, find-augmentation, find-move}
-use Rattle.counts.specs.inner.RoundContract.{Priced, CanApply, RoundInput, Remembered}
+use Rattle.counts.specs.inner.RoundContract.{Priced, CanApply, SolveInput, Remembered}
 use Rattle.counts.proofs.Accepted.{Accepted, regions-ok}
 use Rattle.counts.proofs.Find.{none, some, starts-below}
-use Rattle.base.proofs.ListLaws.{every-in}
+use Rattle.base.proofs.ListLaws.{every-in, each-same}
 use Rattle.counts.proofs.Rounds.{Finds, found}
-use Rattle.counts.proofs.search.Same.{run-same}
+use Rattle.counts.proofs.search.Alike.{run-same}
 use Rattle.counts.specs.Values.{max-count}
 
 -- ---- tables filled edge by edge
 
-pub entry-cost : (counts : List ℕ) (model : CostModel) (costs : List Float) (allowed : List Bool) (y : ℕ) (s : Bool) → Entries counts model costs allowed y → cost-in costs y s ≡ model counts y s
-entry-cost counts model costs allowed y true r = r .plus-cost
-entry-cost counts model costs allowed y false r = ap (λ (k : ℕ). getD costs k nan) (add-zero (y * 2)) ∙ r .minus-cost
+module _ {counts : List ℕ} {model : CostModel} {costs : List Float} {allowed : List Bool} where
+  pub entry-cost : {y : ℕ} (s : Bool) → Entries counts model costs allowed y → cost-in costs y s ≡ model counts y s
+  entry-cost true r = r .plus-cost
+  entry-cost {y} false r = ap (λ (k : ℕ). getD costs k nan) (add-zero (y * 2)) ∙ r .minus-cost
 
-pub entry-allowed : (counts : List ℕ) (model : CostModel) (costs : List Float) (allowed : List Bool) (y : ℕ) (s : Bool) → Entries counts model costs allowed y → allowed-in allowed y s ≡ is-allowed counts y s
-entry-allowed counts model costs allowed y true r = r .plus-allowed
-entry-allowed counts model costs allowed y false r = ap (λ (k : ℕ). getD allowed k false) (add-zero (y * 2)) ∙ r .minus-allowed
+  pub entry-allowed : {y : ℕ} (s : Bool) → Entries counts model costs allowed y → allowed-in allowed y s ≡ is-allowed counts y s
+  entry-allowed true r = r .plus-allowed
+  entry-allowed {y} false r = ap (λ (k : ℕ). getD allowed k false) (add-zero (y * 2)) ∙ r .minus-allowed
 
-pub priced : (counts : List ℕ) (model : CostModel) (costs : List Float) (allowed : List Bool) → ((y : ℕ) → y < length counts → Entries counts model costs allowed y)
-    → (length costs ≡ changes) × (length allowed ≡ changes) → Priced model counts costs allowed
-priced counts model costs allowed e l =
-    record {
-      costs-long = l .0;
-      allowed-long = l .1;
-      cost-is = λ y s h. entry-cost counts model costs allowed y s (e y h);
-      allowed-is = λ y s h. entry-allowed counts model costs allowed y s (e y h);
-    }
+  pub priced : CostsFilled (length counts) counts model costs allowed → Priced model counts costs allowed
+  priced f =
+      record {
+        costs-long = f .costs-long;
+        allowed-long = f .allowed-long;
+        cost-is = λ y s h. entry-cost s (f .entries y h);
+        allowed-is = λ y s h. entry-allowed s (f .entries y h);
+      }
 
 -- ---- costs that agree below n find the same
 
@@ -56,27 +54,25 @@ module _ (g : List Constraint) (n : ℕ) (ok : Accepted n g) (limit : ℕ) (cost
       (run-same g cost cost' allowed allowed' limit (z .0) (z .1) (λ (y : ℕ). ltb y n) (λ i x y hx hy k. ok .constraint-ok i .inside y hy)
       (λ y s k. same-cost y s (ltb→lt y n k)) (λ y s k. same-allowed y s (ltb→lt y n k)) (lt→ltb (z .0) n h))
 
-  starts-same : (l : List Change) (b : Found) → ((z : Change) → In z l → z .0 < n) → each (try-start g cost allowed limit) l b ≡ each (try-start g cost' allowed' limit) l b
-  starts-same [] b h = refl
-  starts-same (z ∷ l) b h =
-      ap (each (try-start g cost allowed limit) l) (start-same z b (h z (inl refl))) ∙ starts-same l (try-start g cost' allowed' limit z b) (λ w i. h w (inr i))
-
   pub find-same : find-augmentation g cost allowed limit n ≡ find-augmentation g cost' allowed' limit n
   unfolding find-augmentation
-  find-same = starts-same (starts 0 n) nothing-found (λ z i. subst (λ (m : ℕ). z .0 < m) (zero-add n) (starts-below 0 n z i))
+  find-same = each-same (try-start g cost allowed limit) (try-start g cost' allowed' limit) (starts 0 n)
+      (λ z i b. start-same z b (subst (λ (m : ℕ). z .0 < m) (zero-add n) (starts-below 0 n z i))) nothing-found
 
-pub by-tables : (regions : List ℕ) (costs : CostModel) (counts : List ℕ) (limit : ℕ) (table : List Float) (allowed : List Bool) → Accepted (length counts) (the-graph regions)
-    → Priced costs counts table allowed
-    → find-augmentation (the-graph regions) (cost-in table) (allowed-in allowed) limit (length counts) ≡ find-move (the-graph regions) costs counts limit
+pub by-tables : (regions : List ℕ) (limit : ℕ) {model : CostModel} {counts : List ℕ} {costs : List Float} {allowed : List Bool}
+    → Accepted (length counts) (the-graph regions) → Priced model counts costs allowed
+    → find-augmentation (the-graph regions) (cost-in costs) (allowed-in allowed) limit (length counts) ≡ find-move (the-graph regions) model counts
+    limit
 unfolding find-move
-by-tables regions costs counts limit table allowed ok p =
-    find-same (the-graph regions) (length counts) ok limit (cost-in table) (costs counts) (allowed-in allowed) (is-allowed counts) (p .cost-is) (p .allowed-is)
+by-tables regions limit {model} {counts} {costs} {allowed} ok p =
+    find-same (the-graph regions) (length counts) ok limit (cost-in costs) (model counts) (allowed-in allowed) (is-allowed counts) (p .cost-is)
+    (p .allowed-is)
 
 -- ---- what is found can be made
 
-pub can-apply : (g : List Constraint) (costs : CostModel) (counts : List ℕ) (limit : ℕ) → Accepted (length counts) g → ((x : ℕ) → getD counts x 0 ≤ max-count)
-    → CanApply counts (find-move g costs counts limit .best)
-can-apply g costs counts limit ok small = go (found g counts ok costs limit)
+pub can-apply : (costs : CostModel) (limit : ℕ) {g : List Constraint} {counts : List ℕ} → Accepted (length counts) g
+    → ((x : ℕ) → getD counts x 0 ≤ max-count) → CanApply counts (find-move g costs counts limit .best)
+can-apply costs limit {g} {counts} ok small = go (found g counts ok costs limit)
   where
     b : Found
     b = find-move g costs counts limit
@@ -100,9 +96,9 @@ not-known zero c e = let z : T false = subst T (sym e) tt in z
 not-known (suc n) zero e = let z : T false = subst T (sym e) tt in z
 not-known (suc n) (suc c) e = not-known n c e
 
-pub nothing-known : (regions : List ℕ) (costs : List Float) (allowed : List Bool) (limit : ℕ) (kept : List Float) (cut known : List Bool) → length kept ≡ changes → length cut ≡ changes → known ≡ replicate changes false
-    → Remembered regions costs allowed limit kept cut known
-nothing-known regions costs allowed limit kept cut known k t e =
+pub nothing-known : {regions : List ℕ} {costs : List Float} {allowed : List Bool} {limit : ℕ} {kept : List Float} {cut known : List Bool}
+    → length kept ≡ changes → length cut ≡ changes → known ≡ replicate changes false → Remembered regions costs allowed limit kept cut known
+nothing-known k t e =
     record {
       kept-long = k;
       cut-long = t;
@@ -110,5 +106,6 @@ nothing-known regions costs allowed limit kept cut known k t e =
       right = λ c h q. absurd (not-known changes c (sym (ap (λ (l : List Bool). getD l c false) e) ∙ q));
     }
 
-pub tested-ok : (regions counts : List ℕ) → RoundInput regions counts → Accepted (length counts) (the-graph regions)
-tested-ok regions counts t = regions-ok places (length counts) regions (t .regions-pass)
+pub tested-ok : {regions incident own : List ℕ} {least most : List Float} {counts : List ℕ} → SolveInput regions incident own least most counts
+    → Accepted (length counts) (the-graph regions)
+tested-ok {regions = regions} {counts = counts} t = regions-ok places (length counts) regions (t .regions-pass)

@@ -3,7 +3,7 @@
 use mathlib.Core.Path.{_≡_, refl, sym, ap, _∙_}
 use mathlib.Core.Bool.{Bool, true, false, true≢false, cond}
 use mathlib.Core.List.{List, [], _∷_}
-use Prim.Native.Nat.{ℕ, zero, suc, _+_, _-_, _*_, _<_, _≤_}
+use Prim.Native.Nat.{ℕ, zero, suc, _+_, _*_, _<_, _≤_}
 use native.Mathlib.Numerals.{add-one}
 use native.Mathlib.Nat.{zero-mul, mul-one, mul-pos}
 use native.Mathlib.Omega.{arith}
@@ -16,11 +16,13 @@ use lib.Ieee.Fits.{up-pos}
 use Rattle.base.specs.declared.verdict.Verdict.{Verdict}
 use Rattle.base.specs.Refusal.{passed, refused}
 use Rattle.counts.specs.Values.{first-bad, ideal-ok, ranges}
+use Rattle.counts.specs.inner.Checks.{MayTestRanges}
 use Rattle.base.proofs.Turns.{drop-at}
 
 -- ---- the first bad entry
 module _ {A : Type 0} (ok : A → Bool) (number : ℕ) (xs : List A) (d : A) (i : ℕ) where
-  turn : (b : Bool) → i < length xs → ok (getD xs i d) ≡ b → first-bad ok number i (drop i xs) ≡ cond b (first-bad ok number (i + 1) (drop (i + 1) xs)) (refused number i 0)
+  turn : (b : Bool) → i < length xs → ok (getD xs i d) ≡ b
+      → first-bad ok number i (drop i xs) ≡ cond b (first-bad ok number (i + 1) (drop (i + 1) xs)) (refused number i 0)
   unfolding first-bad
   turn b h t =
       ap (first-bad ok number i) (drop-at xs d i h)
@@ -68,7 +70,8 @@ length-ranges [] most h = refl
 length-ranges (l ∷ least) [] h = absurd (omega arith)
 length-ranges (l ∷ least) (m ∷ most) h = let e = length-ranges least most (omega arith) in omega arith
 
-pub range-at : (least most : List Float) (d : Float) (i : ℕ) → length most ≡ length least → getD (ranges least most) i (d, d) ≡ (getD least i d, getD most i d)
+pub range-at : (least most : List Float) (d : Float) (i : ℕ) → length most ≡ length least
+    → getD (ranges least most) i (d, d) ≡ (getD least i d, getD most i d)
 range-at [] [] d i h = refl
 range-at [] (m ∷ most) d i h = absurd (omega arith)
 range-at (l ∷ least) [] d i h = absurd (omega arith)
@@ -76,17 +79,21 @@ range-at (l ∷ least) (m ∷ most) d zero h = refl
 range-at (l ∷ least) (m ∷ most) d (suc i) h = range-at least most d i (omega arith)
 
 -- one test of both ends, edge after edge
-module _ (ok : Float × Float → Bool) (number : ℕ) (least most : List Float) (same : length most ≡ length least) (i : ℕ) where
+module _ (ok : Float × Float → Bool) (number : ℕ) {least most : List Float} (may : MayTestRanges least most) where
   abbrev left-from : ℕ → Verdict
   left-from k = first-bad ok number k (drop k (ranges least most))
 
-  pub range-next : i < length least → ok (getD least i nan, getD most i nan) ≡ true → left-from i ≡ left-from (i + 1)
-  range-next h t =
-      bad-next ok number (ranges least most) (nan, nan) i (let e = length-ranges least most same in omega arith) (ap ok (range-at least most nan i same) ∙ t)
+  as-long : length (ranges least most) ≡ length least
+  as-long = length-ranges least most (may .most-long)
 
-  pub range-here : i < length least → ok (getD least i nan, getD most i nan) ≡ false → left-from i ≡ refused number i 0
-  range-here h t =
-      bad-here ok number (ranges least most) (nan, nan) i (let e = length-ranges least most same in omega arith) (ap ok (range-at least most nan i same) ∙ t)
+  at : (i : ℕ) (b : Bool) → ok (getD least i nan, getD most i nan) ≡ b → ok (getD (ranges least most) i (nan, nan)) ≡ b
+  at i b t = ap ok (range-at least most nan i (may .most-long)) ∙ t
 
-  pub range-none : length least ≤ i → left-from i ≡ passed
-  range-none h = bad-none ok number (ranges least most) (nan, nan) i (let e = length-ranges least most same in omega arith)
+  pub range-next : {i : ℕ} → i < length least → ok (getD least i nan, getD most i nan) ≡ true → left-from i ≡ left-from (i + 1)
+  range-next {i} h t = bad-next ok number (ranges least most) (nan, nan) i (let e = as-long in omega arith) (at i true t)
+
+  pub range-here : {i : ℕ} → i < length least → ok (getD least i nan, getD most i nan) ≡ false → left-from i ≡ refused number i 0
+  range-here {i} h t = bad-here ok number (ranges least most) (nan, nan) i (let e = as-long in omega arith) (at i false t)
+
+  pub range-none : {i : ℕ} → length least ≤ i → left-from i ≡ passed
+  range-none {i} h = bad-none ok number (ranges least most) (nan, nan) i (let e = as-long in omega arith)

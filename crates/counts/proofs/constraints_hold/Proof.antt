@@ -9,16 +9,11 @@ use Rattle.counts.proofs.SolverLaws.{hold-refused, hold-answered}
 use Rattle.counts.proofs.constraints_hold.Statement.{statement}
 use Rattle.counts.proofs.constraints_hold.Tie as tie
 
-check-limits-requires : tie.Need-check-limits-requires
-check-limits-requires c κs = search needs
-
-enum-known-r : tie.Need-enum-known-r
-enum-known-r c = search needs
-
 returns : tie.Need-returns
 returns c =
-    let l = now (c .before .before .before .before .before .before .args .regions) in
-    let xs = now (c .before .before .before .before .before .before .args .counts) in
+    let entry : tie.Start = search in
+    let l = now (entry .args .regions) in
+    let xs = now (entry .args .counts) in
     hold-refused l xs (c .before .r .given .1) (c .before .before .before .check-limits .ensures)
 
 enum-told : tie.Need-enum-told
@@ -26,17 +21,18 @@ enum-told c = search needs
 
 regions-hold-requires : tie.Need-regions-hold-requires
 regions-hold-requires c κs =
-    let l = now (c .before .before .before .before .before .args .regions) in
-    let xs = now (c .before .before .before .before .before .args .counts) in
+    let entry : tie.Start = search in
+    let l = now (entry .args .regions) in
+    let xs = now (entry .args .counts) in
     limits-passed places (length xs) l (was-passed (c .enum-told .given .1) (c .before .before .check-limits .ensures)) .1
 
 returns-2 : tie.Need-returns-2
 returns-2 c =
-    let l = now (c .before .before .before .before .before .before .args .regions) in
-    let xs = now (c .before .before .before .before .before .before .args .counts) in
-    hold-answered l xs (c .regions-hold .result) (c .before .enum-told .given .1) (c .before .before .before .check-limits .ensures) (c .regions-hold .ensures)
+    let entry : tie.Start = search in
+    let l = now (entry .args .regions) in
+    let xs = now (entry .args .counts) in
+    hold-answered l xs (c .regions-hold .result) (c .before .enum-told .given .1) (c .before .before .before .check-limits .ensures)
+    (c .regions-hold .ensures)
 
 pub constraints-hold-spec : {M : Type 1} → statement M
-constraints-hold-spec =
-    tie.close
-    (tie.spec check-limits-requires enum-known-r returns enum-told regions-hold-requires returns-2)
+constraints-hold-spec = tie.close (tie.spec (λ c κs. search needs) (λ c. search needs) returns enum-told regions-hold-requires returns-2)

@@ -13,7 +13,8 @@ use lib.Ieee.{Float, nan, add, binary64}
 use Rattle.counts.specs.Move.{is-allowed}
 use Rattle.floats.specs.Scalar.{one}
 use Rattle.counts.specs.Cost.{real, deviation, square, range-delta, CostModel, by-ranges, Local, energy-from}
-use Rattle.counts.specs.inner.Tables.{set-both, Entries}
+use Rattle.counts.specs.inner.Tables.{set-both, Entries, MayFillCosts, CostsFilled}
+use Rattle.regions.specs.Accept.{max-edges}
 use Rattle.base.proofs.Turns.{drop-at}
 
 -- below the length the default does not matter
@@ -58,7 +59,8 @@ module _ (counts : List ℕ) (model : CostModel) (costs : List Float) (allowed :
         minus-allowed = both-other allowed e (y * 2) true t false (λ q. n (omega (arith, q))) ∙ old .minus-allowed;
       }
 
-  pub entries-new : e * 2 + 1 < length costs → e * 2 + 1 < length allowed → a ≡ model counts e true → b ≡ model counts e false → t ≡ is-allowed counts e false → Entries counts model costs-then may-then e
+  pub entries-new : e * 2 + 1 < length costs → e * 2 + 1 < length allowed → a ≡ model counts e true → b ≡ model counts e false
+      → t ≡ is-allowed counts e false → Entries counts model costs-then may-then e
   entries-new h k p q r =
       record {
         plus-cost = both-plus costs e a b nan h ∙ p;
@@ -68,35 +70,52 @@ module _ (counts : List ℕ) (model : CostModel) (costs : List Float) (allowed :
       }
 
 -- a turn of the loop that fills the tables: edge e has the entries of its price
-pub entries-more : (counts : List ℕ) (model : CostModel) (costs : List Float) (allowed : List Bool) (e : ℕ) (price : Bool → Float) (costs' : List Float) (allowed' : List Bool)
-    → e * 2 + 1 < length costs → e * 2 + 1 < length allowed → ((d : Bool) → price d ≡ model counts e d)
-    → (costs' ≡ set-both costs e (price true) (price false)) × (allowed' ≡ set-both allowed e true (ltb 0 (getD counts e 0)))
-    → ((y : ℕ) → y < e → Entries counts model costs allowed y) → (y : ℕ) → y < e + 1 → Entries counts model costs' allowed' y
-entries-more counts model costs allowed e price costs' allowed' h k i q old y l =
+pub costs-more : {counts : List ℕ} {model : CostModel} {costs costs' : List Float} {allowed allowed' : List Bool} {e : ℕ} {price : Bool → Float}
+    → e < max-edges → ((d : Bool) → price d ≡ model counts e d) → costs' ≡ set-both costs e (price true) (price false)
+    → allowed' ≡ set-both allowed e true (ltb 0 (getD counts e 0)) → CostsFilled e counts model costs allowed
+    → CostsFilled (e + 1) counts model costs' allowed'
+costs-more {counts} {model} {costs} {costs'} {allowed} {allowed'} {e} {price} h is c-is a-is old =
     let a = price true in
     let b = price false in
     let t = ltb 0 (getD counts e 0) in
-    let here : Entries counts model (set-both costs e a b) (set-both allowed e true t) y =
-    below-more (Entries counts model (set-both costs e a b) (set-both allowed e true t)) e
-    (λ z m. entries-kept counts model costs allowed e a b t z (λ u. omega (arith, u, m)) (old z m))
-    (entries-new counts model costs allowed e a b t h k (i true) (i false) refl) y l in
-    subst (λ (m : List Bool). Entries counts model costs' m y) (sym (q .1)) (subst (λ (c : List Float). Entries counts model c (set-both allowed e true t) y) (sym (q .0)) here)
+    let c : e * 2 + 1 < length costs = (let l = old .costs-long in omega arith) in
+    let m : e * 2 + 1 < length allowed = (let l = old .allowed-long in omega arith) in
+    let then : CostsFilled (e + 1) counts model (set-both costs e a b) (set-both allowed e true t) =
+    record {
+      entries = below-more (Entries counts model (set-both costs e a b) (set-both allowed e true t)) e
+          (λ z l. entries-kept counts model costs allowed e a b t z (λ u. omega (arith, u, l)) (old .entries z l))
+          (entries-new counts model costs allowed e a b t c m (is true) (is false) refl);
+      costs-long = length-both costs e a b ∙ old .costs-long;
+      allowed-long = length-both allowed e true t ∙ old .allowed-long;
+    } in
+    subst (λ (l : List Bool). CostsFilled (e + 1) counts model costs' l) (sym a-is)
+    (subst (λ (l : List Float). CostsFilled (e + 1) counts model l (set-both allowed e true t)) (sym c-is) then)
 
--- the price of an edge by its range, whatever stands past the ends of the lists
-pub range-price : (counts : List ℕ) (least most : List Float) (e : ℕ) (d d' : Float) → e < length least → e < length most
-    → (s : Bool) → range-delta (getD counts e 0) (getD least e d) (getD most e d') s ≡ by-ranges least most counts e s
-range-price counts least most e d d' h k s =
-    ap (λ (x : Float). range-delta (getD counts e 0) x (getD most e d') s) (getD-default least e d one h)
-    ∙ ap (λ (x : Float). range-delta (getD counts e 0) (getD least e one) x s) (getD-default most e d' one k)
+pub costs-done : {counts : List ℕ} {model : CostModel} {costs : List Float} {allowed : List Bool} {e m : ℕ} → m ≤ e
+    → CostsFilled e counts model costs allowed
+    → CostsFilled m counts model costs allowed
+costs-done h f = record { entries = λ y l. f .entries y (omega arith); costs-long = f .costs-long; allowed-long = f .allowed-long }
+
+-- the price of an edge by its range: the lists reach so far, so it does not matter what would stand past their ends
+pub range-price : {counts : List ℕ} {least most costs : List Float} {allowed : List Bool} {e : ℕ} → MayFillCosts counts least most costs allowed
+    → e < length counts → (s : Bool) → range-delta (getD counts e 0) (getD least e nan) (getD most e nan) s ≡ by-ranges least most counts e s
+range-price {counts} {least} {most} {e = e} may h s =
+    let l = may .least-long in
+    let m = may .most-long in
+    ap (λ (x : Float). range-delta (getD counts e 0) x (getD most e nan) s) (getD-default least e nan one (omega arith))
+    ∙ ap (λ (x : Float). range-delta (getD counts e 0) (getD least e one) x s) (getD-default most e nan one (omega arith))
 
 pub ranges-local : (least most : List Float) → Local (by-ranges least most)
 ranges-local least most before after x d e = ap (λ (s : ℕ). range-delta s (getD least x one) (getD most x one) d) e
 
 -- ---- the energy
 pub energy-turn : (counts : List ℕ) (ideals : List Float) (d t : Float) (e : ℕ) → e < length counts → e < length ideals
-    → energy-from t (drop e counts) (drop e ideals) ≡ energy-from (add binary64 t (square (deviation (real (getD counts e 0)) (getD ideals e d)))) (drop (e + 1) counts) (drop (e + 1) ideals)
+    → energy-from t (drop e counts) (drop e ideals)
+    ≡ energy-from (add binary64 t (square (deviation (real (getD counts e 0)) (getD ideals e d)))) (drop (e + 1) counts) (drop (e + 1) ideals)
 unfolding energy-from
-energy-turn counts ideals d t e h k = ap (λ (l : List ℕ). energy-from t l (drop e ideals)) (drop-at counts 0 e h) ∙ ap (energy-from t (getD counts e 0 ∷ drop (e + 1) counts)) (drop-at ideals d e k)
+energy-turn counts ideals d t e h k =
+    ap (λ (l : List ℕ). energy-from t l (drop e ideals)) (drop-at counts 0 e h)
+    ∙ ap (energy-from t (getD counts e 0 ∷ drop (e + 1) counts)) (drop-at ideals d e k)
 
 pub energy-end : (counts : List ℕ) (ideals : List Float) (t : Float) (e : ℕ) → length counts ≤ e → energy-from t (drop e counts) ideals ≡ t
 unfolding energy-from

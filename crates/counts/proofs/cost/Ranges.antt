@@ -1,4 +1,5 @@
--- A range whose ends are equal is an ideal: its edge cost has the same bits, for every count and every accepted ideal. Nothing rounds: where a number is
+-- A range whose ends are equal is an ideal: its edge cost has the same bits, for every count and every accepted ideal. Nothing rounds: where a
+-- number is
 -- neither below the ideal nor above it, their quotient is 1. Assumes nothing.
 use mathlib.Core.Path.{_≡_, refl, sym, ap, fun-ext, _∙_}
 use mathlib.Core.List.{List}
@@ -24,7 +25,8 @@ unfolding round ofBits
 round-one a b p e = round-same binary64 false a b 1 1 p (omega arith) (mul-one a ∙ e ∙ sym (one-mul b))
 
 quotient : (n a b : ℕ) (y : Float) → 0 < n → 0 < b → a ≡ b → cond (eqb n 0) y (round binary64 false a b) ≡ one
-quotient n a b y h p e = cond-no (eqb n 0) y (round binary64 false a b) (not-T (eqb n 0) (λ t. let z = eqb→eq n 0 t in omega (arith, z, h))) ∙ round-one a b p e
+quotient n a b y h p e = cond-no (eqb n 0) y (round binary64 false a b) (not-T (eqb n 0) (λ t. let z = eqb→eq n 0 t in omega (arith, z, h)))
+    ∙ round-one a b p e
 
 no-deviation : (x : Float) → x ≡ one → sub binary64 x one ≡ ofBits binary64 0
 unfolding sub ofBits
@@ -53,7 +55,8 @@ pub range-is : (s x : Float) → T (ideal-ok x) → T (not (isNan s)) → range-
 unfolding range-deviation
 range-is s x ok r = go (lt s x) (lt x s) (level-deviation s x ok r)
   where
-    go : (p q : Bool) → (T (not p) → T (not q) → deviation s x ≡ ofBits binary64 0) → cond p (deviation s x) (cond q (deviation s x) (ofBits binary64 0)) ≡ deviation s x
+    go : (p q : Bool) → (T (not p) → T (not q) → deviation s x ≡ ofBits binary64 0)
+        → cond p (deviation s x) (cond q (deviation s x) (ofBits binary64 0)) ≡ deviation s x
     go true q f = refl
     go false true f = refl
     go false false f = sym (f tt tt)
@@ -71,7 +74,8 @@ pick-real false x y p q = q
 
 units-real : (s : Bool) (q k : ℕ) → T (not (isNan (units binary64 s q k)))
 unfolding units
-units-real s q k = pick-real (ltb (q * 2 ^ k) (2 ^ (low binary64 + suc (emax binary64)))) _ _ (odd-real (suc (prec binary64)) s q k (low binary64)) (unfold isNan in tt)
+units-real s q k = pick-real (ltb (q * 2 ^ k) (2 ^ (low binary64 + suc (emax binary64)))) _ _ (odd-real (suc (prec binary64)) s q k (low binary64))
+    (unfold isNan in tt)
 
 round-real : (s : Bool) (a b : ℕ) → T (not (isNan (round binary64 s a b)))
 round-real s a b = rw (round-is binary64 s a b) (units-real s _ _)
@@ -101,7 +105,8 @@ real-next s false = add-real (real s) true 1 (pos 0) (real-count s)
 pub range-delta-is : (s : ℕ) (x : Float) (d : Bool) → T (ideal-ok x) → range-delta s x x d ≡ edge-delta s x d
 unfolding range-delta edge-delta
 range-delta-is s x d ok =
-    ap (λ (v : Float). sub binary64 (square v) (square (range-deviation (real s) x x))) (range-is (add binary64 (real s) (step d)) x ok (real-next s d))
+    ap (λ (v : Float). sub binary64 (square v) (square (range-deviation (real s) x x)))
+    (range-is (add binary64 (real s) (step d)) x ok (real-next s d))
     ∙ ap (λ (v : Float). sub binary64 (square (deviation (add binary64 (real s) (step d)) x)) (square v)) (range-is (real s) x ok (real-count s))
 
 -- lists of ideals as both ends

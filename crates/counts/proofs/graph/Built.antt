@@ -16,9 +16,9 @@ use Rattle.base.specs.Lists.{In, member, Distinct}
 use Rattle.base.specs.declared.verdict.Verdict.{Verdict}
 use Rattle.base.specs.Refusal.{passed, refused, outcome, verdict-of, then-test, refuse-if, is-passed}
 use Rattle.regions.specs.Region.{Constraint, places, region-count, constraint, holds, incidence, side-size, record-size}
-use Rattle.regions.specs.Accept.{records-whole, sides-fit, limits-test, pairs-test, overused-test, max-regions, max-edges}
+use Rattle.regions.specs.Accept.{records-whole, sides-fit, limits-test, overused-test, max-regions, max-edges}
 use Rattle.counts.specs.inner.Tables.{the-graph, no-constraint, edges-on, across, StandsOn, Tables, edge-slots}
-use Rattle.counts.specs.inner.Graph.{first-side, second-side, side-of, PairTested, Tested, Placed, Filled}
+use Rattle.counts.specs.inner.Graph.{first-side, second-side, side-of, PairTested, Tested, Placed, Filled, MayBuild}
 use Rattle.base.specs.declared.refusal.Check.the-variants.{Passed, Refused}
 use Rattle.base.specs.declared.refusal.Refusal.the-variants.{EdgeOverused}
 use Rattle.counts.proofs.Accepted.{ConstraintOk, pairs-ok, overused-ok}
@@ -36,13 +36,14 @@ pub record Limits (n : ℕ) (regions : List ℕ) : Type 0 where
   pub regions-few : region-count places regions ≤ max-regions
   pub fit : T (sides-fit places (region-count places regions) regions)
 
-pub limits : (n : ℕ) (regions : List ℕ) → T (is-passed (limits-test places n regions)) → Limits n regions
+pub limits : {n : ℕ} {regions incident own : List ℕ} → MayBuild n regions incident own → Limits n regions
 unfolding limits-test records-whole
-limits n regions t =
+limits {n} {regions} may =
     let m = region-count places regions in
     let whole = eqb (length regions % record-size places) 0 && (leb m max-regions && sides-fit places m regions) in
-    let t1 = not-not (leb n max-edges && whole) (not-refused (not (leb n max-edges && whole)) 0 0 0 t) in
-    let t2 = and-r (eqb (length regions % record-size places) 0) (leb m max-regions && sides-fit places m regions) (and-r (leb n max-edges) whole t1) in
+    let t1 = not-not (leb n max-edges && whole) (not-refused (not (leb n max-edges && whole)) 0 0 0 (may .limits-pass)) in
+    let t2 =
+    and-r (eqb (length regions % record-size places) 0) (leb m max-regions && sides-fit places m regions) (and-r (leb n max-edges) whole t1) in
     record {
       edges-few = leb→le n max-edges (and-l (leb n max-edges) whole t1);
       regions-few = leb→le m max-regions (and-l (leb m max-regions) (sides-fit places m regions) t2);
@@ -53,15 +54,14 @@ limits n regions t =
     not-not true u = tt
     not-not false u = absurd u
 
-pub tested : (n : ℕ) (regions : List ℕ) → T (is-passed (limits-test places n regions))
-    → T (is-passed (pairs-test places n 0 (region-count places regions) regions)) → Tested regions
-tested n regions t1 t3 = record { few = lim .regions-few; pair-tested = pair }
+pub tested : {n : ℕ} {regions incident own : List ℕ} → MayBuild n regions incident own → Tested regions
+tested {n} {regions} may = record { few = lim .regions-few; pair-tested = pair }
   where
     lim : Limits n regions
-    lim = limits n regions t1
+    lim = limits may
 
     ok : (i : ℕ) → ConstraintOk n (constraint (the-graph regions) i)
-    ok = pairs-ok places n 0 (region-count places regions) regions t3
+    ok = pairs-ok places n 0 (region-count places regions) regions (may .pairs-pass)
 
     inside : (i y : ℕ) → T (holds (constraint (the-graph regions) i) y) → y < max-edges
     inside i y h = let l = ltb→lt y n (ok i .inside y h) in let k = lim .edges-few in omega (arith, l, k)
@@ -128,21 +128,24 @@ overused-from g e n h =
     ap (overused-test g e) q
     ∙ ap (λ (k : ℕ). then-test (refuse-if (ltb 2 (length (incidence g e))) (refused 6 e 0)) (overused-test g k (n - (e + 1)))) (sym (add-one e))
 
-pub overused-here : (g : List Constraint) (e n : ℕ) → e < n → 2 < length (incidence g e) → overused-test g e (n - e) ≡ outcome (Refused (EdgeOverused e))
+pub overused-here : (g : List Constraint) {e n : ℕ} → e < n → 2 < length (incidence g e)
+    → overused-test g e (n - e) ≡ outcome (Refused (EdgeOverused e))
 unfolding outcome verdict-of
-overused-here g e n h l =
+overused-here g {e} {n} h l =
     overused-from g e n h
-    ∙ ap (λ (v : Verdict). then-test v (overused-test g (e + 1) (n - (e + 1)))) (cond-yes (ltb 2 (length (incidence g e))) (refused 6 e 0) passed (lt→ltb 2 (length (incidence g e)) l))
+    ∙ ap (λ (v : Verdict). then-test v (overused-test g (e + 1) (n - (e + 1))))
+    (cond-yes (ltb 2 (length (incidence g e))) (refused 6 e 0) passed (lt→ltb 2 (length (incidence g e)) l))
 
-pub overused-next : (g : List Constraint) (e n : ℕ) → e < n → length (incidence g e) ≤ 2 → overused-test g e (n - e) ≡ overused-test g (e + 1) (n - (e + 1))
-overused-next g e n h l =
+pub overused-next : (g : List Constraint) {e n : ℕ} → e < n → length (incidence g e) ≤ 2
+    → overused-test g e (n - e) ≡ overused-test g (e + 1) (n - (e + 1))
+overused-next g {e} {n} h l =
     overused-from g e n h
     ∙ ap (λ (v : Verdict). then-test v (overused-test g (e + 1) (n - (e + 1))))
     (cond-no (ltb 2 (length (incidence g e))) (refused 6 e 0) passed (λ t. let k = ltb→lt 2 (length (incidence g e)) t in omega arith))
 
-pub overused-done : (g : List Constraint) (e n : ℕ) → n ≤ e → overused-test g e (n - e) ≡ outcome Passed
+pub overused-done : (g : List Constraint) {e n : ℕ} → n ≤ e → overused-test g e (n - e) ≡ outcome Passed
 unfolding overused-test outcome
-overused-done g e n h = let q : n - e ≡ 0 = omega arith in ap (overused-test g e) q
+overused-done g {e} {n} h = let q : n - e ≡ 0 = omega arith in ap (overused-test g e) q
 
 -- ---- the tables
 
@@ -191,16 +194,19 @@ module _ (regions : List ℕ) (i y : ℕ) (ok : PairTested regions i) (h : i < r
   stands-on =
       let b = member y (constraint (the-graph regions) i .a) in
       elim (T-or-not b) [
-        | inl t ↦ (let e : first-side i ≡ side-of (the-graph regions) y i = let q = cond-yes {A = ℕ} b 0 2 t in omega (arith, q) in subst (StandsOn regions i y) e (stands-first t))
+        | inl t ↦ (let q = cond-yes {A = ℕ} b 0 2 t in
+            let e : first-side i ≡ side-of (the-graph regions) y i = omega (arith, q) in
+            subst (StandsOn regions i y) e (stands-first t))
         | inr t ↦ (let n : T b → ⊥ = λ u. clash b u t in
-            let e : second-side i ≡ side-of (the-graph regions) y i = let q = cond-no {A = ℕ} b 0 2 n in omega (arith, q) in subst (StandsOn regions i y) e (stands-second n))
+            let q = cond-no {A = ℕ} b 0 2 n in
+            let e : second-side i ≡ side-of (the-graph regions) y i = omega (arith, q) in
+            subst (StandsOn regions i y) e (stands-second n))
       ]
 
-pub tables : (n : ℕ) (regions incident own uses : List ℕ) → T (is-passed (limits-test places n regions))
-    → T (is-passed (pairs-test places n 0 (region-count places regions) regions))
-    → T (is-passed (overused-test (the-graph regions) 0 n))
-    → Filled (the-graph regions) (the-graph regions) incident own uses → Tables regions incident own
-tables n regions incident own uses t1 t3 t6 f =
+pub tables : {n : ℕ} {regions incident₀ own₀ incident own uses : List ℕ} → MayBuild n regions incident₀ own₀
+    → T (is-passed (overused-test (the-graph regions) 0 n)) → Filled (the-graph regions) (the-graph regions) incident own uses
+    → Tables regions incident own
+tables {n} {regions} {incident = incident} {own = own} may t6 f =
     record {
       parted = λ i. ok i .sided;
       few = λ i y h. let l = below i y h in let k = lim .edges-few in omega (arith, l, k);
@@ -211,22 +217,26 @@ tables n regions incident own uses t1 t3 t6 f =
     }
   where
     lim : Limits n regions
-    lim = limits n regions t1
+    lim = limits may
 
     ok : (i : ℕ) → ConstraintOk n (constraint (the-graph regions) i)
-    ok = pairs-ok places n 0 (region-count places regions) regions t3
+    ok = pairs-ok places n 0 (region-count places regions) regions (may .pairs-pass)
 
     below : (i y : ℕ) → T (holds (constraint (the-graph regions) i) y) → y < n
     below i y h = ltb→lt y n (ok i .inside y h)
 
     in-range : (i y : ℕ) → T (holds (constraint (the-graph regions) i) y) → i < region-count places regions * 2
-    in-range i y h = let l = holds-numbered (the-graph regions) i y h in let len = length-constraints places (region-count places regions) regions in omega (arith, l, len)
+    in-range i y h =
+        let l = holds-numbered (the-graph regions) i y h in
+        let len = length-constraints places (region-count places regions) regions in
+        omega (arith, l, len)
 
     -- an edge that is none of the n is in no constraint
     thin : (y : ℕ) → length (incidence (the-graph regions) y) ≤ 2
     thin y =
         elim (T-or-not (ltb y n)) [
-          | inl t ↦ subst (λ (m : ℕ). length (incidence (the-graph regions) m) ≤ 2) (zero-add y) (overused-ok (the-graph regions) 0 n t6 y (ltb→lt y n t))
+          | inl t ↦ subst (λ (m : ℕ). length (incidence (the-graph regions) m) ≤ 2) (zero-add y)
+              (overused-ok (the-graph regions) 0 n t6 y (ltb→lt y n t))
           | inr t ↦ short (incidence (the-graph regions) y) (λ i j. clash (ltb y n) (ok i .inside y (incidence→holds (the-graph regions) i y j)) t)
         ]
 
@@ -238,7 +248,7 @@ tables n regions incident own uses t1 t3 t6 f =
         let j = getD-in (incidence (the-graph regions) y) k no-constraint (subst (λ (m : ℕ). m < no-constraint) e h) in
         let held = incidence→holds (the-graph regions) i y (subst (λ (m : ℕ). In m (incidence (the-graph regions) y)) (sym e) j) in
         let r = in-range i y held in
-        subst (StandsOn regions i y) (sym (f .own-is y k ly lk h)) (stands-on regions i y (tested n regions t1 t3 .pair-tested i r) r)
+        subst (StandsOn regions i y) (sym (f .own-is y k ly lk h)) (stands-on regions i y (tested may .pair-tested i r) r)
 
     stands : (p : ℕ) → p < edge-slots → getD incident p 0 < no-constraint → StandsOn regions (getD incident p 0) (p / 2) (getD own p 0)
     stands p l h =

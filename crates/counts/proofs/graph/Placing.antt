@@ -15,7 +15,7 @@ use lib.Ieee.Fits.{and-i, and-l, and-r}
 use Rattle.base.specs.Lists.{member}
 use Rattle.regions.specs.Region.{Constraint, constraint, holds, incidence}
 use Rattle.counts.specs.inner.Tables.{no-constraint, edge-slots}
-use Rattle.counts.specs.inner.Graph.{first-side, second-side, side-of, Sized, Placed, Filled}
+use Rattle.counts.specs.inner.Graph.{first-side, second-side, side-of, Sized, Placed, Filled, MayPlaceEdge}
 use Rattle.regions.specs.Accept.{max-edges}
 use Rattle.base.proofs.BoolLaws.{T-or-not, clash, eq→eqb, cond-yes, cond-no}
 use Rattle.base.proofs.ListLaws.{member-append, one-in, in-one, length-grown, getD-grown}
@@ -28,7 +28,8 @@ set-slot : (table : List ℕ) (e n v y k u : ℕ) → length table ≡ edge-slot
     → getD (set table (e * 2 + n) v) (y * 2 + k) 0 ≡ cond (member y (e ∷ []) && eqb u k) v (getD table (y * 2 + k) 0)
 set-slot table e n v y k u size le ln lk un = elim (T-or-not (member y (e ∷ []) && eqb u k)) [ inl t ↦ here t | inr t ↦ there t ]
   where
-    here : T (member y (e ∷ []) && eqb u k) → getD (set table (e * 2 + n) v) (y * 2 + k) 0 ≡ cond (member y (e ∷ []) && eqb u k) v (getD table (y * 2 + k) 0)
+    here : T (member y (e ∷ []) && eqb u k) → getD (set table (e * 2 + n) v) (y * 2 + k) 0 ≡ cond (member y (e ∷ []) && eqb u k) v
+        (getD table (y * 2 + k) 0)
     here t =
         let ye : y ≡ e = one-in y e (and-l (member y (e ∷ [])) (eqb u k) t) in
         let uk : u ≡ k = eqb→eq u k (and-r (member y (e ∷ [])) (eqb u k) t) in
@@ -38,7 +39,8 @@ set-slot table e n v y k u size le ln lk un = elim (T-or-not (member y (e ∷ []
         ∙ getD-set-same table (e * 2 + n) v 0 (omega arith)
         ∙ sym (cond-yes (member y (e ∷ []) && eqb u k) v (getD table (y * 2 + k) 0) t)
 
-    there : T (not (member y (e ∷ []) && eqb u k)) → getD (set table (e * 2 + n) v) (y * 2 + k) 0 ≡ cond (member y (e ∷ []) && eqb u k) v (getD table (y * 2 + k) 0)
+    there : T (not (member y (e ∷ []) && eqb u k)) → getD (set table (e * 2 + n) v) (y * 2 + k) 0 ≡ cond (member y (e ∷ []) && eqb u k) v
+        (getD table (y * 2 + k) 0)
     there t =
         getD-set-other table (e * 2 + n) (y * 2 + k) v 0
         (λ at.
@@ -65,7 +67,13 @@ count-one uses e n y le en = elim (T-or-not (member y (e ∷ []))) [ inl t ↦ h
         ∙ sym (add-zero (getD uses y 0))
         ∙ ap (λ (p : ℕ). getD uses y 0 + p) (sym (cond-no (member y (e ∷ [])) 1 0 (λ q. clash (member y (e ∷ [])) q t)))
 
-module _ (i s e n : ℕ) (incident own uses : List ℕ) (size : Sized incident own uses) (le : e < max-edges) (en : n ≡ getD uses e 0) where
+module _ {i s e n : ℕ} {incident own uses : List ℕ} (may : MayPlaceEdge incident own uses i s e) (en : n ≡ getD uses e 0) where
+  size : Sized incident own uses
+  size = may .sized
+
+  le : e < max-edges
+  le = may .edge-below
+
   has : (y : ℕ) → y ≡ e → getD uses y 0 ≡ n
   has y q = ap (λ (p : ℕ). getD uses p 0) q ∙ sym en
 
@@ -110,13 +118,14 @@ both-counted true true u n = absurd (n tt tt)
 both-counted true false u n = add-zero (u + 1)
 both-counted false q u n = ap (λ (k : ℕ). k + cond q 1 0) (add-zero u)
 
-both-placed : (p q : Bool) (u k v t : ℕ) → (T p → T q → ⊥) → cond (q && eqb (u + cond p 1 0) k) v (cond (p && eqb u k) v t) ≡ cond ((p || q) && eqb u k) v t
+both-placed : (p q : Bool) (u k v t : ℕ) → (T p → T q → ⊥)
+    → cond (q && eqb (u + cond p 1 0) k) v (cond (p && eqb u k) v t) ≡ cond ((p || q) && eqb u k) v t
 both-placed true true u k v t n = absurd (n tt tt)
 both-placed true false u k v t n = refl
 both-placed false q u k v t n = ap (λ (w : ℕ). cond (q && eqb w k) v t) (add-zero u)
 
-pub placed-none : (i s : ℕ) (incident own uses : List ℕ) → Sized incident own uses → Placed i s [] incident own uses incident own uses
-placed-none i s incident own uses size =
+pub placed-none : {i s : ℕ} {incident own uses : List ℕ} → Sized incident own uses → Placed i s [] incident own uses incident own uses
+placed-none {uses = uses} size =
     record {
       sized = size;
       counted = λ y ly. sym (add-zero (getD uses y 0));
@@ -125,11 +134,14 @@ placed-none i s incident own uses size =
     }
 
 -- an edge that is not among those placed has as many uses as before
-pub not-counted : {i s y : ℕ} {l incident own uses incident1 own1 uses1 : List ℕ} → Placed i s l incident own uses incident1 own1 uses1 → y < max-edges
+pub not-counted : {i s y : ℕ} {l incident own uses incident1 own1 uses1 : List ℕ} → Placed i s l incident own uses incident1 own1 uses1
+    → y < max-edges
     → (T (member y l) → ⊥) → getD uses1 y 0 ≡ getD uses y 0
-not-counted {y = y} {l = l} {uses = uses} a ly n = a .counted y ly ∙ ap (λ (k : ℕ). getD uses y 0 + k) (cond-no (member y l) 1 0 n) ∙ add-zero (getD uses y 0)
+not-counted {y = y} {l = l} {uses = uses} a ly n = a .counted y ly ∙ ap (λ (k : ℕ). getD uses y 0 + k) (cond-no (member y l) 1 0 n)
+    ∙ add-zero (getD uses y 0)
 
-pub counted-once : {i s y : ℕ} {l incident own uses incident1 own1 uses1 : List ℕ} → Placed i s l incident own uses incident1 own1 uses1 → y < max-edges
+pub counted-once : {i s y : ℕ} {l incident own uses incident1 own1 uses1 : List ℕ} → Placed i s l incident own uses incident1 own1 uses1
+    → y < max-edges
     → getD uses1 y 0 ≤ getD uses y 0 + 1
 counted-once {y = y} {l = l} a ly = let e = a .counted y ly in let h = at-most-one (member y l) in omega (arith, e, h)
   where
@@ -151,13 +163,14 @@ placed-more i s l m incident own uses incident1 own1 uses1 incident2 own2 uses2 
           ∙ ap (λ (u : ℕ). u + cond (member y m) 1 0) (a .counted y ly)
           ∙ both-counted (member y l) (member y m) (getD uses y 0) (apart y)
           ∙ ap (λ (q : Bool). getD uses y 0 + cond q 1 0) (sym (member-append y l m));
-      incident-at = λ y k ly lk. at y k ly i (getD incident (y * 2 + k) 0) _ _ (a .incident-at y k ly lk) (b .incident-at y k ly lk);
-      own-at = λ y k ly lk. at y k ly s (getD own (y * 2 + k) 0) _ _ (a .own-at y k ly lk) (b .own-at y k ly lk);
+      incident-at = λ y k ly lk. at y k ly i (getD incident (y * 2 + k) 0) (a .incident-at y k ly lk) (b .incident-at y k ly lk);
+      own-at = λ y k ly lk. at y k ly s (getD own (y * 2 + k) 0) (a .own-at y k ly lk) (b .own-at y k ly lk);
     }
   where
-    at : (y k : ℕ) → y < max-edges → (v t t1 t2 : ℕ) → t1 ≡ cond (member y l && eqb (getD uses y 0) k) v t → t2 ≡ cond (member y m && eqb (getD uses1 y 0) k) v t1
+    at : (y k : ℕ) → y < max-edges → (v t : ℕ) {t1 t2 : ℕ} → t1 ≡ cond (member y l && eqb (getD uses y 0) k) v t
+        → t2 ≡ cond (member y m && eqb (getD uses1 y 0) k) v t1
         → t2 ≡ cond (member y (l ++ m) && eqb (getD uses y 0) k) v t
-    at y k ly v t t1 t2 p q =
+    at y k ly v t p q =
         q
         ∙ ap (λ (w : ℕ). cond (member y m && eqb (getD uses1 y 0) k) v w) p
         ∙ ap (λ (u : ℕ). cond (member y m && eqb u k) v (cond (member y l && eqb (getD uses y 0) k) v t)) (a .counted y ly)
@@ -166,7 +179,8 @@ placed-more i s l m incident own uses incident1 own1 uses1 incident2 own2 uses2 
 
 -- ---- one constraint after the other
 
-pub uses-few : {g : List Constraint} (i : ℕ) {incident own uses : List ℕ} → Filled g (take i g) incident own uses → (y : ℕ) → y < max-edges → getD uses y 0 ≤ i
+pub uses-few : {g : List Constraint} (i : ℕ) {incident own uses : List ℕ} → Filled g (take i g) incident own uses → (y : ℕ) → y < max-edges
+    → getD uses y 0 ≤ i
 uses-few {g} i f y ly = let e = f .counted y ly in let h = length-incidence 0 (take i g) y in let k = length-take i g in omega (arith, e, h, k)
 
 -- the side that stands beside a constraint is the one on which the edge stands in it
@@ -176,9 +190,9 @@ own-kept f i s s' n o p true hp hq h l = hq tt
 own-kept f i s s' n o true false hp hq h l = hp tt
 own-kept f i s s' n o false false hp hq h l = h l
 
-pub filled-none : (g : List Constraint) (incident own uses : List ℕ) → incident ≡ replicate edge-slots no-constraint → length own ≡ edge-slots → uses ≡ replicate max-edges 0
-    → Filled g [] incident own uses
-filled-none g incident own uses ei size eu =
+pub filled-none : {g : List Constraint} {incident own uses : List ℕ} → incident ≡ replicate edge-slots no-constraint → length own ≡ edge-slots
+    → uses ≡ replicate max-edges 0 → Filled g [] incident own uses
+filled-none {incident = incident} ei size eu =
     record {
       sized =
           record {
@@ -231,7 +245,8 @@ filled-more g i incident own uses incident1 own1 uses1 incident2 own2 uses2 li a
 
     incident-now : (y k : ℕ) → y < max-edges → k < 2
         → getD incident2 (y * 2 + k) 0
-        ≡ cond (in-b y && eqb (length (before y) + cond (in-a y) 1 0) k) i (cond (in-a y && eqb (length (before y)) k) i (getD (before y) k no-constraint))
+        ≡ cond (in-b y && eqb (length (before y) + cond (in-a y) 1 0) k) i
+        (cond (in-a y && eqb (length (before y)) k) i (getD (before y) k no-constraint))
     incident-now y k ly lk =
         b .incident-at y k ly lk
         ∙ ap (λ (u : ℕ). cond (in-b y && eqb u k) i (getD incident1 (y * 2 + k) 0)) (count1 y ly)
@@ -240,11 +255,13 @@ filled-more g i incident own uses incident1 own1 uses1 incident2 own2 uses2 li a
         ∙ ap (λ (u : ℕ). cond (in-a y && eqb u k) i (getD incident (y * 2 + k) 0)) (f .counted y ly)
         ∙ ap (λ (w : ℕ). cond (in-a y && eqb (length (before y)) k) i w) (f .incident-is y k ly lk))
 
-    own-now : (y k : ℕ) → y < max-edges → k < 2 → getD incident2 (y * 2 + k) 0 < no-constraint → getD own2 (y * 2 + k) 0 ≡ side-of g y (getD incident2 (y * 2 + k) 0)
+    own-now : (y k : ℕ) → y < max-edges → k < 2 → getD incident2 (y * 2 + k) 0 < no-constraint
+        → getD own2 (y * 2 + k) 0 ≡ side-of g y (getD incident2 (y * 2 + k) 0)
     own-now y k ly lk h =
         let p = in-a y && eqb (getD uses y 0) k in
         let q = in-b y && eqb (getD uses1 y 0) k in
-        let e : getD incident2 (y * 2 + k) 0 ≡ cond q i (cond p i (getD incident (y * 2 + k) 0)) = b .incident-at y k ly lk ∙ ap (λ (w : ℕ). cond q i w) (a .incident-at y k ly lk) in
+        let e : getD incident2 (y * 2 + k) 0 ≡ cond q i (cond p i (getD incident (y * 2 + k) 0)) = b .incident-at y k ly lk
+        ∙ ap (λ (w : ℕ). cond q i w) (a .incident-at y k ly lk) in
         b .own-at y k ly lk
         ∙ ap (λ (w : ℕ). cond q (second-side i) w) (a .own-at y k ly lk)
         ∙ own-kept (side-of g y) i (first-side i) (second-side i) (getD incident (y * 2 + k) 0) (getD own (y * 2 + k) 0) p q

@@ -5,14 +5,8 @@ use Rattle.counts.proofs.EqualEnds.{round-same}
 use Rattle.counts.proofs.round.Statement.{statement}
 use Rattle.counts.proofs.round.Tie as tie
 
-round-within-requires : tie.Need-round-within-requires
-round-within-requires c κs = search needs
-
-same-length : tie.Need-same-length
-same-length c = search needs
-
 returns : tie.Need-returns
 returns c = c .before .before .round-within .ensures ∙ round-same _ _ _ _
 
 pub round-spec : {M : Type 1} → statement M
-round-spec = tie.close (tie.spec round-within-requires same-length returns)
+round-spec = tie.close (tie.spec (λ c κs. search needs) (λ c. search needs) returns)

@@ -3,7 +3,7 @@ use mathlib.Core.Path.{subst}
 use mathlib.Core.Bool.{Bool, true, false, not, _&&_, cond}
 use mathlib.Core.Logic.{inl, inr}
 use mathlib.Core.List.{List, [], _∷_, _++_}
-use Prim.Native.Nat.{ℕ, zero, suc, _+_}
+use Prim.Native.Nat.{ℕ, zero, suc}
 use lib.ListN.{set}
 use lib.Dec.{T, leb, eqb}
 use lib.Ieee.{Float, add, sub, lt, neg, binary64, isNan}
@@ -11,7 +11,8 @@ use lib.Ieee.Fits.{and-i, and-l}
 use Rattle.base.specs.Lists.{each, In}
 use Rattle.counts.specs.Move.{Change, balances}
 use Rattle.regions.specs.Region.{Constraint, constraint}
-use Rattle.counts.specs.Search.{partners, others-changed, eps, State, Act, skip, turned-back, entered, keep-reading, record-path, path-is-complete, Go, try-step, visit-by, visit, enter-by, enter, unused, dfs, may-step, two-eps}
+use Rattle.counts.specs.Search.{partners, others-changed, eps, State, Act, skip, turned-back, entered, keep-reading, record-path}
+use Rattle.counts.specs.Search.{path-is-complete, Go, try-step, visit-by, visit, enter-by, enter, unused, dfs, may-step, two-eps}
 use Rattle.base.proofs.BoolLaws.{T-or-not, clash}
 use Rattle.floats.proofs.scalar.Epsilon.{real-of-lt, below-again, far-below, two-eps-below}
 
@@ -68,14 +69,20 @@ unfolding record-path
 keeps-record-path g used path t =
     record {
       fine = λ st h. by-test Fine (lt t (sub binary64 (st .kept) eps) && path-is-complete g used path) (keep-reading t path) skip st
-          (λ b. record { real = real-of-lt t (sub binary64 (st .kept) eps) (and-l (lt t (sub binary64 (st .kept) eps)) (path-is-complete g used path) b) }) (λ b. h);
+          (λ b. record {
+            real = real-of-lt t (sub binary64 (st .kept) eps)
+                (and-l (lt t (sub binary64 (st .kept) eps)) (path-is-complete g used path) b);
+          }) (λ b. h);
       low = λ st h. by-test Low (lt t (sub binary64 (st .kept) eps) && path-is-complete g used path) (keep-reading t path) skip st
-          (λ b. record { low = below-again (st .kept) t (h .low) (and-l (lt t (sub binary64 (st .kept) eps)) (path-is-complete g used path) b) }) (λ b. h);
-      uncut = λ st. by-test (λ st'. T (not (st' .cut)) → T (not (st .cut))) (lt t (sub binary64 (st .kept) eps) && path-is-complete g used path) (keep-reading t path) skip st
+          (λ b. record { low = below-again (st .kept) t (h .low) (and-l (lt t (sub binary64 (st .kept) eps)) (path-is-complete g used path) b) })
+          (λ b. h);
+      uncut = λ st. by-test (λ st'. T (not (st' .cut)) → T (not (st .cut))) (lt t (sub binary64 (st .kept) eps) && path-is-complete g used path)
+          (keep-reading t path) skip st
           (λ b h. h) (λ b h. h);
     }
 
-pub hits-record-path : (g : List Constraint) (used : List Bool) (path : List Change) (t : Float) → T (path-is-complete g used path) → T (lt t (neg two-eps)) → Hits (record-path g used path t)
+pub hits-record-path : (g : List Constraint) (used : List Bool) (path : List Change) (t : Float) → T (path-is-complete g used path)
+    → T (lt t (neg two-eps)) → Hits (record-path g used path t)
 unfolding record-path
 hits-record-path g used path t c h =
     record {
@@ -83,7 +90,8 @@ hits-record-path g used path t c h =
           (λ b. record { low = two-eps-below t h })
           (λ b. elim (T-or-not (lt (st .kept) (neg eps))) [
             | inl y ↦ record { low = y }
-            | inr o ↦ absurd (clash (lt t (sub binary64 (st .kept) eps) && path-is-complete g used path) (and-i (lt t (sub binary64 (st .kept) eps)) (path-is-complete g used path) (far-below (st .kept) t (r .real) o h) c) b)
+            | inr o ↦ absurd (clash (lt t (sub binary64 (st .kept) eps) && path-is-complete g used path)
+                (and-i (lt t (sub binary64 (st .kept) eps)) (path-is-complete g used path) (far-below (st .kept) t (r .real) o h) c) b)
           ]);
     }
 
@@ -91,20 +99,26 @@ abbrev pub KeepsGo : Go → Type 0
 KeepsGo go = (used : List Bool) (path : List Change) (x : ℕ) (s : Bool) (t : Float) → Keeps (go used path x s t)
 
 module _ (g : List Constraint) (edge-cost : ℕ → Bool → Float) (allowed : ℕ → Bool → Bool) (limit : ℕ) (x0 : ℕ) (s0 : Bool) where
-  pub keeps-try-step : (go : Go) → KeepsGo go → (used : List Bool) (path : List Change) (t : Float) (i : ℕ) (z : Change) → Keeps (try-step g edge-cost allowed limit x0 s0 go used path t i z)
+  pub keeps-try-step : (go : Go) → KeepsGo go → (used : List Bool) (path : List Change) (t : Float) (i : ℕ) (z : Change)
+      → Keeps (try-step g edge-cost allowed limit x0 s0 go used path t i z)
   unfolding try-step
-  keeps-try-step go k used path t i z = keeps-cond (may-step g edge-cost allowed limit x0 s0 used path i z) _ skip (k used (path ++ z ∷ []) (z .0) (z .1) (add binary64 t (edge-cost (z .0) (z .1)))) keeps-skip
+  keeps-try-step go k used path t i z = keeps-cond (may-step g edge-cost allowed limit x0 s0 used path i z) _ skip
+      (k used (path ++ z ∷ []) (z .0) (z .1) (add binary64 t (edge-cost (z .0) (z .1)))) keeps-skip
 
-  keeps-visit-by : (go : Go) → KeepsGo go → (used : List Bool) (path : List Change) (x : ℕ) (s : Bool) (t : Float) (i : ℕ) (os : List Change) → Keeps (visit-by g edge-cost allowed limit x0 s0 go used path x s t i os)
+  keeps-visit-by : (go : Go) → KeepsGo go → (used : List Bool) (path : List Change) (x : ℕ) (s : Bool) (t : Float) (i : ℕ) (os : List Change)
+      → Keeps (visit-by g edge-cost allowed limit x0 s0 go used path x s t i os)
   keeps-visit-by go k used path x s t i [] = keeps-each _ (keeps-try-step go k (set used i true) path t i) (partners (constraint g i) x s)
-  keeps-visit-by go k used path x s t i (w ∷ []) = keeps-cond (eqb (w .0) x0 && balances (constraint g i) (x0, s0) (x, s)) _ skip (keeps-record-path g (set used i true) path t) keeps-skip
+  keeps-visit-by go k used path x s t i (w ∷ []) = keeps-cond (eqb (w .0) x0 && balances (constraint g i) (x0, s0) (x, s)) _ skip
+      (keeps-record-path g (set used i true) path t) keeps-skip
   keeps-visit-by go k used path x s t i (w ∷ v ∷ r) = keeps-skip
 
-  pub keeps-visit : (go : Go) → KeepsGo go → (used : List Bool) (path : List Change) (x : ℕ) (s : Bool) (t : Float) (i : ℕ) → Keeps (visit g edge-cost allowed limit x0 s0 go used path x s t i)
+  pub keeps-visit : (go : Go) → KeepsGo go → (used : List Bool) (path : List Change) (x : ℕ) (s : Bool) (t : Float) (i : ℕ)
+      → Keeps (visit g edge-cost allowed limit x0 s0 go used path x s t i)
   unfolding visit
   keeps-visit go k used path x s t i = keeps-visit-by go k used path x s t i (others-changed (constraint g i) x path)
 
-  keeps-enter-by : (go : Go) → KeepsGo go → (used : List Bool) (path : List Change) (x : ℕ) (s : Bool) (t : Float) (is : List ℕ) → Keeps (enter-by g edge-cost allowed limit x0 s0 go used path x s t is)
+  keeps-enter-by : (go : Go) → KeepsGo go → (used : List Bool) (path : List Change) (x : ℕ) (s : Bool) (t : Float) (is : List ℕ)
+      → Keeps (enter-by g edge-cost allowed limit x0 s0 go used path x s t is)
   keeps-enter-by go k used path x s t [] = keeps-record-path g used path t
   keeps-enter-by go k used path x s t (i ∷ is) = keeps-each _ (keeps-visit go k used path x s t) (i ∷ is)
 
@@ -118,14 +132,18 @@ module _ (g : List Constraint) (edge-cost : ℕ → Bool → Float) (allowed : �
 
   pub keeps-enter : (go : Go) → KeepsGo go → KeepsGo (enter g edge-cost allowed limit x0 s0 go)
   unfolding enter
-  keeps-enter go k used path x s t = keeps-then entered _ keeps-entered (keeps-enter-by go k used path x s t (unused g edge-cost allowed limit x0 s0 used x))
+  keeps-enter go k used path x s t = keeps-then entered _ keeps-entered
+      (keeps-enter-by go k used path x s t (unused g edge-cost allowed limit x0 s0 used x))
 
   pub keeps-dfs : (k : ℕ) → KeepsGo (dfs g edge-cost allowed limit x0 s0 k)
   unfolding dfs
   keeps-dfs zero used path x s t = keeps-skip
   keeps-dfs (suc k) used path x s t =
       record {
-        fine = λ st h. by-test Fine (leb limit (st .expansions)) turned-back _ st (λ b. keeps-turned-back .fine st h) (λ b. keeps-enter (dfs g edge-cost allowed limit x0 s0 k) (keeps-dfs k) used path x s t .fine st h);
-        low = λ st h. by-test Low (leb limit (st .expansions)) turned-back _ st (λ b. keeps-turned-back .low st h) (λ b. keeps-enter (dfs g edge-cost allowed limit x0 s0 k) (keeps-dfs k) used path x s t .low st h);
-        uncut = λ st. by-test (λ st'. T (not (st' .cut)) → T (not (st .cut))) (leb limit (st .expansions)) turned-back _ st (λ b h. absurd h) (λ b h. keeps-enter (dfs g edge-cost allowed limit x0 s0 k) (keeps-dfs k) used path x s t .uncut st h);
+        fine = λ st h. by-test Fine (leb limit (st .expansions)) turned-back _ st (λ b. keeps-turned-back .fine st h)
+            (λ b. keeps-enter (dfs g edge-cost allowed limit x0 s0 k) (keeps-dfs k) used path x s t .fine st h);
+        low = λ st h. by-test Low (leb limit (st .expansions)) turned-back _ st (λ b. keeps-turned-back .low st h)
+            (λ b. keeps-enter (dfs g edge-cost allowed limit x0 s0 k) (keeps-dfs k) used path x s t .low st h);
+        uncut = λ st. by-test (λ st'. T (not (st' .cut)) → T (not (st .cut))) (leb limit (st .expansions)) turned-back _ st (λ b h. absurd h)
+            (λ b h. keeps-enter (dfs g edge-cost allowed limit x0 s0 k) (keeps-dfs k) used path x s t .uncut st h);
       }

@@ -1,6 +1,6 @@
--- Packed changes, and what the tables say of an edge's constraints at its two slots. Assumes nothing.
+-- Packed changes, paths copied change by change, and what the tables say of an edge's constraints at its two slots.
 -- `incident-is` lists an edge's constraints in region order. So a constraint that holds the edge stands at one of its two slots, the two differ, and
--- the entry at the other slot is the edge's other constraint, or none.
+-- the entry at the other slot is the edge's other constraint, or none. Assumes nothing.
 use mathlib.Core.Logic.{_≢_, _⊎_, inl, inr}
 use mathlib.Core.Path.{_≡_, refl, sym, ap, subst, _∙_}
 use mathlib.Core.Bool.{Bool, true, false, cond}
@@ -8,7 +8,7 @@ use mathlib.Core.List.{List, [], _∷_, _++_, nil≢cons, head-eq-of-cons-eq, ta
 use Prim.Native.Nat.{ℕ, zero, suc, _+_, _-_, _*_, _/_, _%_, _≤_, _<_}
 use native.Mathlib.Omega.{arith}
 use native.Mathlib.Numerals.{add-one}
-use lib.ListN.{length, getD, take, set}
+use lib.ListN.{length, getD, take, set, length-set}
 use lib.Seq.{take-suc, take-suc-set, getD-take}
 use lib.Dec.{eqb, ltb, T, eqb→eq, lt→ltb}
 use lib.Arith.{le→nltb}
@@ -16,7 +16,9 @@ use lib.Ieee.{Float, nan}
 use Rattle.base.specs.Lists.{In}
 use Rattle.regions.specs.Region.{Constraint, constraint, holds, incidence, incidence-from}
 use Rattle.counts.specs.Move.{Change}
-use Rattle.counts.specs.inner.Tables.{Other, StandsOn, Tables, across, after, all-decoded, alone, before, cost-in, decoded, encoded, no-constraint, path-of, the-graph, max-sides, edge-slots}
+use Rattle.counts.specs.inner.Tables.{Other, Tables, across, after, all-decoded, alone, before, cost-in, decoded, encoded, no-constraint}
+use Rattle.counts.specs.inner.Tables.{path-of, the-graph, edge-slots}
+use Rattle.counts.specs.inner.SearchContract.{OtherSlot, SlotOf}
 use Rattle.regions.specs.Accept.{max-edges}
 use Rattle.base.proofs.BoolLaws.{T-true, clash, not-T-false}
 use Rattle.regions.proofs.region.Constraints.{holds→incidence, incidence-out, incidence→holds}
@@ -67,19 +69,29 @@ across-low s h = ap (λ (b : Bool). cond b (s + 2) (s - 2)) (sym (T-true (ltb (s
 pub across-high : (s : ℕ) → 2 ≤ s % 4 → s - 2 ≡ across s
 across-high s h = ap (λ (b : Bool). cond b (s + 2) (s - 2)) (sym (not-T-false (ltb (s % 4) 2) (λ u. clash (ltb (s % 4) 2) u (le→nltb (s % 4) 2 h))))
 
-pub across-below : (s : ℕ) → s < max-sides → across s < 514
-across-below s h = go (ltb (s % 4) 2)
-  where
-    go : (b : Bool) → cond b (s + 2) (s - 2) < 514
-    go true = omega (arith, h)
-    go false = omega (arith, h)
+-- ---- a path copied change by change
 
-pub stands-same : {regions : List ℕ} {i x s s' : ℕ} → s' ≡ s → StandsOn regions i x s → StandsOn regions i x s'
-stands-same {regions} {i} {x} {s} {s'} e d = subst (λ (k : ℕ). StandsOn regions i x k) (sym e) d
+-- the first i of n changes stand in `to`, which was to₀
+pub record Copied (from to₀ : List ℕ) (n : ℕ) (to : List ℕ) (i : ℕ) : Type 0 where
+  pub below : i ≤ n
+  pub long : length to ≡ length to₀
+  pub same : take i to ≡ take i from
 
-pub copied-next : (from to : List ℕ) (i : ℕ) → i < length to → i < length from → take i to ≡ take i from → take (i + 1) (set to i (getD from i 0)) ≡ take (i + 1) from
-copied-next from to i h h' e =
-    ap (λ (k : ℕ). take k (set to i (getD from i 0))) (add-one i) ∙ take-suc-set to i (getD from i 0) h ∙ ap (λ (l : List ℕ). l ++ getD from i 0 ∷ []) e ∙ sym (take-suc from i 0 h') ∙ ap (λ (k : ℕ). take k from) (sym (add-one i))
+pub copied-next : {from to₀ : List ℕ} {n : ℕ} {to : List ℕ} {i : ℕ} → Copied from to₀ n to i → i < n → n ≤ length from → n ≤ length to₀
+    → Copied from to₀ n (set to i (getD from i 0)) (i + 1)
+copied-next {from} {to₀} {n} {to} {i} c h fits fits' =
+    record {
+      below = omega (arith, h);
+      long = length-set to i (getD from i 0) ∙ c .long;
+      same = ap (λ (k : ℕ). take k (set to i (getD from i 0))) (add-one i) ∙ take-suc-set to i (getD from i 0) (omega (arith, h, fits', c .long))
+          ∙ ap (λ (l : List ℕ). l ++ getD from i 0 ∷ []) (c .same) ∙ sym (take-suc from i 0 (omega (arith, h, fits)))
+          ∙ ap (λ (k : ℕ). take k from) (sym (add-one i));
+    }
+
+pub copied-all : {from to₀ : List ℕ} {n : ℕ} {to : List ℕ} {i : ℕ} → Copied from to₀ n to i → n ≤ i → take n to ≡ take n from
+copied-all {from} {to₀} {n} {to} {i} c h =
+    let q : i ≡ n = omega (arith, h, c .below) in
+    subst (λ (k : ℕ). take k to ≡ take k from) q (c .same)
 
 -- ---- the constraints of an edge, as the tables have them
 
@@ -87,7 +99,8 @@ rising : (k : ℕ) (g : List Constraint) (x a b : ℕ) (r : List ℕ) → incide
 rising k [] x a b r e = absurd (nil≢cons e)
 rising k (c ∷ g) x a b r e = go (holds c x) (rising (suc k) g x a b r) e
   where
-    go : (h : Bool) → (incidence-from (suc k) g x ≡ a ∷ b ∷ r → a < b) → cond h (k ∷ incidence-from (suc k) g x) (incidence-from (suc k) g x) ≡ a ∷ b ∷ r → a < b
+    go : (h : Bool) → (incidence-from (suc k) g x ≡ a ∷ b ∷ r → a < b)
+        → cond h (k ∷ incidence-from (suc k) g x) (incidence-from (suc k) g x) ≡ a ∷ b ∷ r → a < b
     go true f q =
         let m = incidence-out (suc k) g b x (subst (λ (l : List ℕ). In b l) (sym (tail-eq-of-cons-eq q)) (inl refl)) in
         let s = m .1 in
@@ -102,7 +115,8 @@ in-or-none (x ∷ l) (suc k) = elim (in-or-none l k) [ inl i ↦ inl (inr i) | i
 
 module _ (regions incident own : List ℕ) (tables : Tables regions incident own) where
   entry-is : (p : ℕ) → p < edge-slots → getD incident p 0 ≡ getD (incidence (the-graph regions) (p / 2)) (p % 2) no-constraint
-  entry-is p h = ap (λ (k : ℕ). getD incident k 0) (let q : p ≡ p / 2 * 2 + p % 2 = omega arith in q) ∙ tables .incident-is (p / 2) (p % 2) (omega (arith, h)) (omega arith)
+  entry-is p h = ap (λ (k : ℕ). getD incident k 0) (let q : p ≡ p / 2 * 2 + p % 2 = omega arith in q)
+      ∙ tables .incident-is (p / 2) (p % 2) (omega (arith, h)) (omega arith)
 
   pub entry-most : (p : ℕ) → p < edge-slots → getD incident p 0 ≤ no-constraint
   entry-most p h = subst (λ (k : ℕ). k ≤ no-constraint) (sym (entry-is p h)) (go (in-or-none (incidence (the-graph regions) (p / 2)) (p % 2)))
@@ -111,10 +125,15 @@ module _ (regions incident own : List ℕ) (tables : Tables regions incident own
       go {i} (inl m) = let b = tables .numbered i (p / 2) (incidence→holds (the-graph regions) i (p / 2) m) in omega (arith, b)
       go {i} (inr e) = omega (arith, e)
 
-  pub entry-holds : (p : ℕ) → p < edge-slots → getD incident p 0 < no-constraint → T (holds (constraint (the-graph regions) (getD incident p 0)) (p / 2))
-  entry-holds p h l = incidence→holds (the-graph regions) (getD incident p 0) (p / 2) (subst (λ (k : ℕ). In k (incidence (the-graph regions) (p / 2))) (sym (entry-is p h)) (go (in-or-none (incidence (the-graph regions) (p / 2)) (p % 2))))
+  pub entry-holds : (p : ℕ) → p < edge-slots → getD incident p 0 < no-constraint
+      → T (holds (constraint (the-graph regions) (getD incident p 0)) (p / 2))
+  entry-holds p h l = incidence→holds (the-graph regions) (getD incident p 0) (p / 2)
+      (subst (λ (k : ℕ). In k (incidence (the-graph regions) (p / 2))) (sym (entry-is p h))
+      (go (in-or-none (incidence (the-graph regions) (p / 2)) (p % 2))))
     where
-      go : In (getD (incidence (the-graph regions) (p / 2)) (p % 2) no-constraint) (incidence (the-graph regions) (p / 2)) ⊎ (getD (incidence (the-graph regions) (p / 2)) (p % 2) no-constraint ≡ no-constraint) → In (getD (incidence (the-graph regions) (p / 2)) (p % 2) no-constraint) (incidence (the-graph regions) (p / 2))
+      go : In (getD (incidence (the-graph regions) (p / 2)) (p % 2) no-constraint) (incidence (the-graph regions) (p / 2))
+          ⊎ (getD (incidence (the-graph regions) (p / 2)) (p % 2) no-constraint ≡ no-constraint)
+          → In (getD (incidence (the-graph regions) (p / 2)) (p % 2) no-constraint) (incidence (the-graph regions) (p / 2))
       go (inl m) = m
       go (inr e) = let q = entry-is p h in absurd (omega (arith, e, q, l))
 
@@ -142,7 +161,8 @@ module _ (regions incident own : List ℕ) (tables : Tables regions incident own
     pub some-constraint : getD incident (y * 2) 0 ≢ no-constraint → incidence (the-graph regions) y ≢ []
     some-constraint n e = n (first-is ∙ ap (λ (s : List ℕ). getD s 0 no-constraint) e)
 
-    pub one-constraint : getD incident (y * 2) 0 < no-constraint → getD incident (y * 2 + 1) 0 ≡ no-constraint → incidence (the-graph regions) y ≡ getD incident (y * 2) 0 ∷ []
+    pub one-constraint : getD incident (y * 2) 0 < no-constraint → getD incident (y * 2 + 1) 0 ≡ no-constraint
+        → incidence (the-graph regions) y ≡ getD incident (y * 2) 0 ∷ []
     one-constraint p q = go (incidence (the-graph regions) y) refl
       where
         go : (l : List ℕ) → incidence (the-graph regions) y ≡ l → l ≡ getD incident (y * 2) 0 ∷ []
@@ -153,7 +173,8 @@ module _ (regions incident own : List ℕ) (tables : Tables regions incident own
             let f = sym q ∙ second-is ∙ ap (λ (s : List ℕ). getD s 1 no-constraint) e in
             absurd (omega (arith, c, f))
 
-    pub two-constraints : getD incident (y * 2 + 1) 0 < no-constraint → incidence (the-graph regions) y ≡ getD incident (y * 2) 0 ∷ getD incident (y * 2 + 1) 0 ∷ []
+    pub two-constraints : getD incident (y * 2 + 1) 0 < no-constraint
+        → incidence (the-graph regions) y ≡ getD incident (y * 2) 0 ∷ getD incident (y * 2 + 1) 0 ∷ []
     two-constraints p = go (incidence (the-graph regions) y) refl
       where
         go : (l : List ℕ) → incidence (the-graph regions) y ≡ l → l ≡ getD incident (y * 2) 0 ∷ getD incident (y * 2 + 1) 0 ∷ []
@@ -178,14 +199,19 @@ module _ (regions incident own : List ℕ) (tables : Tables regions incident own
 
       go : (l : List ℕ) → incidence (the-graph regions) y ≡ l → In i l → TwoPlaces i y
       go [] e m = absurd m
-      go (a ∷ []) e (inl q) = inl (first-is y low ∙ ap (λ (s : List ℕ). getD s 0 no-constraint) e ∙ sym q, alone (second-is y low ∙ ap (λ (s : List ℕ). getD s 1 no-constraint) e) (e ∙ ap {B = List ℕ} (λ (k : ℕ). k ∷ []) (sym q)))
+      go (a ∷ []) e (inl q) = inl (
+        first-is y low ∙ ap (λ (s : List ℕ). getD s 0 no-constraint) e ∙ sym q,
+        alone (second-is y low ∙ ap (λ (s : List ℕ). getD s 1 no-constraint) e) (e ∙ ap {B = List ℕ} (λ (k : ℕ). k ∷ []) (sym q)),
+      )
       go (a ∷ []) e (inr m) = absurd m
       go (a ∷ b ∷ []) e (inl q) =
           let one = second-is y low ∙ ap (λ (s : List ℕ). getD s 1 no-constraint) e in
           let up = rising 0 (the-graph regions) y a b [] e in
           inl (
             first-is y low ∙ ap (λ (s : List ℕ). getD s 0 no-constraint) e ∙ sym q,
-            subst (λ (k : ℕ). Other (the-graph regions) y i k) (sym one) (after (low-in y low (a ∷ b ∷ []) e b (inr (inl refl))) (λ r. omega (arith, up, q, r)) (e ∙ ap {B = List ℕ} (λ (k : ℕ). k ∷ b ∷ []) (sym q))),
+            subst (λ (k : ℕ). Other (the-graph regions) y i k) (sym one)
+                (after (low-in y low (a ∷ b ∷ []) e b (inr (inl refl))) (λ r. omega (arith, up, q, r))
+                (e ∙ ap {B = List ℕ} (λ (k : ℕ). k ∷ b ∷ []) (sym q))),
           )
       go (a ∷ b ∷ []) e (inr (inl q)) =
           let zeroth = first-is y low ∙ ap (λ (s : List ℕ). getD s 0 no-constraint) e in
@@ -193,7 +219,9 @@ module _ (regions incident own : List ℕ) (tables : Tables regions incident own
           inr (
             second-is y low ∙ ap (λ (s : List ℕ). getD s 1 no-constraint) e ∙ sym q,
             (λ r. omega (arith, up, q, zeroth, r)),
-            subst (λ (k : ℕ). Other (the-graph regions) y i k) (sym zeroth) (before (low-in y low (a ∷ b ∷ []) e a (inl refl)) (λ r. omega (arith, up, q, r)) (e ∙ ap {B = List ℕ} (λ (k : ℕ). a ∷ k ∷ []) (sym q))),
+            subst (λ (k : ℕ). Other (the-graph regions) y i k) (sym zeroth)
+                (before (low-in y low (a ∷ b ∷ []) e a (inl refl)) (λ r. omega (arith, up, q, r))
+                (e ∙ ap {B = List ℕ} (λ (k : ℕ). a ∷ k ∷ []) (sym q))),
           )
       go (a ∷ b ∷ []) e (inr (inr m)) = absurd m
       go (a ∷ b ∷ c ∷ l) e m = let q = tables .thin y in let r = ap length e in absurd (omega (arith, q, r))
@@ -203,47 +231,56 @@ module _ (regions incident own : List ℕ) (tables : Tables regions incident own
 pub other-same : {g : List Constraint} {y i o o' : ℕ} → o' ≡ o → Other g y i o → Other g y i o'
 other-same {g} {y} {i} {o} {o'} e w = subst (λ (k : ℕ). Other g y i k) (sym e) w
 
-pub other-in : (g : List Constraint) (y i o j : ℕ) → Other g y i o → In j (incidence g y) → (j ≡ i) ⊎ (j ≡ o)
-other-in g y i o j (alone e q) m = elim (subst (λ (l : List ℕ). In j l) q m) [ inl a ↦ inl a | inr a ↦ absurd a ]
-other-in g y i o j (after l n q) m = elim (subst (λ (l : List ℕ). In j l) q m) [ inl a ↦ inl a | inr (inl a) ↦ inr a | inr (inr a) ↦ absurd a ]
-other-in g y i o j (before l n q) m = elim (subst (λ (l : List ℕ). In j l) q m) [ inl a ↦ inr a | inr (inl a) ↦ inl a | inr (inr a) ↦ absurd a ]
+pub other-in : {g : List Constraint} {y i o j : ℕ} → Other g y i o → In j (incidence g y) → (j ≡ i) ⊎ (j ≡ o)
+other-in (alone e q) m = elim (rw q at m) [ inl a ↦ inl a | inr a ↦ absurd a ]
+other-in (after l n q) m = elim (rw q at m) [ inl a ↦ inl a | inr (inl a) ↦ inr a | inr (inr a) ↦ absurd a ]
+other-in (before l n q) m = elim (rw q at m) [ inl a ↦ inr a | inr (inl a) ↦ inl a | inr (inr a) ↦ absurd a ]
 
-pub other-held : (g : List Constraint) (y i o : ℕ) → Other g y i o → o ≢ no-constraint → T (holds (constraint g o) y)
-other-held g y i o (alone e q) n = absurd (n e)
-other-held g y i o (after l d q) n = incidence→holds g o y (subst (λ (l : List ℕ). In o l) (sym q) (inr (inl refl)))
-other-held g y i o (before l d q) n = incidence→holds g o y (subst (λ (l : List ℕ). In o l) (sym q) (inl refl))
+pub other-held : {g : List Constraint} {y i o : ℕ} → Other g y i o → o ≢ no-constraint → T (holds (constraint g o) y)
+other-held (alone e q) n = absurd (n e)
+other-held {g} {y} {i} {o} (after l d q) n = incidence→holds g o y (rw q (inr (inl refl)))
+other-held {g} {y} {i} {o} (before l d q) n = incidence→holds g o y (rw q (inl refl))
 
-pub other-differs : (g : List Constraint) (y i o : ℕ) → Other g y i o → i < no-constraint → i ≢ o
-other-differs g y i o (alone e q) l = λ r. omega (arith, e, l, r)
-other-differs g y i o (after h n q) l = λ r. n (sym r)
-other-differs g y i o (before h n q) l = λ r. n (sym r)
+pub other-differs : {g : List Constraint} {y i o : ℕ} → Other g y i o → i < no-constraint → i ≢ o
+other-differs (alone e q) l = λ r. omega (arith, e, l, r)
+other-differs (after h n q) l = λ r. n (sym r)
+other-differs (before h n q) l = λ r. n (sym r)
 
 -- ---- the slot of a constraint, and of the other one
 
-module _ (regions incident own : List ℕ) (y i : ℕ) (tables : Tables regions incident own) (h : T (holds (constraint (the-graph regions) i) y)) where
-  low : y < max-edges
-  low = tables .few i y h
+pub other-most : {g : List Constraint} {y i o : ℕ} → Other g y i o → o ≤ no-constraint
+other-most (alone e q) = omega (arith, e)
+other-most (after l n q) = omega (arith, l)
+other-most (before l n q) = omega (arith, l)
 
-  abbrev IsOther : ℕ → Type 0
-  IsOther p = (p < edge-slots) × (p / 2 ≡ y) × (getD incident p 0 ≤ no-constraint) × Other (the-graph regions) y i (getD incident p 0)
+pub other-real : {g : List Constraint} {y i o : ℕ} → Other g y i o → o ≢ no-constraint → o < no-constraint
+other-real w n = let m = other-most w in omega (arith, m, n)
 
-  abbrev IsPlace : ℕ → Type 0
-  IsPlace p = (p < edge-slots) × (p / 2 ≡ y) × (getD incident p 0 ≡ i)
-
-  pub other-second : getD incident (y * 2) 0 ≡ i → IsOther (y * 2 + 1)
+-- by whether the constraint stands at the edge's first slot
+module _ {incident : List ℕ} {x i : ℕ} (low : x < max-edges) where
+  pub other-second : getD incident (x * 2) 0 ≡ i → OtherSlot incident x i (x * 2 + 1)
   other-second e =
-      let b = low in
-      (omega (arith, b), omega arith, entry-most regions incident own tables (y * 2 + 1) (omega (arith, b)), elim (two-slots regions incident own tables i y h) [ inl w ↦ w .1 | inr w ↦ absurd (w .1 e) ])
+      record {
+        below = omega arith;
+        of-edge = omega arith;
+        other-is = λ tables held. elim (two-slots _ incident _ tables i x held) [ inl w ↦ w .1 | inr w ↦ absurd (w .1 e) ];
+      }
 
-  pub other-first : getD incident (y * 2) 0 ≢ i → IsOther (y * 2)
+  pub other-first : getD incident (x * 2) 0 ≢ i → OtherSlot incident x i (x * 2)
   other-first n =
-      let b = low in
-      (omega (arith, b), omega arith, entry-most regions incident own tables (y * 2) (omega (arith, b)), elim (two-slots regions incident own tables i y h) [ inl w ↦ absurd (n (w .0)) | inr w ↦ w .2 ])
+      record {
+        below = omega arith;
+        of-edge = omega arith;
+        other-is = λ tables held. elim (two-slots _ incident _ tables i x held) [ inl w ↦ absurd (n (w .0)) | inr w ↦ w .2 ];
+      }
 
-  pub slot-first : getD incident (y * 2) 0 ≡ i → IsPlace (y * 2)
-  slot-first e = let b = low in (omega (arith, b), omega arith, e)
+  pub slot-first : getD incident (x * 2) 0 ≡ i → SlotOf incident x i (x * 2)
+  slot-first e = record { below = omega arith; of-edge = omega arith; entry-is = λ tables held. e }
 
-  pub slot-second : getD incident (y * 2) 0 ≢ i → IsPlace (y * 2 + 1)
+  pub slot-second : getD incident (x * 2) 0 ≢ i → SlotOf incident x i (x * 2 + 1)
   slot-second n =
-      let b = low in
-      (omega (arith, b), omega arith, elim (two-slots regions incident own tables i y h) [ inl w ↦ absurd (n (w .0)) | inr w ↦ w .0 ])
+      record {
+        below = omega arith;
+        of-edge = omega arith;
+        entry-is = λ tables held. elim (two-slots _ incident _ tables i x held) [ inl w ↦ absurd (n (w .0)) | inr w ↦ w .0 ];
+      }

@@ -1,20 +1,24 @@
 -- The two sides of a constraint, read from the records at an edge's slot: where they stand, which edges they have, and with which signs a step
--- could follow. Assumes nothing.
+-- could follow. The idea: the code walks along two stretches of the records one after the other. Each of these is what the record says of one side
+-- (`sides-read`), so place j of the walk is place j of the two lists in a row (`edge-opposite`, `edge-own`), with a sign by the list that it is in.
+-- That the lists are the sides of the constraint at the slot is what `Tables` says of the edge's own side, and comes in last. Assumes nothing.
 use mathlib.Core.Logic.{inl, inr}
 use mathlib.Core.Path.{_≡_, refl, sym, ap, subst, _∙_}
-use mathlib.Core.Bool.{Bool, true, false, not, _||_, cond}
+use mathlib.Core.Bool.{Bool, true, false, not, _&&_, _||_, cond}
 use mathlib.Core.List.{List, [], _∷_, _++_}
 use Prim.Native.Nat.{ℕ, zero, suc, _+_, _-_, _*_, _/_, _%_, _≤_, _<_}
 use native.Mathlib.Omega.{arith}
 use lib.ListN.{length, getD, take, drop, length-drop, length-append}
 use lib.Seq.{getD-take, getD-drop, getD-append-add, length-take-le}
 use lib.Dec.{eqb, T}
-use Rattle.base.specs.Lists.{In, member}
+use Rattle.base.specs.Lists.{In, differs, member}
 use Rattle.regions.specs.Region.{Constraint, constraint, holds, opposite-side, own-side, places, side-size}
-use Rattle.counts.specs.Move.{Change}
-use Rattle.counts.specs.Search.{signed}
-use Rattle.counts.specs.inner.Tables.{StandsOn, Tables, across, decoded, edges-on, the-graph, changes}
-use Rattle.counts.specs.inner.SearchContract.{SidesAt, both-sides, both-signed}
+use Rattle.counts.specs.Move.{Change, select}
+use Rattle.counts.specs.Search.{others-changed, signed}
+use Rattle.counts.specs.inner.Tables.{StandsOn, Tables, across, decoded, edges-on, the-graph, edge-slots, no-constraint}
+use Rattle.counts.specs.inner.SearchContract.{SidesInside, MayReadSides, SidesRead, both-in, both-sides, both-signed, changed-among, opposite-in}
+use Rattle.counts.specs.inner.SearchContract.{own-in, signed-in}
+use Rattle.counts.specs.declared.search.Sides.{Sides}
 use Rattle.base.proofs.BoolLaws.{T-true, true-T}
 use Rattle.base.proofs.ListLaws.{in→member}
 
@@ -43,51 +47,57 @@ holds-both c x e = go (member x (c .a)) ∙ sym (member-append e (opposite-side 
 
 -- ---- where the two sides stand
 
-length-edges-on : (regions : List ℕ) (s : ℕ) → s * side-size places + side-size places ≤ length regions → getD regions (s * side-size places) 0 ≤ places → length (edges-on regions s) ≡ getD regions (s * side-size places) 0
-length-edges-on regions s h k = length-take-le (getD regions (s * side-size places) 0) (drop (s * side-size places + 1) regions) (let q = length-drop (s * side-size places + 1) regions in omega (arith, q, h, k))
+-- what `sides_of` asks is there for an edge at its slot
+pub may-read : {regions : List ℕ} {i x s : ℕ} → StandsOn regions i x s → MayReadSides regions s
+may-read d = record {
+  below = d .below;
+  own-fits = d .own-fits;
+  opposite-fits = d .opposite-fits;
+  own-few = d .own-few;
+  opposite-few = d .opposite-few;
+}
 
-pub sides-at : (regions : List ℕ) (i x s s' a b : ℕ) → StandsOn regions i x s → s' ≡ across s → a ≡ getD regions (s' * side-size places) 0 → b ≡ getD regions (s * side-size places) 0 → SidesAt regions i x (s' * side-size places + 1) a (s * side-size places + 1) (a + b)
-sides-at regions i x s s' a b d e p q =
+pub may-read-same : {regions : List ℕ} {s s' : ℕ} → s' ≡ s → MayReadSides regions s → MayReadSides regions s'
+may-read-same {regions} e m = subst (MayReadSides regions) (sym e) m
+
+-- what it reads: h is side s, h' the one across it, and a and b are the numbers of their edges
+pub sides-read : {regions : List ℕ} {s h h' a b : ℕ} → MayReadSides regions s → h ≡ s → h' ≡ across h → a ≡ getD regions (h' * side-size places) 0
+    → b ≡ getD regions (h * side-size places) 0
+    → SidesRead regions s (record { opposite = h' * side-size places + 1; split = a; own = h * side-size places + 1; total = a + b })
+sides-read {regions} {s} {h} {h'} {a} {b} m q e p r =
     record {
-      opposite-is = d .opposite-is ∙ ap (edges-on regions) (sym e) ∙ ap (λ (k : ℕ). take k (drop (s' * side-size places + 1) regions)) (sym p);
-      own-is = d .own-is ∙ ap (λ (k : ℕ). take k (drop (s * side-size places + 1) regions)) (sym q ∙ (let r : b ≡ a + b - a = omega arith in r));
-      opposite-fits = (let r = fits' in let k = few' in omega (arith, r, k, p));
-      own-fits = (let r = d .own-fits in let k = d .own-few in omega (arith, r, k, q));
-      in-order = omega arith;
-      few = (let k = few' in let l = d .own-few in omega (arith, k, l, p, q));
-      count = ap (λ (n : ℕ). n + b) p ∙ ap (λ (n : ℕ). getD regions (s' * side-size places) 0 + n) q ∙ sym (ap (λ (n : ℕ). n + length (own-side (constraint (the-graph regions) i) x)) (ap length (d .opposite-is) ∙ ap (λ (k : ℕ). length (edges-on regions k)) (sym e) ∙ length-edges-on regions s' fits' few')
-          ∙ ap (λ (n : ℕ). getD regions (s' * side-size places) 0 + n) (ap length (d .own-is) ∙ length-edges-on regions s (d .own-fits) (d .own-few)));
+      opposite-is = ap (λ (k : ℕ). take k (drop (h' * side-size places + 1) regions)) p ∙ ap (edges-on regions) e';
+      own-is = ap (λ (k : ℕ). take k (drop (h * side-size places + 1) regions)) ((let d : a + b - a ≡ b = omega arith in d) ∙ r)
+          ∙ ap (edges-on regions) q;
+      inside = record {
+        opposite-fits = omega (arith, fits', few');
+        own-fits = omega (arith, fits, few);
+        in-order = omega arith;
+        few = omega (arith, few', few);
+      };
     }
   where
-    fits' : s' * side-size places + side-size places ≤ length regions
-    fits' = subst (λ (k : ℕ). k * side-size places + side-size places ≤ length regions) (sym e) (d .opposite-fits)
+    e' : h' ≡ across s
+    e' = e ∙ ap across q
 
-    few' : getD regions (s' * side-size places) 0 ≤ places
-    few' = subst (λ (k : ℕ). getD regions (k * side-size places) 0 ≤ places) (sym e) (d .opposite-few)
+    fits' : h' * side-size places + side-size places ≤ length regions
+    fits' = rw e' (m .opposite-fits)
 
-opposite-long : (regions : List ℕ) (i x a b b' total : ℕ) → SidesAt regions i x a b b' total → length (opposite-side (constraint (the-graph regions) i) x) ≡ b
-opposite-long regions i x a b b' total l = ap length (l .opposite-is) ∙ length-take-le b (drop a regions) (let q = length-drop a regions in let r = l .opposite-fits in omega (arith, q, r))
+    fits : h * side-size places + side-size places ≤ length regions
+    fits = rw q (m .own-fits)
 
-pub length-both-sides : (regions : List ℕ) (i x a b b' total : ℕ) → SidesAt regions i x a b b' total → length (both-sides (constraint (the-graph regions) i) x) ≡ total
-length-both-sides regions i x a b b' total l = length-append (opposite-side (constraint (the-graph regions) i) x) (own-side (constraint (the-graph regions) i) x) ∙ sym (l .count)
+    few' : a ≤ places
+    few' = rw (p, e') (m .opposite-few)
 
--- ---- the edge at j of the two sides
+    few : b ≤ places
+    few = rw (r, q) (m .own-few)
+
+-- ---- the edge and the change at j of the two sides
 
 getD-left : {A : Type 0} (a b : List A) (j : ℕ) (d : A) → j < length a → getD (a ++ b) j d ≡ getD a j d
 getD-left [] b j d h = absurd (omega (arith, h))
 getD-left (x ∷ a) b zero d h = refl
 getD-left (x ∷ a) b (suc j) d h = getD-left a b j d (omega (arith, h))
-
-pub edge-opposite : (regions : List ℕ) (i x a b b' total j y : ℕ) → SidesAt regions i x a b b' total → j < b → y ≡ getD regions (a + j) 0 → y ≡ getD (both-sides (constraint (the-graph regions) i) x) j 0
-edge-opposite regions i x a b b' total j y l h e =
-    e ∙ sym (getD-drop a regions j 0) ∙ sym (getD-take b (drop a regions) j 0 h) ∙ ap (λ (k : List ℕ). getD k j 0) (sym (l .opposite-is)) ∙ sym (getD-left (opposite-side (constraint (the-graph regions) i) x) (own-side (constraint (the-graph regions) i) x) j 0 (let q = opposite-long regions i x a b b' total l in omega (arith, q, h)))
-
-pub edge-own : (regions : List ℕ) (i x a b b' total j y : ℕ) → SidesAt regions i x a b b' total → b ≤ j → j < total → y ≡ getD regions (b' + (j - b)) 0 → y ≡ getD (both-sides (constraint (the-graph regions) i) x) j 0
-edge-own regions i x a b b' total j y l h h' e =
-    e ∙ sym (getD-drop b' regions (j - b) 0) ∙ sym (getD-take (total - b) (drop b' regions) (j - b) 0 (omega (arith, h, h'))) ∙ ap (λ (k : List ℕ). getD k (j - b) 0) (sym (l .own-is))
-    ∙ sym (getD-append-add (opposite-side (constraint (the-graph regions) i) x) (own-side (constraint (the-graph regions) i) x) (j - b) 0) ∙ ap (λ (k : ℕ). getD (both-sides (constraint (the-graph regions) i) x) k 0) (let q = opposite-long regions i x a b b' total l in omega (arith, q, h))
-
--- ---- the change at j of the two sides
 
 signed-at : (s : Bool) (l : List ℕ) (j : ℕ) (d : Change) → j < length l → getD (signed s l) j d ≡ (getD l j 0, s)
 signed-at s [] j d h = absurd (omega (arith, h))
@@ -99,18 +109,20 @@ signed-left s s' [] m j d h = absurd (omega (arith, h))
 signed-left s s' (y ∷ l) m zero d h = refl
 signed-left s s' (y ∷ l) m (suc j) d h = signed-left s s' l m j d (omega (arith, h))
 
-signed-right : (s s' : Bool) (l m : List ℕ) (j : ℕ) (d : Change) → length l ≤ j → j < length l + length m → getD (signed s l ++ signed s' m) j d ≡ (getD (l ++ m) j 0, s')
+signed-right : (s s' : Bool) (l m : List ℕ) (j : ℕ) (d : Change) → length l ≤ j → j < length l + length m
+    → getD (signed s l ++ signed s' m) j d ≡ (getD (l ++ m) j 0, s')
 signed-right s s' [] m j d h h' = signed-at s' m j d (omega (arith, h'))
 signed-right s s' (y ∷ l) m zero d h h' = absurd (omega (arith, h))
 signed-right s s' (y ∷ l) m (suc j) d h h' = signed-right s s' l m j d (omega (arith, h)) (omega (arith, h'))
 
-pub in-getD : (l : List ℕ) (j : ℕ) → j < length l → In (getD l j 0) l
-in-getD [] j h = absurd (omega (arith, h))
-in-getD (x ∷ l) zero h = inl refl
-in-getD (x ∷ l) (suc j) h = inr (in-getD l j (omega (arith, h)))
+length-signed : (s : Bool) (l : List ℕ) → length (signed s l) ≡ length l
+length-signed s [] = refl
+length-signed s (y ∷ l) = ap suc (length-signed s l)
 
 decoded-of : (y r : ℕ) → r < 2 → decoded (y * 2 + r) ≡ (y, eqb r 1)
-decoded-of y r h = ap (λ (k : ℕ). (k, eqb ((y * 2 + r) % 2) 1)) (let q : (y * 2 + r) / 2 ≡ y = omega (arith, h) in q) ∙ ap (λ (k : ℕ). (y, eqb k 1)) (let q : (y * 2 + r) % 2 ≡ r = omega (arith, h) in q)
+decoded-of y r h =
+    ap (λ (k : ℕ). (k, eqb ((y * 2 + r) % 2) 1)) (let q : (y * 2 + r) / 2 ≡ y = omega (arith, h) in q)
+    ∙ ap (λ (k : ℕ). (y, eqb k 1)) (let q : (y * 2 + r) % 2 ≡ r = omega (arith, h) in q)
 
 turned-sign : (c : ℕ) → eqb (1 - c % 2) 1 ≡ not (eqb (c % 2) 1)
 turned-sign c = go (c % 2) (let q : c % 2 < 2 = omega arith in q)
@@ -120,32 +132,106 @@ turned-sign c = go (c % 2) (let q : c % 2 < 2 = omega arith in q)
     go (suc zero) q = refl
     go (suc (suc k)) q = absurd (omega (arith, q))
 
-module _ (regions incident own : List ℕ) (i x a b b' total c j y : ℕ) (tables : Tables regions incident own) (l : SidesAt regions i x a b b' total) where
-  abbrev k : Constraint
-  k = constraint (the-graph regions) i
+module _ {regions : List ℕ} {r : Sides} (inside : SidesInside regions r) where
+  opposite-long : length (opposite-in regions r) ≡ r .split
+  opposite-long = length-take-le (r .split) (drop (r .opposite) regions) (omega (arith, length-drop (r .opposite) regions))
 
-  abbrev Partner : ℕ → Type 0
-  Partner r = (r < changes) × T (holds k (r / 2)) × (decoded r ≡ getD (both-signed k x (eqb (c % 2) 1)) j (decoded 0))
+  own-long : length (own-in regions r) ≡ r .total - r .split
+  own-long = length-take-le (r .total - r .split) (drop (r .own) regions) (omega (arith, length-drop (r .own) regions))
 
-  partner : (r : ℕ) → r < 2 → j < total → y ≡ getD (both-sides k x) j 0 → (y, eqb r 1) ≡ getD (both-signed k x (eqb (c % 2) 1)) j (decoded 0) → Partner (y * 2 + r)
-  partner r h h' e q =
-      let there : T (holds k y) = true-T (holds k y) (holds-both k x y ∙ T-true (member y (both-sides k x)) (in→member y (both-sides k x) (subst (λ (z : ℕ). In z (both-sides k x)) (sym e) (in-getD (both-sides k x) j (let n = length-both-sides regions i x a b b' total l in omega (arith, n, h')))))) in
-      let low = tables .few i y there in
-      (omega (arith, low, h), subst (λ (z : ℕ). T (holds k z)) (let z : y ≡ (y * 2 + r) / 2 = omega (arith, h) in z) there, decoded-of y r h ∙ q)
+  pub length-both-in : length (both-in regions r) ≡ r .total
+  length-both-in = length-append (opposite-in regions r) (own-in regions r) ∙ omega (arith, opposite-long, own-long)
 
-  pub partner-opposite : j < b → y ≡ getD regions (a + j) 0 → Partner (y * 2 + c % 2)
-  partner-opposite h e =
-      let q = edge-opposite regions i x a b b' total j y l h e in
-      let n = opposite-long regions i x a b b' total l in
-      let o = l .in-order in
-      partner (c % 2) (omega arith) (omega (arith, h, o)) q
-      (ap (λ (z : ℕ). (z, eqb (c % 2) 1)) q ∙ sym (signed-left (eqb (c % 2) 1) (not (eqb (c % 2) 1)) (opposite-side k x) (own-side k x) j (decoded 0) (omega (arith, n, h))))
+  pub length-signed-in : (s : Bool) → length (signed-in regions r s) ≡ r .total
+  length-signed-in s =
+      length-append (signed s (opposite-in regions r)) (signed (not s) (own-in regions r))
+      ∙ omega (arith, length-signed s (opposite-in regions r), length-signed (not s) (own-in regions r), opposite-long, own-long)
 
-  pub partner-own : b ≤ j → j < total → y ≡ getD regions (b' + (j - b)) 0 → Partner (y * 2 + (1 - c % 2))
-  partner-own h h' e =
-      let q = edge-own regions i x a b b' total j y l h h' e in
-      let n = opposite-long regions i x a b b' total l in
-      let m = l .count in
-      partner (1 - c % 2) (omega arith) h' q
-      (ap (λ (z : Bool). (y, z)) (turned-sign c) ∙ ap (λ (z : ℕ). (z, not (eqb (c % 2) 1))) q
-      ∙ sym (signed-right (eqb (c % 2) 1) (not (eqb (c % 2) 1)) (opposite-side k x) (own-side k x) j (decoded 0) (omega (arith, n, h)) (omega (arith, m, h'))))
+  module _ {j y : ℕ} where
+    pub edge-opposite : j < r .split → y ≡ getD regions (r .opposite + j) 0 → y ≡ getD (both-in regions r) j 0
+    edge-opposite h e =
+        e ∙ sym (getD-drop (r .opposite) regions j 0) ∙ sym (getD-take (r .split) (drop (r .opposite) regions) j 0 h)
+        ∙ sym (getD-left (opposite-in regions r) (own-in regions r) j 0 (omega (arith, opposite-long, h)))
+
+    pub edge-own : r .split ≤ j → j < r .total → y ≡ getD regions (r .own + (j - r .split)) 0 → y ≡ getD (both-in regions r) j 0
+    edge-own h h' e =
+        e ∙ sym (getD-drop (r .own) regions (j - r .split) 0)
+        ∙ sym (getD-take (r .total - r .split) (drop (r .own) regions) (j - r .split) 0 (omega (arith, h, h')))
+        ∙ sym (getD-append-add (opposite-in regions r) (own-in regions r) (j - r .split) 0)
+        ∙ ap (λ (k : ℕ). getD (both-in regions r) k 0) (omega (arith, opposite-long, h))
+
+    module _ (c : ℕ) where
+      pub partner-opposite : j < r .split → y ≡ getD regions (r .opposite + j) 0
+          → decoded (y * 2 + c % 2) ≡ getD (signed-in regions r (eqb (c % 2) 1)) j (decoded 0)
+      partner-opposite h e =
+          decoded-of y (c % 2) (omega arith) ∙ ap (λ (z : ℕ). (z, eqb (c % 2) 1)) (edge-opposite h e)
+          ∙ sym (signed-left (eqb (c % 2) 1) (not (eqb (c % 2) 1)) (opposite-in regions r) (own-in regions r) j (decoded 0)
+          (omega (arith, opposite-long, h)))
+
+      pub partner-own : r .split ≤ j → j < r .total → y ≡ getD regions (r .own + (j - r .split)) 0
+          → decoded (y * 2 + (1 - c % 2)) ≡ getD (signed-in regions r (eqb (c % 2) 1)) j (decoded 0)
+      partner-own h h' e =
+          decoded-of y (1 - c % 2) (omega arith) ∙ ap (λ (z : Bool). (y, z)) (turned-sign c)
+          ∙ ap (λ (z : ℕ). (z, not (eqb (c % 2) 1))) (edge-own h h' e)
+          ∙ sym (signed-right (eqb (c % 2) 1) (not (eqb (c % 2) 1)) (opposite-in regions r) (own-in regions r) j (decoded 0)
+          (omega (arith, opposite-long, h)) (omega (arith, opposite-long, own-long, h, h')))
+
+-- ---- the same, as the constraint at the slot has them
+
+pub in-getD : (l : List ℕ) (j : ℕ) → j < length l → In (getD l j 0) l
+in-getD [] j h = absurd (omega (arith, h))
+in-getD (x ∷ l) zero h = inl refl
+in-getD (x ∷ l) (suc j) h = inr (in-getD l j (omega (arith, h)))
+
+signed-edge : (s s' : Bool) (l m : List ℕ) (j : ℕ) → getD (signed s l ++ signed s' m) j (decoded 0) .0 ≡ getD (l ++ m) j 0
+signed-edge s s' [] [] j = refl
+signed-edge s s' [] (y ∷ m) zero = refl
+signed-edge s s' [] (y ∷ m) (suc j) = signed-edge s s' [] m j
+signed-edge s s' (y ∷ l) m zero = refl
+signed-edge s s' (y ∷ l) m (suc j) = signed-edge s s' l m j
+
+-- two tests that agree select the same
+select-alike : (p q : ℕ → Bool) → ((e : ℕ) → p e ≡ q e) → (l : List Change) → select p l ≡ select q l
+select-alike p q h [] = refl
+select-alike p q h (z ∷ l) = ap (λ (b : Bool). cond b (z ∷ select p l) (select p l)) (h (z .0))
+    ∙ ap (λ (k : List Change). cond (q (z .0)) (z ∷ k) k) (select-alike p q h l)
+
+module _ {regions incident own : List ℕ} (tables : Tables regions incident own) {p : ℕ} (small : p < edge-slots)
+    (real : getD incident p 0 < no-constraint) where
+  abbrev there : Constraint
+  there = constraint (the-graph regions) (getD incident p 0)
+
+  abbrev stands : StandsOn regions (getD incident p 0) (p / 2) (getD own p 0)
+  stands = tables .stands p small real
+
+  -- a scan for the edges of both sides is one for those that the constraint holds
+  pub scanned-there : (l : List Change) → changed-among (edges-on regions (across (getD own p 0)) ++ edges-on regions (getD own p 0)) (p / 2) l
+      ≡ others-changed there (p / 2) l
+  scanned-there l = rw (← stands .opposite-is, ← stands .own-is)
+      (select-alike _ _ (λ e. ap (λ (b : Bool). differs (p / 2) e && b) (sym (holds-both there (p / 2) e))) l)
+
+  module _ {r : Sides} (read : SidesRead regions (getD own p 0) r) where
+    opposite-there : opposite-in regions r ≡ opposite-side there (p / 2)
+    opposite-there = read .opposite-is ∙ sym (stands .opposite-is)
+
+    own-there : own-in regions r ≡ own-side there (p / 2)
+    own-there = read .own-is ∙ sym (stands .own-is)
+
+    pub signed-there : (s : Bool) → signed-in regions r s ≡ both-signed there (p / 2) s
+    signed-there s = ap (λ (l : List ℕ). signed s l ++ signed (not s) (own-in regions r)) opposite-there
+        ∙ ap (λ (l : List ℕ). signed s (opposite-side there (p / 2)) ++ signed (not s) l) own-there
+
+    -- the constraint holds each partner's edge
+    pub partner-there : (d j : ℕ) (s : Bool) → j < r .total → decoded d ≡ getD (signed-in regions r s) j (decoded 0) → T (holds there (d / 2))
+    partner-there d j s h e =
+        true-T (holds there (d / 2)) (holds-both there (p / 2) (d / 2)
+        ∙ T-true (member (d / 2) (both-sides there (p / 2)))
+        (in→member (d / 2) (both-sides there (p / 2)) (subst (λ (l : List ℕ). In (d / 2) l) same within)))
+      where
+        same : both-in regions r ≡ both-sides there (p / 2)
+        same = ap (λ (l : List ℕ). l ++ own-in regions r) opposite-there ∙ ap (λ (l : List ℕ). opposite-side there (p / 2) ++ l) own-there
+
+        within : In (d / 2) (both-in regions r)
+        within = subst (λ (k : ℕ). In k (both-in regions r))
+            (sym (ap (λ (w : Change). w .0) e ∙ signed-edge s (not s) (opposite-in regions r) (own-in regions r) j))
+            (in-getD (both-in regions r) j (omega (arith, length-both-in (read .inside), h)))

@@ -4,7 +4,7 @@ use mathlib.Core.Path.{_≡_, refl, ap}
 use mathlib.Core.Bool.{Bool, true, false, not}
 use mathlib.Core.List.{List, [], _∷_}
 use Prim.Native.Nat.{ℕ, zero, suc}
-use lib.ListN.{set}
+use lib.ListN.{set, replicate}
 use lib.Dec.{T}
 use Rattle.counts.specs.Search.{is-used, free}
 
@@ -33,4 +33,8 @@ free-set [] i t = absurd t
 free-set (true ∷ bs) zero t = absurd t
 free-set (false ∷ bs) zero t = refl
 free-set (true ∷ bs) (suc i) t = free-set bs i t
-free-set (false ∷ bs) (suc i) t = ap suc (free-set bs i t)
+free-set (false ∷ bs) (suc i) t = rw (free-set bs i t)
+
+pub free-replicate : (n : ℕ) → free (replicate n false) ≡ n
+free-replicate zero = refl
+free-replicate (suc n) = rw (free-replicate n)

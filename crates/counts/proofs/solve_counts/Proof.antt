@@ -5,14 +5,8 @@ use Rattle.counts.proofs.EqualEnds.{solve-same}
 use Rattle.counts.proofs.solve_counts.Statement.{statement}
 use Rattle.counts.proofs.solve_counts.Tie as tie
 
-solve-counts-within-requires : tie.Need-solve-counts-within-requires
-solve-counts-within-requires c κs = search needs
-
-same-length : tie.Need-same-length
-same-length c = search needs
-
 returns : tie.Need-returns
 returns c = c .before .before .solve-counts-within .ensures ∙ solve-same _ _ _ _
 
 pub solve-counts-spec : {M : Type 1} → statement M
-solve-counts-spec = tie.close (tie.spec solve-counts-within-requires same-length returns)
+solve-counts-spec = tie.close (tie.spec (λ c κs. search needs) (λ c. search needs) returns)

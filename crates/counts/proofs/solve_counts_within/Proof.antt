@@ -1,93 +1,89 @@
 -- `counts::solve_counts_within` meets its contract, by the outcome of its tests. Assumes nothing.
-use mathlib.Core.Path.{refl, ap, _∙_}
+use mathlib.Core.Path.{refl, sym}
+use native.Mathlib.Omega.{arith}
+use lib.Seq.{length-take-le}
 use borrow.Author.Needs.{needs}
-use Rattle.counts.specs.Cost.{within}
-use Rattle.counts.specs.Solver.{solve}
-use Rattle.counts.proofs.Entry.{solve-refused-early, solve-refused-late, solve-done, solve-tables, solve-room, solve-regions, built-tables, part-ready}
+use Rattle.counts.specs.Cost.{Spacing, within}
+use Rattle.counts.specs.Solver.{expansions}
+use Rattle.base.proofs.TestLaws.{was-passed}
+use Rattle.counts.proofs.Entry.{SolveEarly, solve-refused-early, solve-refused-late, solve-done, solve-tables, solve-room, solve-ready}
 use Rattle.counts.proofs.solve_counts_within.Statement.{statement}
 use Rattle.counts.proofs.solve_counts_within.Tie as tie
 
+-- The places that needs look back to, and the ways from one to an earlier one; `search` goes by the types.
+abbrev told-before-told2 : tie.After-enum-told2 → tie.After-enum-told
+told-before-told2 told2 = search
+
+abbrev built-before-told2 : tie.After-enum-told2 → tie.After-build-graph
+built-before-told2 told2 = told2 .before .before
+
+abbrev limit-before-told : tie.After-enum-told → tie.After-expansions
+limit-before-told told = search
+
+abbrev entry-before-limit : tie.After-expansions → tie.Start
+entry-before-limit at-limit = search
+
+abbrev ranges-of : tie.Start → Spacing
+ranges-of entry = within (entry .args .least .now) (entry .args .most .now)
+
+-- the tests up to 6 have passed
+early : (told : tie.After-enum-told)
+    → let at-limit = limit-before-told told in
+    let entry = entry-before-limit at-limit in
+    let s = entry .args in
+    SolveEarly (s .regions .now) (ranges-of entry) (s .counts .now) (at-limit .expansions .result) (expansions (s .limit))
+early told =
+    record {
+      passes = was-passed (told .enum-told .given .1) (told .before .before .check-solve .ensures);
+      limit-is = limit-before-told told .expansions .ensures;
+    }
+
 returns : tie.Need-returns
 returns c =
-    let s = c .before .before .before .before .before .before .before .before .before .args in
-    let ranges = within (s .least .now) (s .most .now) in
-    let limit = c .before .before .before .before .expansions .result in
-    solve-refused-early (s .regions .now) ranges (s .counts .now) limit (c .before .r .given .1) (c .before .before .before .check-solve .ensures)
-    ∙ ap (solve (s .regions .now) ranges (s .counts .now)) (c .before .before .before .before .expansions .ensures)
+    let at-limit : tie.After-expansions = search in
+    let entry = entry-before-limit at-limit in
+    let s = entry .args in
+    solve-refused-early (s .regions .now) (ranges-of entry) (s .counts .now) (at-limit .expansions .ensures) (c .before .r .given .1)
+    (c .before .before .before .check-solve .ensures)
 
 build-graph-requires : tie.Need-build-graph-requires
 build-graph-requires c κs =
-    let s = c .before .before .before .before .before .before .before .before .before .before .args in
-    let ranges = within (s .least .now) (s .most .now) in
-    let limit = c .before .before .before .before .before .expansions .result in
-    (solve-tables (s .regions .now) ranges (s .counts .now) limit (c .before .before .enum-told .given .1) (c .before .before .before .before .check-solve .ensures), (refl, refl))
+    let told : tie.After-enum-told = search in
+    solve-tables (early told) refl refl
 
 returns-2 : tie.Need-returns-2
 returns-2 c =
-    let s = c .before .before .before .before .before .before .before .before .before .before .before .before .before .before .args in
-    let ranges = within (s .least .now) (s .most .now) in
-    let limit = c .before .before .before .before .before .before .before .before .before .expansions .result in
-    solve-refused-late (s .regions .now) ranges (s .counts .now) limit
-    (c .before .before .before .before .before .before .enum-told .given .1) (c .before .before .before .before .before .before .before .before .check-solve .ensures) (c .before .r2 .given .1) (c .before .before .before .build-graph .ensures .verdict-is)
-    ∙ ap (solve (s .regions .now) ranges (s .counts .now)) (c .before .before .before .before .before .before .before .before .before .expansions .ensures)
+    let told : tie.After-enum-told = search in
+    solve-refused-late (early told) (c .before .r2 .given .1) (c .before .before .before .build-graph .ensures .verdict-is)
 
 slice-relend-prefix-solve-from-zeros : tie.Need-slice-relend-prefix-solve-from-zeros
 slice-relend-prefix-solve-from-zeros c =
-    let s = c .before .before .before .before .before .before .before .before .before .before .before .before .before .before .before .args in
-    let ranges = within (s .least .now) (s .most .now) in
-    let limit = c .before .before .before .before .before .before .before .before .before .before .expansions .result in
-    solve-room (s .regions .now) ranges (s .counts .now) limit
-    (c .before .before .before .before .before .before .before .enum-told .given .1) (c .before .before .before .before .before .before .before .before .before .check-solve .ensures) .0
+    let told : tie.After-enum-told = search in
+    let room = solve-room (early told) in
+    omega (arith, room)
 
 slice-aggregate-solve-from-zeros : tie.Need-slice-aggregate-solve-from-zeros
 slice-aggregate-solve-from-zeros c =
-    let s = c .before .before .before .before .before .before .before .before .before .before .before .before .before .before .before .before .args in
-    let ranges = within (s .least .now) (s .most .now) in
-    let limit = c .before .before .before .before .before .before .before .before .before .before .before .expansions .result in
-    let room = solve-room (s .regions .now) ranges (s .counts .now) limit
-    (c .before .before .before .before .before .before .before .before .enum-told .given .1) (c .before .before .before .before .before .before .before .before .before .before .check-solve .ensures) in
-    let regions = solve-regions (s .regions .now) ranges (s .counts .now) limit
-    (c .before .before .before .before .before .before .before .before .enum-told .given .1) (c .before .before .before .before .before .before .before .before .before .before .check-solve .ensures) (c .before .before .before .enum-told2 .given .1) (c .before .before .before .before .before .build-graph .ensures .verdict-is) in
-    part-ready (s .regions .now) (s .least .now) (s .most .now) (s .counts .now) room regions .0
+    let told2 : tie.After-enum-told2 = search in
+    let room = solve-room (early (told-before-told2 told2)) in
+    sym (length-take-le _ _ (omega (arith, room)))
 
 solve-from-zeros-requires : tie.Need-solve-from-zeros-requires
 solve-from-zeros-requires c κs =
-    let s = c .before .before .before .before .before .before .before .before .before .before .before .before .before .before .before .before .args in
-    let ranges = within (s .least .now) (s .most .now) in
-    let limit = c .before .before .before .before .before .before .before .before .before .before .before .expansions .result in
-    let six = c .before .before .before .before .before .build-graph .ensures in
-    let room = solve-room (s .regions .now) ranges (s .counts .now) limit
-    (c .before .before .before .before .before .before .before .before .enum-told .given .1) (c .before .before .before .before .before .before .before .before .before .before .check-solve .ensures) in
-    let regions = solve-regions (s .regions .now) ranges (s .counts .now) limit
-    (c .before .before .before .before .before .before .before .before .enum-told .given .1) (c .before .before .before .before .before .before .before .before .before .before .check-solve .ensures) (c .before .before .before .enum-told2 .given .1) (six .verdict-is) in
-    let p = part-ready (s .regions .now) (s .least .now) (s .most .now) (s .counts .now) room regions in
-    (built-tables _ _ _ _ six (c .before .before .before .enum-told2 .given .1), p .0, p .1, p .2, p .3)
+    let told2 : tie.After-enum-told2 = search in
+    solve-ready (early (told-before-told2 told2)) (told2 .enum-told2 .given .1) (built-before-told2 told2 .build-graph .ensures)
 
 returns-3 : tie.Need-returns-3
 returns-3 c =
-    let s = c .before .before .before .before .before .before .before .before .before .before .before .before .before .before .before .before .before .before .before .args in
-    let ranges = within (s .least .now) (s .most .now) in
-    let limit = c .before .before .before .before .before .before .before .before .before .before .before .before .before .before .expansions .result in
+    let told2 : tie.After-enum-told2 = search in
     let made = c .before .before .solve-from-zeros in
-    solve-done (s .regions .now) ranges (s .counts .now) limit (made .result) (made .last .1 .1 .1 .1 .1 .0) _
-    (c .before .before .before .before .before .before .before .before .before .before .before .enum-told .given .1) (c .before .before .before .before .before .before .before .before .before .before .before .before .before .check-solve .ensures) (c .before .before .before .before .before .before .enum-told2 .given .1) (c .before .before .before .before .before .before .before .before .build-graph .ensures .verdict-is) (made .ensures) refl
-    ∙ ap (solve (s .regions .now) ranges (s .counts .now)) (c .before .before .before .before .before .before .before .before .before .before .before .before .before .before .expansions .ensures)
+    solve-done (early (told-before-told2 told2)) (made .result) (made .last .1 .1 .1 .1 .1 .0) (told2 .enum-told2 .given .1)
+    (built-before-told2 told2 .build-graph .ensures .verdict-is) (made .ensures) refl
 
 pub solve-counts-within-spec : {M : Type 1} → statement M
 solve-counts-within-spec =
     tie.close
     (tie.spec
-    (λ c κs. search needs)
-    (λ c κs. search needs)
-    (λ c. search needs)
-    returns
-    (λ c. search needs)
-    build-graph-requires
-    (λ c. search needs)
-    returns-2
-    (λ c. search needs)
-    slice-relend-prefix-solve-from-zeros
-    slice-aggregate-solve-from-zeros
-    solve-from-zeros-requires
-    (λ c. search needs)
-    returns-3)
+    (λ c κs. search needs) (λ c κs. search needs) (λ c. search needs) returns (λ c. search needs) build-graph-requires (λ c. search needs)
+    returns-2 (λ c. search needs) slice-relend-prefix-solve-from-zeros slice-aggregate-solve-from-zeros solve-from-zeros-requires
+    (λ c. search needs) returns-3)

@@ -4,13 +4,13 @@ use mathlib.Core.Path.{_≡_}
 use mathlib.Core.Bool.{_&&_, cond}
 use mathlib.Core.List.{List}
 use Prim.Native.Nat.{ℕ, _+_, _*_, _/_, _%_, _≤_, _<_}
-use lib.ListN.{length, getD}
+use lib.ListN.{length, getD, replicate}
 use lib.Dec.{T, eqb}
 use Rattle.base.specs.Lists.{member, Distinct}
 use Rattle.base.specs.declared.verdict.Verdict.{Verdict}
 use Rattle.base.specs.Refusal.{is-passed}
 use Rattle.regions.specs.Region.{Constraint, places, region-count, constraint, incidence, side-size}
-use Rattle.regions.specs.Accept.{max-regions, max-edges, overused-test}
+use Rattle.regions.specs.Accept.{max-regions, max-edges, limits-test, pairs-test, overused-test}
 use Rattle.counts.specs.inner.Tables.{the-graph, no-constraint, edges-on, Tables, max-sides, edge-slots}
 
 abbrev pub first-side : ℕ → ℕ
@@ -67,11 +67,43 @@ pub record Filled (g placed : List Constraint) (incident own uses : List ℕ) : 
   pub counted : (y : ℕ) → y < max-edges → getD uses y 0 ≡ length (incidence placed y)
   pub incident-is : (y k : ℕ) → y < max-edges → k < 2 → getD incident (y * 2 + k) 0 ≡ getD (incidence placed y) k no-constraint
   pub own-is :
-      (y k : ℕ) → y < max-edges → k < 2 → getD incident (y * 2 + k) 0 < no-constraint → getD own (y * 2 + k) 0 ≡ side-of g y (getD incident (y * 2 + k) 0)
+      (y k : ℕ) → y < max-edges → k < 2 → getD incident (y * 2 + k) 0 < no-constraint
+      → getD own (y * 2 + k) 0 ≡ side-of g y (getD incident (y * 2 + k) 0)
 
 -- what `build_graph` leaves for n edges: 6's verdict, and the search's tables if that is that it passed
 pub record Built (n : ℕ) (regions incident own : List ℕ) (verdict : Verdict) : Type 0 where
   pub verdict-is : verdict ≡ overused-test (the-graph regions) 0 n
   pub tables : T (is-passed verdict) → Tables regions incident own
   pub incident-size : length incident ≡ edge-slots
+  pub own-size : length own ≡ edge-slots
+
+-- ---- what the functions that fill the tables ask
+
+-- of edge e, which stands on side s of constraint ci
+pub record MayPlaceEdge (incident own uses : List ℕ) (ci s e : ℕ) : Type 0 where
+  pub sized : Sized incident own uses
+  pub numbered : ci < no-constraint
+  pub side-below : s < max-sides
+  pub edge-below : e < max-edges
+  pub uses-few : getD uses e 0 ≤ max-sides
+
+-- of all edges of side s
+pub record MayPlaceSide (regions incident own uses : List ℕ) (ci s : ℕ) : Type 0 where
+  pub side : SideTested regions s
+  pub numbered : ci < no-constraint
+  pub sized : Sized incident own uses
+  pub uses-few : (y : ℕ) → y < max-edges → getD uses y 0 ≤ max-sides
+
+-- of all constraints: the tables hold none yet
+pub record MayPlace (regions incident own uses : List ℕ) : Type 0 where
+  pub tested : Tested regions
+  pub incident-empty : incident ≡ replicate edge-slots no-constraint
+  pub own-size : length own ≡ edge-slots
+  pub uses-zero : uses ≡ replicate max-edges 0
+
+-- of the whole graph: the tests 1 and 3 to 5 passed for n edges
+pub record MayBuild (n : ℕ) (regions incident own : List ℕ) : Type 0 where
+  pub limits-pass : T (is-passed (limits-test places n regions))
+  pub pairs-pass : T (is-passed (pairs-test places n 0 (region-count places regions) regions))
+  pub incident-empty : incident ≡ replicate edge-slots no-constraint
   pub own-size : length own ≡ edge-slots

@@ -122,3 +122,25 @@ pub record Tables (regions incident own : List ℕ) : Type 0 where
   pub incident-is : (y k : ℕ) → y < max-edges → k < 2 → getD incident (y * 2 + k) 0 ≡ getD (incidence (the-graph regions) y) k no-constraint
   pub thin : (y : ℕ) → length (incidence (the-graph regions) y) ≤ 2
   pub stands : (p : ℕ) → p < edge-slots → getD incident p 0 < no-constraint → StandsOn regions (getD incident p 0) (p / 2) (getD own p 0)
+
+-- ---- what the functions that write a round's tables ask, and leave (src/cost.rt)
+
+-- edge e has entries in both tables
+pub record MaySetCosts (e : ℕ) (costs : List Float) (allowed : List Bool) : Type 0 where
+  pub below : e < max-edges
+  pub costs-long : length costs ≡ changes
+  pub allowed-long : length allowed ≡ changes
+
+-- every edge has: there is a count and a range for each, and there are not too many
+pub record MayFillCosts (counts : List ℕ) (least most costs : List Float) (allowed : List Bool) : Type 0 where
+  pub few : length counts ≤ max-edges
+  pub least-long : length least ≡ length counts
+  pub most-long : length most ≡ length counts
+  pub costs-long : length costs ≡ changes
+  pub allowed-long : length allowed ≡ changes
+
+-- the edges below m have their entries
+pub record CostsFilled (m : ℕ) (counts : List ℕ) (model : CostModel) (costs : List Float) (allowed : List Bool) : Type 0 where
+  pub entries : (y : ℕ) → y < m → Entries counts model costs allowed y
+  pub costs-long : length costs ≡ changes
+  pub allowed-long : length allowed ≡ changes

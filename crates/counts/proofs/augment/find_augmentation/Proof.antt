@@ -1,38 +1,41 @@
 -- `augment::find_augmentation` meets its contract: the choice among all starts, and the winner searched once more. Assumes nothing.
 use native.Mathlib.Omega.{arith}
-use Rattle.counts.proofs.augment.Laws.{found-nothing, found-winner, results}
+use Rattle.counts.proofs.augment.Laws.{found-nothing, found-winner}
 use borrow.Author.Needs.{needs}
 use Rattle.counts.proofs.augment.find_augmentation.Statement.{statement}
 use Rattle.counts.proofs.augment.find_augmentation.Tie as tie
 
-search-starts-requires : tie.Need-search-starts-requires
-search-starts-requires c κs = search needs
+-- The places that needs look back to, and the ways from one to an earlier one; `search` goes by the types.
+abbrev search-starts-before-else1 : tie.Else1 → tie.After-search-starts
+search-starts-before-else1 else1 = search
 
-choose-requires : tie.Need-choose-requires
-choose-requires c κs = search needs
+abbrev entry-before-search-starts : tie.After-search-starts → tie.Start
+entry-before-search-starts at-search-starts = search
 
 returns : tie.Need-returns
 returns c =
-    record {
-      answer = found-nothing _ _ _ _ _ _ _ _ (c .before .before .before .before .before .before .before .before .before .before .before .before .pre .0 .1) (results _ _ _ _ _ _ _ _ _ _ _ (omega (arith, c .before .before .before .before .before .before .before .before .before .before .before .before .pre .0 .1)) (c .before .before .before .before .search-starts .ensures)) (c .before .choose .ensures .0) (c .if1 .taken);
-      len-fits = omega arith;
-      buffers = c .before .before .before .before .search-starts .ensures .buffers;
-      remembered = c .before .before .before .before .search-starts .ensures .remembered;
-    }
+    let at-search-starts : tie.After-search-starts = search in
+    let entry = entry-before-search-starts at-search-starts in
+    found-nothing (entry .pre .few) (at-search-starts .search-starts .ensures) (c .before .choose .ensures) (c .if1 .taken)
 
 search-from-requires : tie.Need-search-from-requires
-search-from-requires c κs = ((c .before .before .before .before .before .before .before .before .before .before .before .before .before .before .before .pre .0 .0, omega (arith, c .before .before .before .before .choose .ensures .1, c .before .before .before .if1 .left)), c .before .before .before .before .before .before .before .search-starts .ensures .buffers)
+search-from-requires c κs =
+    let else1 = c .before .before .before in
+    let at-search-starts = search-starts-before-else1 else1 in
+    let entry = entry-before-search-starts at-search-starts in
+    record {
+      tables = entry .pre .tables;
+      below = omega (arith, else1 .before .choose .ensures .winner-fits, else1 .if1 .left);
+      buffers = at-search-starts .search-starts .ensures .buffers;
+    }
 
 returns-2 : tie.Need-returns-2
 returns-2 c =
-    record {
-      answer = found-winner _ _ _ _ _ _ _ _ _ (c .search-from .result) (c .before .before .before .before .before .before .before .before .before .before .before .before .before .before .before .before .pre .0 .1) (results _ _ _ _ _ _ _ _ _ _ _ (omega (arith, c .before .before .before .before .before .before .before .before .before .before .before .before .before .before .before .before .pre .0 .1)) (c .before .before .before .before .before .before .before .before .search-starts .ensures)) (c .before .before .before .before .before .choose .ensures .0) (c .before .before .before .before .if1 .left) (c .search-from .ensures .answer);
-      len-fits = c .search-from .ensures .len-fits;
-      buffers = c .search-from .ensures .buffers;
-      remembered = c .before .before .before .before .before .before .before .before .search-starts .ensures .remembered;
-    }
+    let else1 : tie.Else1 = search in
+    let at-search-starts = search-starts-before-else1 else1 in
+    let entry = entry-before-search-starts at-search-starts in
+    found-winner (entry .pre .few) (at-search-starts .search-starts .ensures) (else1 .before .choose .ensures) (else1 .if1 .left)
+    (c .search-from .ensures)
 
 pub find-augmentation-spec : {M : Type 1} → statement M
-find-augmentation-spec =
-    tie.close
-    (tie.spec search-starts-requires choose-requires returns search-from-requires returns-2)
+find-augmentation-spec = tie.close (tie.spec (λ c κs. search needs) (λ c κs. search needs) returns search-from-requires returns-2)

@@ -1,4 +1,5 @@
--- `counts::check::check_order` meets its contract. The loop's invariant: what is left of the test, from entry e on, is the whole test. Assumes nothing.
+-- `counts::check::check_order` meets its contract. The loop's invariant: what is left of the test, from entry e on, is the whole test.
+-- Assumes nothing.
 use mathlib.Core.Path.{_≡_, refl, sym, _∙_}
 use Prim.Native.Nat.{_-_}
 use native.Mathlib.Omega.{arith}
@@ -17,43 +18,48 @@ Inv-loop least most e₀ e = first-bad in-order 35 0 (ranges least most) ≡ fir
 abbrev μ-loop : tie.MeasureT-loop
 μ-loop least most e₀ e = length least - e
 
+-- The places that needs look back to, and the ways from one to an earlier one; `search` goes by the types.
+abbrev Entry : Type 0
+Entry = tie.Start Inv-loop μ-loop
+
+abbrev Turn : Type 0
+Turn = tie.At-loop Inv-loop μ-loop
+
+abbrev In-loop : Type 0
+In-loop = tie.In-loop Inv-loop μ-loop
+
+abbrev turn-before-in-loop : In-loop → Turn
+turn-before-in-loop in-loop = in-loop .before
+
+abbrev entry-before-turn : Turn → Entry
+entry-before-turn turn = turn .before .before .before
+
 returns : tie.Need-returns Inv-loop μ-loop
 unfolding outcome verdict-of
 returns c =
-    let s = (c .before .before .before .before .before .before .before .before) in
-    let turn = (c .before .before .before .before .before .loop) in
-    let bad = sym (c .before .is-in-order .ensures) ∙ not-true _ (c .if1 .taken) in
-    sym (turn .inv ∙ range-here in-order 35 (s .args .least .now) (s .args .most .now) (s .pre .1) (turn .e) (c .before .before .before .before .loop-test .taken) bad)
+    let in-loop : In-loop = search in
+    let turn = turn-before-in-loop in-loop in
+    let entry = entry-before-turn turn in
+    let bad = sym (c .before .is-in-order .ensures) ∙ not-true (c .before .is-in-order .result) (c .if1 .taken) in
+    sym (turn .loop .inv ∙ range-here in-order 35 (entry .pre) (in-loop .loop-test .taken) bad)
 
 loop-again : tie.Need-loop-again Inv-loop μ-loop
 loop-again c =
-    let s = (c .before .before .before .before .before .before .before .before) in
-    let turn = (c .before .before .before .before .before .loop) in
-    let good = sym (c .before .is-in-order .ensures) ∙ not-false _ (c .if1 .left) in
-    turn .inv ∙ range-next in-order 35 (s .args .least .now) (s .args .most .now) (s .pre .1) (turn .e) (c .before .before .before .before .loop-test .taken) good
+    let in-loop : In-loop = search in
+    let turn = turn-before-in-loop in-loop in
+    let entry = entry-before-turn turn in
+    let good = sym (c .before .is-in-order .ensures) ∙ not-false (c .before .is-in-order .result) (c .if1 .left) in
+    turn .loop .inv ∙ range-next in-order 35 (entry .pre) (in-loop .loop-test .taken) good
 
 returns-2 : tie.Need-returns-2 Inv-loop μ-loop
 unfolding outcome
 returns-2 c =
-    let s = (c .before .before .before .before) in
-    let turn = (c .before .loop) in
-    sym (turn .inv ∙ range-none in-order 35 (s .args .least .now) (s .args .most .now) (s .pre .1) (turn .e) (c .loop-test .left))
+    let entry : Entry = search in
+    sym (c .before .loop .inv ∙ range-none in-order 35 (entry .pre) (c .loop-test .left))
 
 pub check-order-spec : {M : Type 1} → statement M
 check-order-spec =
     tie.close
     (tie.spec
-    Inv-loop
-    μ-loop
-    (λ c. refl)
-    (λ c. omega arith)
-    (λ c. omega arith)
-    (λ c. omega arith)
-    (λ c. omega arith)
-    (λ c κs. search needs)
-    (λ c. omega arith)
-    returns
-    (λ c. omega arith)
-    (λ c. omega arith)
-    loop-again
-    returns-2)
+    Inv-loop μ-loop (λ c. refl) (λ c. omega arith) (λ c. omega arith) (λ c. omega arith) (λ c. omega arith) (λ c κs. search needs)
+    (λ c. omega arith) returns (λ c. omega arith) (λ c. omega arith) loop-again returns-2)

@@ -2,7 +2,6 @@
 use Prim.Native.Nat.{_-_, _≤_}
 use native.Mathlib.Omega.{arith}
 use lib.ListN.{length}
-use lib.Ieee.{nan}
 use Rattle.counts.specs.Cost.{by-ranges}
 use Rattle.counts.specs.inner.Components.{Refreshed}
 use Rattle.counts.proofs.cost.Laws.{range-price}
@@ -17,65 +16,48 @@ Inv-loop labels component counts least most costs₀ allowed₀ known₀ e₀ co
 abbrev μ-loop : tie.MeasureT-loop
 μ-loop labels component counts least most costs₀ allowed₀ known₀ e₀ costs allowed known e = length counts - e
 
+-- The places that needs look back to, and the ways from one to an earlier one; `search` goes by the types.
+abbrev Entry : Type 0
+Entry = tie.Start Inv-loop μ-loop
+
+abbrev Turn : Type 0
+Turn = tie.At-loop Inv-loop μ-loop
+
+abbrev In-loop : Type 0
+In-loop = tie.In-loop Inv-loop μ-loop
+
+abbrev turn-before-in-loop : In-loop → Turn
+turn-before-in-loop in-loop = in-loop .before
+
+abbrev entry-before-turn : Turn → Entry
+entry-before-turn turn = search
+
 loop-holds : tie.Need-loop-holds Inv-loop μ-loop
-loop-holds c = (refresh-none _ _ _ _ _ _ _ (c .before .before .before .pre .1 .0) (c .before .before .before .pre .1 .1) (c .before .before .before .pre .1 .2), omega arith)
-
-mul-label : tie.Need-mul-label Inv-loop μ-loop
-mul-label c = omega arith
-
-element-copy-out-label : tie.Need-element-copy-out-label Inv-loop μ-loop
-element-copy-out-label c = omega arith
-
-mul-s : tie.Need-mul-s Inv-loop μ-loop
-mul-s c = omega arith
-
-shared-slice-read-s : tie.Need-shared-slice-read-s Inv-loop μ-loop
-shared-slice-read-s c = omega arith
-
-mul-low : tie.Need-mul-low Inv-loop μ-loop
-mul-low c = omega arith
-
-shared-slice-read-low : tie.Need-shared-slice-read-low Inv-loop μ-loop
-shared-slice-read-low c = omega arith
-
-mul-high : tie.Need-mul-high Inv-loop μ-loop
-mul-high c = omega arith
-
-shared-slice-read-high : tie.Need-shared-slice-read-high Inv-loop μ-loop
-shared-slice-read-high c = omega arith
+loop-holds c =
+    let entry : Entry = search in
+    let sizes = entry .pre .sizes in
+    (refresh-none (sizes .costs-long) (sizes .allowed-long) (entry .pre .known-long), omega arith)
 
 refresh-edge-requires : tie.Need-refresh-edge-requires Inv-loop μ-loop
-refresh-edge-requires c κs = (omega arith, c .before .before .before .before .before .before .before .before .loop .inv .0 .costs-long, c .before .before .before .before .before .before .before .before .loop .inv .0 .allowed-long, c .before .before .before .before .before .before .before .before .loop .inv .0 .known-long)
-
-add-e : tie.Need-add-e Inv-loop μ-loop
-add-e c = omega arith
-
-loop-less : tie.Need-loop-less Inv-loop μ-loop
-loop-less c = omega arith
+refresh-edge-requires c κs =
+    let turn : Turn = search in
+    let r = turn .loop .inv .0 in
+    record { sizes = record { below = omega arith; costs-long = r .costs-long; allowed-long = r .allowed-long }; known-long = r .known-long }
 
 loop-again : tie.Need-loop-again Inv-loop μ-loop
-loop-again c = (refresh-more _ _ _ _ _ _ _ (c .before .before .before .before .before .before .before .before .before .loop .e) (omega arith) _ _ _ (c .before .before .before .before .before .before .before .before .before .loop .inv .0) _ _ _ _ (range-price (c .before .before .before .before .before .before .before .before .before .before .before .before .before .args .counts .now) (c .before .before .before .before .before .before .before .before .before .before .before .before .before .args .least .now) (c .before .before .before .before .before .before .before .before .before .before .before .before .before .args .most .now) (c .before .before .before .before .before .before .before .before .before .loop .e) nan nan (omega arith) (omega arith)) (c .refresh-edge .ensures), omega arith)
+loop-again c =
+    let in-loop : In-loop = search in
+    let turn = turn-before-in-loop in-loop in
+    let entry = entry-before-turn turn in
+    let price = range-price (entry .pre .sizes) (in-loop .loop-test .taken) in
+    (refresh-more (turn .loop .inv .0) (omega arith) price (c .refresh-edge .ensures), omega arith)
 
 returns : tie.Need-returns Inv-loop μ-loop
-returns c = refresh-done _ _ _ _ _ _ _ _ _ (omega arith) _ _ _ (c .before .loop .inv .0)
+returns c = refresh-done (c .before .loop .inv .0) (omega arith)
 
 pub refresh-component-spec : {M : Type 1} → statement M
 refresh-component-spec =
     tie.close
     (tie.spec
-    Inv-loop
-    μ-loop
-    loop-holds
-    mul-label
-    element-copy-out-label
-    mul-s
-    shared-slice-read-s
-    mul-low
-    shared-slice-read-low
-    mul-high
-    shared-slice-read-high
-    refresh-edge-requires
-    add-e
-    loop-less
-    loop-again
-    returns)
+    Inv-loop μ-loop loop-holds (λ c. omega arith) (λ c. omega arith) (λ c. omega arith) (λ c. omega arith) (λ c. omega arith)
+    (λ c. omega arith) (λ c. omega arith) (λ c. omega arith) refresh-edge-requires (λ c. omega arith) (λ c. omega arith) loop-again returns)

@@ -4,15 +4,9 @@ use Rattle.counts.specs.Cost.{range-deviation}
 use Rattle.counts.proofs.cost.range_deviation.Statement.{statement}
 use Rattle.counts.proofs.cost.range_deviation.Tie as tie
 
-deviation-requires : tie.Need-deviation-requires
-deviation-requires c κs = search needs
-
 returns : tie.Need-returns
 unfolding range-deviation
 returns c = simp (c .deviation .ensures, c .before .if1 .taken)
-
-deviation-requires-2 : tie.Need-deviation-requires-2
-deviation-requires-2 c κs = search needs
 
 returns-2 : tie.Need-returns-2
 unfolding range-deviation
@@ -23,5 +17,4 @@ unfolding range-deviation
 returns-3 c = simp (c .before .if1 .left, c .if2 .left)
 
 pub range-deviation-spec : {M : Type 1} → statement M
-range-deviation-spec =
-    tie.close (tie.spec deviation-requires returns deviation-requires-2 returns-2 returns-3)
+range-deviation-spec = tie.close (tie.spec (λ c κs. search needs) returns (λ c κs. search needs) returns-2 returns-3)

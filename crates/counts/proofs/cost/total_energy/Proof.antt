@@ -1,4 +1,5 @@
--- `counts::cost::total_energy` meets its contract. The loop's invariant: the sum so far, carried on over what is left, is the whole sum. Assumes nothing.
+-- `counts::cost::total_energy` meets its contract. The loop's invariant: the sum so far, carried on over what is left, is the whole sum.
+-- Assumes nothing.
 use mathlib.Core.Path.{_≡_, refl, sym, ap, _∙_}
 use Prim.Native.Nat.{_+_, _-_}
 use native.Mathlib.Omega.{arith}
@@ -17,50 +18,34 @@ Inv-loop counts ideals total₀ e₀ total e = energy-from (ofBits binary64 0) c
 abbrev μ-loop : tie.MeasureT-loop
 μ-loop counts ideals total₀ e₀ total e = length counts - e
 
-loop-holds : tie.Need-loop-holds Inv-loop μ-loop
-loop-holds c = refl
+-- The places that needs look back to, and the ways from one to an earlier one; `search` goes by the types.
+abbrev Entry : Type 0
+Entry = tie.Start Inv-loop μ-loop
 
-mul-s : tie.Need-mul-s Inv-loop μ-loop
-mul-s c = omega arith
+abbrev Turn : Type 0
+Turn = tie.At-loop Inv-loop μ-loop
 
-shared-slice-read-s : tie.Need-shared-slice-read-s Inv-loop μ-loop
-shared-slice-read-s c = omega arith
-
-mul-ideal : tie.Need-mul-ideal Inv-loop μ-loop
-mul-ideal c = omega arith
-
-shared-slice-read-ideal : tie.Need-shared-slice-read-ideal Inv-loop μ-loop
-shared-slice-read-ideal c = omega arith
-
-int-to-float-deviation : tie.Need-int-to-float-deviation Inv-loop μ-loop
-int-to-float-deviation c = search needs
-
-deviation-requires : tie.Need-deviation-requires Inv-loop μ-loop
-deviation-requires c κs = search needs
-
-square-requires : tie.Need-square-requires Inv-loop μ-loop
-square-requires c κs = search needs
-
-add-e : tie.Need-add-e Inv-loop μ-loop
-add-e c = omega arith
-
-loop-less : tie.Need-loop-less Inv-loop μ-loop
-loop-less c = omega arith
+abbrev entry-before-turn : Turn → Entry
+entry-before-turn turn = turn .before .before .before
 
 loop-again : tie.Need-loop-again Inv-loop μ-loop
 loop-again c =
-    let s = c .before .before .before .before .before .before .before .before .before .args in
+    let turn : Turn = search in
+    let entry = entry-before-turn turn in
+    let s = entry .args in
     let xs = now (s .counts) in
     let ys = now (s .ideals) in
-    let e = c .before .before .before .before .before .before .loop .e in
-    let d : c .square .result ≡ square (deviation (real (getD xs e 0)) (getD ys e nan)) = c .square .ensures ∙ ap square (c .before .deviation .ensures) in
-    c .before .before .before .before .before .before .loop .inv
-    ∙ energy-turn xs ys nan (c .before .before .before .before .before .before .loop .total) e (omega arith) (omega arith)
-    ∙ ap (λ (x : Float). energy-from (add binary64 (c .before .before .before .before .before .before .loop .total) x) (drop (e + 1) xs) (drop (e + 1) ys)) (sym d)
+    let e = turn .loop .e in
+    let d : c .square .result ≡ square (deviation (real (getD xs e 0)) (getD ys e nan)) = c .square .ensures
+    ∙ ap square (c .before .deviation .ensures) in
+    turn .loop .inv
+    ∙ energy-turn xs ys nan (turn .loop .total) e (omega arith) (omega arith)
+    ∙ ap (λ (x : Float). energy-from (add binary64 (turn .loop .total) x) (drop (e + 1) xs) (drop (e + 1) ys)) (sym d)
 
 returns : tie.Need-returns Inv-loop μ-loop
 returns c =
-    let s = c .before .before .before .before .args in
+    let entry : Entry = search in
+    let s = entry .args in
     let xs = now (s .counts) in
     let ys = now (s .ideals) in
     let e = c .before .loop .e in
@@ -70,17 +55,5 @@ pub total-energy-spec : {M : Type 1} → statement M
 total-energy-spec =
     tie.close
     (tie.spec
-    Inv-loop
-    μ-loop
-    loop-holds
-    mul-s
-    shared-slice-read-s
-    mul-ideal
-    shared-slice-read-ideal
-    int-to-float-deviation
-    deviation-requires
-    square-requires
-    add-e
-    loop-less
-    loop-again
-    returns)
+    Inv-loop μ-loop (λ c. refl) (λ c. omega arith) (λ c. omega arith) (λ c. omega arith) (λ c. omega arith) (λ c. search needs)
+    (λ c κs. search needs) (λ c κs. search needs) (λ c. omega arith) (λ c. omega arith) loop-again returns)

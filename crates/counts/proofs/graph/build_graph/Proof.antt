@@ -11,19 +11,23 @@ use Rattle.counts.proofs.graph.build_graph.Tie as tie
 
 place-constraints-requires : tie.Need-place-constraints-requires
 place-constraints-requires c κs =
-    (tested _ _ (c .before .before .before .before .pre .0 .0) (c .before .before .before .before .pre .0 .1), (c .before .before .before .before .pre .1 .0, c .before .before .before .before .pre .1 .1, refl))
+    let entry : tie.Start = search in
+    record { tested = tested (entry .pre); incident-empty = entry .pre .incident-empty; own-size = entry .pre .own-size; uses-zero = refl }
 
 check-overused-requires : tie.Need-check-overused-requires
-check-overused-requires c κs = limits _ _ (c .before .before .before .before .before .before .pre .0 .0) .edges-few
+check-overused-requires c κs =
+    let entry : tie.Start = search in
+    limits (entry .pre) .edges-few
 
 returns : tie.Need-returns
 returns c =
+    let entry : tie.Start = search in
     let filled = c .before .before .place-constraints .ensures in
-    let few = limits _ _ (c .before .before .before .before .before .before .before .pre .0 .0) .edges-few in
+    let few = limits (entry .pre) .edges-few in
     let six = c .check-overused .ensures _ (λ y l. filled .counted y (omega (arith, l, few))) in
     record {
       verdict-is = six;
-      tables = λ t. tables _ _ _ _ _ (c .before .before .before .before .before .before .before .pre .0 .0) (c .before .before .before .before .before .before .before .pre .0 .1) (subst (λ (v : Verdict). T (is-passed v)) six t) filled;
+      tables = λ t. tables (entry .pre) (subst (λ (v : Verdict). T (is-passed v)) six t) filled;
       incident-size = filled .sized .incident-size;
       own-size = filled .sized .own-size;
     }

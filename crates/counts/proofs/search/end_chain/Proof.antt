@@ -1,3 +1,4 @@
+-- `search::end_chain` meets its contract, by the limit, by whether the start is still open, and by the cost. Assumes nothing.
 use mathlib.Core.Logic.{⊎-elim}
 use mathlib.Core.Path.{sym, _∙_}
 use native.Mathlib.Omega.{arith}
@@ -5,69 +6,44 @@ use Rattle.counts.proofs.search.Endings.{end-high, end-kept, end-open, 
 use borrow.Author.Needs.{needs}
 use Rattle.counts.proofs.search.end_chain.Statement.{statement}
 use Rattle.counts.proofs.search.end_chain.Tie as tie
-use Rattle.counts.proofs.search.end_chain.Reads as reads
-use Rattle.counts.proofs.search.end_chain.Lts as lts
-use Rattle.counts.proofs.search.edge_cost.Reads as edge-cost-reads
-use Rattle.counts.proofs.search.keep_path.Reads as keep-path-reads
+
+-- The places that needs look back to, and the ways from one to an earlier one; `search` goes by the types.
+abbrev then2-before-then3 : tie.Then3 → tie.Then2
+then2-before-then3 then3 = search
+
+abbrev else1-before-then2 : tie.Then2 → tie.Else1
+else1-before-then2 then2 = search
+
+abbrev entry-before-else1 : tie.Else1 → tie.Start
+entry-before-else1 else1 = search
 
 returns : tie.Need-returns
-returns c = λ regions incident own allowed used e i f m ne h w. end-turned-back regions incident own _ allowed _ used _ _ _ e i _ _ _ _ m ne h w (c .if1 .taken)
-
-edge-cost-requires : tie.Need-edge-cost-requires
-edge-cost-requires c κs = search needs
-
-cast-path : tie.Need-cast-path
-cast-path c = search needs
-
-mul-path : tie.Need-mul-path
-mul-path c = search needs
-
-element-write-path : tie.Need-element-write-path
-element-write-path c = search needs
-
-add-keep-path : tie.Need-add-keep-path
-add-keep-path c = search needs
-
-keep-path-requires : tie.Need-keep-path-requires
-keep-path-requires c κs = search needs
-
-add-t21 : tie.Need-add-t21
-add-t21 c = search needs
-
-add-t15 : tie.Need-add-t15
-add-t15 c = search needs
-
-cast-t22 : tie.Need-cast-t22
-cast-t22 c = search needs
+returns c = end-turned-back (c .if1 .taken)
 
 returns-2 : tie.Need-returns-2
 unfolding lib.Ieee.ofBits
-returns-2 c = let a = c .before .before .before .before .before .before .before .before .if1 .left in λ regions incident own allowed used e i f m ne h w. end-kept regions incident own _ allowed _ used _ _ _ e i _ _ _ _ _ _ f m ne h w (omega (arith, a)) (c .before .before .before .before .before .before .before .if2 .taken) (c .before .before .before .before .before .before .edge-cost .ensures) (c .before .before .before .before .if3 .taken) (c .before .keep-path .ensures .0) (c .before .keep-path .ensures .1 ∙ sym (c .before .before .before .before .before .before .before .before .before .before .pre .3))
-
-add-t23 : tie.Need-add-t23
-add-t23 c = search needs
+returns-2 c =
+    let then3 : tie.Then3 = search in
+    let then2 = then2-before-then3 then3 in
+    let else1 = else1-before-then2 then2 in
+    let entry = entry-before-else1 else1 in
+    end-kept (omega (arith, else1 .if1 .left)) (then3 .before .before .edge-cost .ensures) (then2 .if2 .taken)
+    (then3 .if3 .taken)
+    (c .before .keep-path .ensures .0) (c .before .keep-path .ensures .1 ∙ sym (entry .pre .best-long))
 
 returns-3 : tie.Need-returns-3
 unfolding lib.Ieee.ofBits
-returns-3 c = let a = c .before .before .if1 .left in
-    λ regions incident own allowed used e i f m ne h w.
-    ⊎-elim (λ q. end-high regions incident own _ allowed _ used _ _ _ e i _ _ _ _ _ m ne h w (omega (arith, a)) (q .1 .ensures) (q .3 .left))
-    (λ q. end-open regions incident own _ allowed _ used _ _ _ e i _ _ _ _ m ne h w (omega (arith, a)) (q .left)) (c .before .if2 .came)
+returns-3 c =
+    let else1 : tie.Else1 = search in
+    let more = else1 .if1 .left in
+    ⊎-elim
+    (λ q. end-high (omega (arith, more)) (q .1 .ensures) (q .3 .left))
+    (λ q. end-open (omega (arith, more)) (q .left))
+    (c .before .if2 .came)
 
 pub end-chain-spec : {M : Type 1} → statement M
 end-chain-spec =
     tie.close
     (tie.spec
-    returns
-    edge-cost-requires
-    cast-path
-    mul-path
-    element-write-path
-    add-keep-path
-    keep-path-requires
-    add-t21
-    add-t15
-    cast-t22
-    returns-2
-    add-t23
-    returns-3)
+    returns (λ c κs. search needs) (λ c. search needs) (λ c. search needs) (λ c. search needs) (λ c. search needs) (λ c κs. search needs)
+    (λ c. search needs) (λ c. search needs) (λ c. search needs) returns-2 (λ c. search needs) returns-3)

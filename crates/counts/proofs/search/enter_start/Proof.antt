@@ -1,68 +1,55 @@
+-- `search::enter_start` meets its contract, by the limit, by whether the start's edge has a constraint, and by the cost. Assumes nothing.
 use mathlib.Core.Path.{sym, _∙_}
 use native.Mathlib.Omega.{arith}
-use Rattle.counts.proofs.search.Slots.{cost-at}
 use Rattle.counts.proofs.search.Start.{entered-back, entered-free, entered-held, entered-high}
 use borrow.Author.Needs.{needs}
 use Rattle.counts.proofs.search.enter_start.Statement.{statement}
 use Rattle.counts.proofs.search.enter_start.Tie as tie
-use Rattle.counts.proofs.search.enter_start.Reads as reads
-use Rattle.counts.proofs.search.enter_start.Lts as lts
-use Rattle.counts.proofs.search.edge_cost.Reads as edge-cost-reads
-use Rattle.counts.proofs.search.entry.Reads as entry-reads
-use Rattle.counts.proofs.search.keep_path.Reads as keep-path-reads
 
-cast-path : tie.Need-cast-path
-cast-path c = search needs
+-- The places that needs look back to, and the ways from one to an earlier one; `search` goes by the types.
+abbrev else2-before-edge-cost : tie.After-edge-cost → tie.Else2
+else2-before-edge-cost at-edge-cost = search
 
-element-write-path : tie.Need-element-write-path
-element-write-path c = search needs
+abbrev else1-before-else2 : tie.Else2 → tie.Else1
+else1-before-else2 else2 = search
+
+abbrev entry-before-else1 : tie.Else1 → tie.Start
+entry-before-else1 else1 = search
 
 returns : tie.Need-returns
-returns c = let s = c .before .before .before in entered-back _ _ _ _ _ _ (s .pre .0) _ _ _ (c .if1 .taken)
-
-add-t16 : tie.Need-add-t16
-add-t16 c = search needs
-
-mul-entry : tie.Need-mul-entry
-mul-entry c = search needs
-
-entry-requires : tie.Need-entry-requires
-entry-requires c κs = search needs
+returns c = entered-back (c .if1 .taken)
 
 returns-2 : tie.Need-returns-2
-returns-2 c = let s = c .before .before .before .before .before .before in let a = c .before .before .before .if1 .left in entered-held _ _ _ _ _ _ (s .pre .0) _ _ _ (omega (arith, a)) (s .pre .1 .0) (λ q. c .if2 .taken (c .before .entry .ensures ∙ q))
-
-edge-cost-requires : tie.Need-edge-cost-requires
-edge-cost-requires c κs = search needs
-
-keep-path-requires : tie.Need-keep-path-requires
-keep-path-requires c κs = search needs
+returns-2 c =
+    let else1 : tie.Else1 = search in
+    let entry = entry-before-else1 else1 in
+    entered-held (entry .pre) (omega (arith, else1 .if1 .left)) (λ q. c .if2 .taken (c .before .entry .ensures ∙ q))
 
 returns-3 : tie.Need-returns-3
 unfolding lib.Ieee.ofBits
-returns-3 c = let s = c .before .before .before .before .before .before .before .before .before .before .before .before in
-    let a = c .before .before .before .before .before .before .before .before .before .if1 .left in
-    entered-free _ _ _ _ _ _ (s .pre .0) _ (s .args .best .now) _ (omega (arith, a)) (s .pre .1 .0) (sym (c .before .before .before .before .before .before .before .entry .ensures) ∙ c .before .before .before .before .before .before .if2 .left) _ (cost-at (s .args .costs .now) (s .args .start) _ (c .before .before .before .before .before .edge-cost .ensures)) _ (c .before .before .before .if3 .taken)
-    (s .pre .1 .1) (c .keep-path .ensures .0) (c .keep-path .ensures .1 ∙ sym (s .pre .1 .2))
+returns-3 c =
+    let then3 : tie.Then3 = search in
+    let at-edge-cost : tie.After-edge-cost = search in
+    let else2 = else2-before-edge-cost at-edge-cost in
+    let else1 = else1-before-else2 else2 in
+    let entry = entry-before-else1 else1 in
+    entered-free (entry .pre) (omega (arith, else1 .if1 .left)) (sym (else2 .before .entry .ensures) ∙ else2 .if2 .left)
+    (at-edge-cost .edge-cost .ensures)
+    (then3 .if3 .taken) (c .keep-path .ensures .0) (c .keep-path .ensures .1 ∙ sym (entry .pre .best-long))
 
 returns-4 : tie.Need-returns-4
 unfolding lib.Ieee.ofBits
-returns-4 c = let s = c .before .before .before .before .before .before .before .before .before in
-    let a = c .before .before .before .before .before .before .if1 .left in
-    entered-high _ _ _ _ _ _ (s .pre .0) _ _ _ (omega (arith, a)) (s .pre .1 .0) (sym (c .before .before .before .before .entry .ensures) ∙ c .before .before .before .if2 .left) _ (cost-at (s .args .costs .now) (s .args .start) _ (c .before .before .edge-cost .ensures)) (c .if3 .left)
+returns-4 c =
+    let at-edge-cost : tie.After-edge-cost = search in
+    let else2 = else2-before-edge-cost at-edge-cost in
+    let else1 = else1-before-else2 else2 in
+    let entry = entry-before-else1 else1 in
+    entered-high (entry .pre) (omega (arith, else1 .if1 .left)) (sym (else2 .before .entry .ensures) ∙ else2 .if2 .left)
+    (at-edge-cost .edge-cost .ensures) (c .if3 .left)
 
 pub enter-start-spec : {M : Type 1} → statement M
 enter-start-spec =
     tie.close
     (tie.spec
-    cast-path
-    element-write-path
-    returns
-    add-t16
-    mul-entry
-    entry-requires
-    returns-2
-    edge-cost-requires
-    keep-path-requires
-    returns-3
-    returns-4)
+    (λ c. search needs) (λ c. search needs) returns (λ c. search needs) (λ c. search needs) (λ c κs. search needs) returns-2
+    (λ c κs. search needs) (λ c κs. search needs) returns-3 returns-4)

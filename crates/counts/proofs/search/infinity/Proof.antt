@@ -1,8 +1,7 @@
+-- `search::infinity` meets its contract: the bits are those of +infinity, and of no NaN. Assumes nothing.
 use mathlib.Core.Path.{refl}
 use Rattle.counts.proofs.search.infinity.Statement.{statement}
 use Rattle.counts.proofs.search.infinity.Tie as tie
-use Rattle.counts.proofs.search.infinity.Reads as reads
-use Rattle.counts.proofs.search.infinity.Lts as lts
 
 float-from-bits-result : tie.Need-float-from-bits-result
 unfolding lib.Ieee.nanBits

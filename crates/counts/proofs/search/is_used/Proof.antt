@@ -1,17 +1,15 @@
+-- `search::is_used` meets its contract: inside the marks it does not matter what stands for a place outside. Assumes nothing.
 use mathlib.Core.Bool.{true, false}
 use native.Mathlib.Omega.{arith}
-use Rattle.counts.proofs.search.Slots.{getD-default}
 use borrow.Author.Needs.{needs}
+use Rattle.counts.proofs.search.Slots.{getD-default}
 use Rattle.counts.proofs.search.is_used.Statement.{statement}
 use Rattle.counts.proofs.search.is_used.Tie as tie
-use Rattle.counts.proofs.search.is_used.Reads as reads
-use Rattle.counts.proofs.search.is_used.Lts as lts
-
-element-copy-out-result : tie.Need-element-copy-out-result
-element-copy-out-result c = search needs
 
 returns : tie.Need-returns
-returns c = let a = c .before .pre .0 in let b = c .before .pre .1 in getD-default (c .before .args .used .now) (c .before .args .ci) false true (omega (arith, a, b))
+returns c =
+    let entry : tie.Start = search in
+    getD-default (entry .args .used .now) (entry .args .ci) false true (omega (arith, entry .pre .0, entry .pre .1))
 
 pub is-used-spec : {M : Type 1} → statement M
-is-used-spec = tie.close (tie.spec element-copy-out-result returns)
+is-used-spec = tie.close (tie.spec (λ c. search needs) returns)

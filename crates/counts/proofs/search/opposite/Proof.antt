@@ -1,22 +1,15 @@
+-- `search::opposite` meets its contract: in each record sides 0 and 1 are opposite to 2 and 3. Assumes nothing.
 use native.Mathlib.Omega.{arith}
-use Rattle.counts.proofs.search.Slots.{across-high, across-low}
 use borrow.Author.Needs.{needs}
+use Rattle.counts.proofs.search.Slots.{across-high, across-low}
 use Rattle.counts.proofs.search.opposite.Statement.{statement}
 use Rattle.counts.proofs.search.opposite.Tie as tie
-use Rattle.counts.proofs.search.opposite.Reads as reads
-use Rattle.counts.proofs.search.opposite.Lts as lts
-
-add-result : tie.Need-add-result
-add-result c = search needs
-
-sub-result : tie.Need-sub-result
-sub-result c = search needs
 
 returns : tie.Need-returns
-returns c = across-low _ (c .if1 .taken)
+returns c = (across-low _ (c .if1 .taken), omega arith)
 
 returns-2 : tie.Need-returns-2
-returns-2 c = let n = c .if1 .left in across-high _ (omega (arith, n))
+returns-2 c = (across-high _ (omega (arith, c .if1 .left)), omega arith)
 
 pub opposite-spec : {M : Type 1} → statement M
-opposite-spec = tie.close (tie.spec add-result sub-result returns returns-2)
+opposite-spec = tie.close (tie.spec (λ c. search needs) (λ c. search needs) returns returns-2)

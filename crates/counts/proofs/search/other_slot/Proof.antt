@@ -1,26 +1,19 @@
+-- `search::other_slot` meets its contract, by whether the constraint stands at the edge's first slot. Assumes nothing.
 use mathlib.Core.Path.{sym, _∙_}
-use native.Mathlib.Omega.{arith}
+use borrow.Author.Needs.{needs}
 use Rattle.counts.proofs.search.Slots.{other-first, other-second}
 use Rattle.counts.proofs.search.other_slot.Statement.{statement}
 use Rattle.counts.proofs.search.other_slot.Tie as tie
-use Rattle.counts.proofs.search.other_slot.Reads as reads
-use Rattle.counts.proofs.search.other_slot.Lts as lts
-use Rattle.counts.proofs.search.entry.Reads as entry-reads
-
-mul-k : tie.Need-mul-k
-mul-k c = let b = c .before .pre .0 .few _ _ (c .before .pre .1) in record { fits = omega (arith, b) }
-
-entry-requires : tie.Need-entry-requires
-entry-requires c κs = let b = c .before .pre .0 .few _ _ (c .before .pre .1) in omega (arith, b)
-
-add-result : tie.Need-add-result
-add-result c = let s = c .before .before .before .pre in let b = s .0 .few _ _ (s .1) in record { fits = omega (arith, b) }
 
 returns : tie.Need-returns
-returns c = let s = c .before .before .before .pre in other-second _ _ _ _ _ (s .0) (s .1) (sym (c .before .entry .ensures) ∙ c .if1 .taken)
+returns c =
+    let entry : tie.Start = search in
+    other-second (entry .pre) (sym (c .before .entry .ensures) ∙ c .if1 .taken)
 
 returns-2 : tie.Need-returns-2
-returns-2 c = let s = c .before .before .before .pre in other-first _ _ _ _ _ (s .0) (s .1) (λ q. c .if1 .left (c .before .entry .ensures ∙ q))
+returns-2 c =
+    let entry : tie.Start = search in
+    other-first (entry .pre) (λ q. c .if1 .left (c .before .entry .ensures ∙ q))
 
 pub other-slot-spec : {M : Type 1} → statement M
-other-slot-spec = tie.close (tie.spec mul-k entry-requires add-result returns returns-2)
+other-slot-spec = tie.close (tie.spec (λ c. search needs) (λ c κs. search needs) (λ c. search needs) returns returns-2)

@@ -1,54 +1,66 @@
 -- `solve::round_in` meets its contract, by whether a move was found. Assumes nothing.
 use Rattle.counts.proofs.augment.Finding.{nothing-known}
-use Rattle.counts.proofs.solve.Loop.{round-idle, round-moved, move-is, move-can}
+use Rattle.counts.proofs.solve.Loop.{move-found, round-idle, round-moved, move-can}
 use borrow.Author.Needs.{needs}
 use Rattle.counts.proofs.solve.round_in.Statement.{statement}
 use Rattle.counts.proofs.solve.round_in.Tie as tie
 
-start-tables-requires : tie.Need-start-tables-requires
-start-tables-requires c κs = (c .before .before .before .before .before .before .before .before .pre .0 .1 .few, c .before .before .before .before .before .before .before .before .pre .0 .2, c .before .before .before .before .before .before .before .before .pre .0 .3, c .before .before .before .before .before .before .before .before .pre .1 .1 .costs-long, c .before .before .before .before .before .before .before .before .pre .1 .1 .allowed-long)
+-- The places that needs look back to, and the ways from one to an earlier one; `search` goes by the types.
+abbrev find-before-wide-len : tie.After-wide-len → tie.After-find-augmentation
+find-before-wide-len at-wide-len = search
+
+abbrev start-tables-before-find : tie.After-find-augmentation → tie.After-start-tables
+start-tables-before-find at-find = search
+
+abbrev entry-before-start-tables : tie.After-start-tables → tie.Start
+entry-before-start-tables at-start-tables = search
 
 find-augmentation-requires : tie.Need-find-augmentation-requires
-find-augmentation-requires c κs = (
-  (c .before .before .before .before .before .before .before .before .before .before .before .before .before .before .before .before .before .pre .0 .0, c .before .before .before .before .before .before .before .before .before .before .before .before .before .before .before .before .before .pre .0 .1 .few),
-  (c .before .before .before .before .before .before .before .before .before .before .before .before .before .before .before .before .before .pre .1 .0, nothing-known _ _ _ _ _ _ _ (c .before .before .before .before .before .before .before .before .before .before .before .before .before .before .before .before .before .pre .1 .1 .kept-long) (c .before .before .before .before .before .before .before .before .before .before .before .before .before .before .before .before .before .pre .1 .1 .cut-long) (c .before .before .before .before .before .before .before .before .start-tables .ensures .1)),
-)
-
-wide-len-requires : tie.Need-wide-len-requires
-wide-len-requires c κs = search needs
-
-same-length : tie.Need-same-length
-same-length c = search needs
+find-augmentation-requires c κs =
+    let at-start-tables : tie.After-start-tables = search in
+    let entry = entry-before-start-tables at-start-tables in
+    let sizes = entry .pre .sizes in
+    record {
+      tables = entry .pre .round .input .tables;
+      few = entry .pre .round .input .few;
+      buffers = entry .pre .buffers;
+      remembered = nothing-known (sizes .kept-long) (sizes .cut-long) (at-start-tables .start-tables .ensures .nothing-known);
+    }
 
 returns : tie.Need-returns
 returns c =
-    let is = move-is _ _ _ _ _ _ _ _ _ _ _ _ (c .before .before .find-augmentation .result) (c .before .before .before .before .before .before .before .before .before .before .before .before .before .before .before .before .before .before .before .before .pre .0 .1) (c .before .before .before .before .before .before .before .before .before .before .before .start-tables .ensures .0) (c .before .before .find-augmentation .ensures) in
-    round-idle (c .before .before .find-augmentation .result) _ _ is _ (c .before .wide-len .ensures) _ (c .if1 .taken)
+    let at-wide-len : tie.After-wide-len = search in
+    let at-find = find-before-wide-len at-wide-len in
+    let at-start-tables = start-tables-before-find at-find in
+    let entry = entry-before-start-tables at-start-tables in
+    let found = move-found (entry .pre .round) (at-start-tables .start-tables .ensures .priced) (at-find .find-augmentation .ensures)
+    (at-wide-len .wide-len .ensures) in
+    round-idle found (c .if1 .taken)
 
 apply-changes-requires : tie.Need-apply-changes-requires
 apply-changes-requires c κs =
-    let f = c .before .before .before .before .find-augmentation .ensures in
-    let is = move-is _ _ _ _ _ _ _ _ _ _ _ _ (c .before .before .before .before .find-augmentation .result) (c .before .before .before .before .before .before .before .before .before .before .before .before .before .before .before .before .before .before .before .before .before .before .pre .0 .1) (c .before .before .before .before .before .before .before .before .before .before .before .before .before .start-tables .ensures .0) f in
-    move-can _ _ _ _ (c .before .before .before .before .find-augmentation .result) _ _ (c .before .before .before .before .before .before .before .before .before .before .before .before .before .before .before .before .before .before .before .before .before .before .pre .0 .1) is (c .before .before .before .wide-len .ensures) (f .len-fits) (f .buffers .best-long)
-
-same-length-2 : tie.Need-same-length-2
-same-length-2 c = search needs
+    let at-wide-len : tie.After-wide-len = search in
+    let at-find = find-before-wide-len at-wide-len in
+    let at-start-tables = start-tables-before-find at-find in
+    let entry = entry-before-start-tables at-start-tables in
+    let found = move-found (entry .pre .round) (at-start-tables .start-tables .ensures .priced) (at-find .find-augmentation .ensures)
+    (at-wide-len .wide-len .ensures) in
+    move-can found (entry .pre .round)
 
 returns-2 : tie.Need-returns-2
 returns-2 c =
-    let f = c .before .before .before .before .before .before .before .find-augmentation .ensures in
-    let is = move-is _ _ _ _ _ _ _ _ _ _ _ _ (c .before .before .before .before .before .before .before .find-augmentation .result) (c .before .before .before .before .before .before .before .before .before .before .before .before .before .before .before .before .before .before .before .before .before .before .before .before .before .pre .0 .1) (c .before .before .before .before .before .before .before .before .before .before .before .before .before .before .before .before .start-tables .ensures .0) f in
-    round-moved (c .before .before .before .before .before .before .before .find-augmentation .result) _ _ is _ (c .before .before .before .before .before .before .wide-len .ensures) _ _ (c .before .before .before .before .before .if1 .left) (f .buffers .best-long) (c .before .before .apply-changes .ensures)
+    let else1 : tie.Else1 = search in
+    let at-wide-len : tie.After-wide-len = else1 .before in
+    let at-find = find-before-wide-len at-wide-len in
+    let at-start-tables = start-tables-before-find at-find in
+    let entry = entry-before-start-tables at-start-tables in
+    let found = move-found (entry .pre .round) (at-start-tables .start-tables .ensures .priced) (at-find .find-augmentation .ensures)
+    (at-wide-len .wide-len .ensures) in
+    round-moved found (else1 .if1 .left) (c .before .before .apply-changes .ensures)
 
 pub round-in-spec : {M : Type 1} → statement M
 round-in-spec =
     tie.close
     (tie.spec
-    start-tables-requires
-    find-augmentation-requires
-    wide-len-requires
-    same-length
-    returns
-    apply-changes-requires
-    same-length-2
-    returns-2)
+    (λ c κs. search needs) find-augmentation-requires (λ c κs. search needs) (λ c. search needs) returns apply-changes-requires
+    (λ c. search needs) returns-2)

@@ -1,0 +1,2 @@
+-- Laws of a side's sum, and of constraints that hold. Assumes nothing.
+pub mod Laws
