@@ -144,7 +144,8 @@ unfolding logical-intersection
 crossing-clear a b c d i j = go (lt (float-abs (denominator a b c d)) e-12) (in-unit (crossing-u a b c d) && in-unit (crossing-v a b c d))
   where
     go : (s t : Bool)
-        → Clear (verdict (cond s (turned-away (refused 23 i j)) (cond t (good (point (clamp-unit (crossing-u a b c d)) (clamp-unit (crossing-v a b c d)))) (turned-away (refused 24 i j)))))
+        → Clear (verdict (cond s (turned-away (refused 23 i j))
+        (cond t (good (point (clamp-unit (crossing-u a b c d)) (clamp-unit (crossing-v a b c d)))) (turned-away (refused 24 i j)))))
     go true t = record { other = tt }
     go false true = passed-clear
     go false false = record { other = tt }
@@ -203,7 +204,8 @@ grid-stage-clear layout c s out e =
     unless-clear out (filled layout (grid-of c s) (n-u s) (n-v s) out) tested
     (filled-clear layout (grid-of c s) (n-u s) (n-v s) out (grid-clear (grid-of c s) (n-u s) (n-v s) (point-clear c s)))
 
-patch-clear : (layout : Layout) (bottom right top left : List Float) (s : Seams) (out : List Float) → EqualSeams s → Clear (patch layout bottom right top left s out .verdict)
+patch-clear : (layout : Layout) (bottom right top left : List Float) (s : Seams) (out : List Float) → EqualSeams s
+    → Clear (patch layout bottom right top left s out .verdict)
 unfolding patch
 patch-clear layout bottom right top left s out e =
     unless-clear out (grid-stage layout (boundary-of bottom right top left) s out) (curves-clear bottom right top left)
@@ -261,7 +263,8 @@ sides-clear region n f =
 pub lay-clear : (region counts : List ℕ) (f : TileInput) (out : List Float) → EqualSeams (seams-of region counts f) → Clear (lay region counts f out .verdict)
 unfolding lay
 lay-clear region counts f out e =
-    let tested = then-clear (record-clear region (length counts)) (then-clear (curves-limit-clear (f .bottom) (f .right) (f .top) (f .left)) (sides-clear region (length counts) f)) in
+    let tested = then-clear (record-clear region (length counts))
+    (then-clear (curves-limit-clear (f .bottom) (f .right) (f .top) (f .left)) (sides-clear region (length counts) f)) in
     let s = seams-of region counts f in
     unless-clear out (coons-from-parameters Quads (f .bottom) (f .right) (f .top) (f .left) s out) tested
     (from-parameters-clear Quads (f .bottom) (f .right) (f .top) (f .left) s out e)

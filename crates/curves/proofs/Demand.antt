@@ -1,5 +1,6 @@
--- Demand 3, whole. The rounds are counts' `demand-3-rounds`. A tile's seams are one longer than its sides add up to; an accepted solve leaves opposite sides that add up to the same,
--- and each round keeps their difference. So opposite seams are equally long, and no other test refuses with 22. Assumes nothing.
+-- Demand 3, whole. The rounds are counts' `demand-3-rounds`. A tile's seams are one longer than its sides add up to; an accepted solve leaves
+-- opposite sides that add up to the same, and each round keeps their difference. So opposite seams are equally long, and no other test refuses
+-- with 22. Assumes nothing.
 use mathlib.Core.Logic.{inl, inr}
 use mathlib.Core.Path.{_≡_, refl, sym, ap, subst, _∙_}
 use mathlib.Core.Bool.{_||_}
@@ -144,7 +145,8 @@ whole-buffer regions spacing lent limit requests t =
 
 pub written-part : (regions : List ℕ) (spacing : Spacing) (lent : List ℕ) (limit : SearchLimit) (requests : List Request)
     → T (is-passed (solve regions spacing lent (expansions limit) .verdict))
-    → Handed regions (left-by-all regions (answer-to regions) request-costs (take (edges-of spacing) (solve regions spacing lent (expansions limit) .counts)) requests)
+    → Handed regions (left-by-all regions (answer-to regions) request-costs
+    (take (edges-of spacing) (solve regions spacing lent (expansions limit) .counts)) requests)
 written-part regions spacing lent limit requests t =
     let n = edges-of spacing in
     let out = solve regions spacing lent (expansions limit) .counts in

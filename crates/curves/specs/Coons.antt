@@ -1,4 +1,5 @@
--- What the public functions of the grid answer, and what they leave in the lent output, refused calls included: a chain of tests in 01's order, then the grid. Assumes nothing.
+-- What the public functions of the grid answer, and what they leave in the lent output, refused calls included: a chain of tests in 01's order,
+-- then the grid. Assumes nothing.
 use mathlib.Core.Bool.{not, _||_}
 use mathlib.Core.List.{List}
 use Prim.Native.Nat.{ℕ, _*_, _%_}

@@ -1,5 +1,5 @@
--- 000's `ArcCurve`: "`ArcCurve::new` holds each point with the length run so far", "`at` clamps, halves down to a segment (equal goes right) and blends as in 000", each operation
--- rounded once; and what is refused of one curve. Assumes nothing.
+-- 000's `ArcCurve`: "`ArcCurve::new` holds each point with the length run so far", "`at` clamps, halves down to a segment (equal goes right) and
+-- blends as in 000", each operation rounded once; and what is refused of one curve. Assumes nothing.
 use mathlib.Core.Bool.{Bool, true, false, not, _&&_, cond}
 use mathlib.Core.List.{List, [], _∷_}
 use Prim.Native.Nat.{ℕ, zero, suc, _+_, _-_, _*_, _/_}
@@ -83,7 +83,8 @@ blend s target = toward (s .start) (s .end) (fraction s target)
 
 -- ---- the point at a parameter
 
--- From lo and hi, which are more than one apart where the Bool says so: the half that holds the target, an equal middle going right. The first number bounds the steps.
+-- From lo and hi, which are more than one apart where the Bool says so: the half that holds the target, an equal middle going right. The first
+-- number bounds the steps.
 unfoldable pub halve : List Float → Float → ℕ → Bool → ℕ → ℕ → ℕ
 unfolding le
 halve lengths target zero apart lo hi = lo

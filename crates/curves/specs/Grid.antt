@@ -1,4 +1,5 @@
--- 000's `coons_grid` after its tests of the seams: the points of a grid row by row, the tests of its points and quads, and what an output holds of it. Assumes nothing.
+-- 000's `coons_grid` after its tests of the seams: the points of a grid row by row, the tests of its points and quads, and what an output holds of
+-- it. Assumes nothing.
 use mathlib.Core.List.{List, [], _∷_}
 use Prim.Native.Nat.{ℕ, zero, suc, _+_, _-_, _*_}
 use lib.ListN.{length, getD}

@@ -1,14 +1,11 @@
 // The four boundary curves of a patch, counter-clockwise: bottom left to right, right bottom to top, top right to left, left top to
 // bottom. Each is tested by itself (13 to 15), then whether they join (16) and how they wind (17).
 ghost use mathlib.Core.Path.{_≡_};
-ghost use Prim.Native.Nat.{_≤_};
-ghost use lib.ListN.{length};
-ghost use lib.Dec.{T};
-ghost use Rattle.base.specs.Refusal.{outcome, is-passed};
-ghost use Rattle.base.specs.Buffers.{splice};
-ghost use Rattle.curves.specs.Curve.{point-count, curve, cumulative-of};
+ghost use Rattle.base.specs.Refusal.{outcome};
+ghost use Rattle.curves.specs.Boundary.{curve-ends, boundary-ends, lowest, highest, tolerance};
+ghost use Rattle.curves.specs.Boundary.{corner-test, winding-test, ends-test, joined-of};
 ghost use Rattle.curves.specs.inner.Segments.{Sampled};
-ghost use Rattle.curves.specs.Boundary.{boundary, curve-ends, boundary-ends, lowest, highest, tolerance, corner-test, winding-test, ends-test, checked-curves, joined-of, joined-curves};
+ghost use Rattle.curves.specs.inner.Curves.{lent, lent-curve, lent-curves, SampledCurves, TablesFit, CurvesChecked};
 use crate::curve::curve_at;
 use crate::curve::new_curve;
 use crate::point::Point;
@@ -111,8 +108,8 @@ fn check_ends(e: BoundaryEnds) -> Check
 }
 
 fn curve_ends(points: &[f64], lengths: &[f64]) -> Ends
-    requires { ⌜ Sampled (now points) (now lengths) ⌝ }
-    ensures { λ r. ⌜ r ≡ curve-ends (curve (now (points .entry)) (now (lengths .entry))) ⌝ }
+    requires { ⌜ Sampled (lent-curve points lengths) ⌝ }
+    ensures { λ r. ⌜ r ≡ curve-ends (lent-curve (points .entry) (lengths .entry)) ⌝ }
 {
     let start = curve_at(points, lengths, 0.0);
     let end = curve_at(points, lengths, 1.0);
@@ -130,8 +127,11 @@ pub(crate) fn boundary_ends(
     left: &[f64],
     lengths3: &[f64],
 ) -> BoundaryEnds
-    requires { ⌜ Sampled (now bottom) (now lengths0) × Sampled (now right) (now lengths1) × Sampled (now top) (now lengths2) × Sampled (now left) (now lengths3) ⌝ }
-    ensures { λ r. ⌜ r ≡ boundary-ends (boundary (curve (now (bottom .entry)) (now (lengths0 .entry))) (curve (now (right .entry)) (now (lengths1 .entry))) (curve (now (top .entry)) (now (lengths2 .entry))) (curve (now (left .entry)) (now (lengths3 .entry)))) ⌝ }
+    requires { ⌜ SampledCurves (lent-curves bottom lengths0 right lengths1 top lengths2 left lengths3) ⌝ }
+    ensures { λ r.
+        let c = lent-curves (bottom .entry) (lengths0 .entry) (right .entry) (lengths1 .entry)
+        (top .entry) (lengths2 .entry) (left .entry) (lengths3 .entry) in
+        ⌜ r ≡ boundary-ends c ⌝ }
 {
     let of_bottom = curve_ends(bottom, lengths0);
     let of_right = curve_ends(right, lengths1);
@@ -156,12 +156,12 @@ pub(crate) fn checked_curves(
     left: &[f64],
     lengths3: &mut [f64],
 ) -> BoundaryAnswer
-    requires { ⌜ (point-count (now bottom) ≤ length (now lengths0)) × (point-count (now right) ≤ length (now lengths1)) × (point-count (now top) ≤ length (now lengths2)) × (point-count (now left) ≤ length (now lengths3)) ⌝ }
-    ensures { λ r. ⌜ joined-of r ≡ joined-curves (now (bottom .entry)) (now (right .entry)) (now (top .entry)) (now (left .entry)) ⌝ }
-    ensures { λ r. ⌜ (T (is-passed (checked-curves (now (bottom .entry)) (now (right .entry)) (now (top .entry)) (now (left .entry)))) → now (lengths0 .exit) ≡ splice (now (lengths0 .entry)) 0 (cumulative-of (now (bottom .entry)))) ⌝ }
-    ensures { λ r. ⌜ (T (is-passed (checked-curves (now (bottom .entry)) (now (right .entry)) (now (top .entry)) (now (left .entry)))) → now (lengths1 .exit) ≡ splice (now (lengths1 .entry)) 0 (cumulative-of (now (right .entry)))) ⌝ }
-    ensures { λ r. ⌜ (T (is-passed (checked-curves (now (bottom .entry)) (now (right .entry)) (now (top .entry)) (now (left .entry)))) → now (lengths2 .exit) ≡ splice (now (lengths2 .entry)) 0 (cumulative-of (now (top .entry)))) ⌝ }
-    ensures { λ r. ⌜ (T (is-passed (checked-curves (now (bottom .entry)) (now (right .entry)) (now (top .entry)) (now (left .entry)))) → now (lengths3 .exit) ≡ splice (now (lengths3 .entry)) 0 (cumulative-of (now (left .entry)))) ⌝ }
+    requires { ⌜ TablesFit (lent bottom right top left) (lent lengths0 lengths1 lengths2 lengths3) ⌝ }
+    ensures { λ r.
+        let points = lent (bottom .entry) (right .entry) (top .entry) (left .entry) in
+        let before = lent (lengths0 .entry) (lengths1 .entry) (lengths2 .entry) (lengths3 .entry) in
+        let after = lent (lengths0 .exit) (lengths1 .exit) (lengths2 .exit) (lengths3 .exit) in
+        ⌜ CurvesChecked points before after (joined-of r) ⌝ }
 {
     let of_bottom = new_curve(bottom, 0, lengths0);
     let of_right = new_curve(right, 1, lengths1);

@@ -1,12 +1,10 @@
 // Columns of the patch that are worked out once for all the level lines of a grid.
 ghost use mathlib.Core.Path.{_≡_};
-ghost use Prim.Native.Nat.{_+_, _*_, _≤_};
+ghost use Prim.Native.Nat.{_+_, _≤_};
 ghost use lib.ListN.{length};
 ghost use Rattle.base.specs.Buffers.{splice};
-ghost use Rattle.curves.specs.Curve.{curve};
-ghost use Rattle.curves.specs.inner.Segments.{Sampled};
-ghost use Rattle.curves.specs.inner.Columns.{column-values, stored-column, Table, level-points};
-ghost use Rattle.curves.specs.Limits.{max-seam, max-cells};
+ghost use Rattle.curves.specs.inner.Curves.{lent-curve};
+ghost use Rattle.curves.specs.inner.Columns.{column-values, stored-column, Table, level-points, ColumnsGiven, LevelRoom};
 use crate::boundary::Ends;
 use crate::patch::Column;
 use crate::patch::Row;
@@ -71,9 +69,11 @@ pub(crate) fn fill_columns(
     hints: &mut [usize; 4],
     table: &mut [f64],
 )
-    requires { ⌜ Sampled (now bottom) (now lengths0) × Sampled (now top) (now lengths2) ⌝ }
-    requires { ⌜ (length (now seam) ≤ max-seam) × (9 * length (now seam) ≤ length (now table)) ⌝ }
-    ensures { λ _. ⌜ Table (curve (now (bottom .entry)) (now (lengths0 .entry))) (curve (now (top .entry)) (now (lengths2 .entry))) b t (now (seam .entry)) (length (now (seam .entry))) (now (table .exit)) ⌝ }
+    requires { ⌜ ColumnsGiven (lent-curve bottom lengths0) (lent-curve top lengths2) (now seam) (now table) ⌝ }
+    ensures { λ _.
+        let on-bottom = lent-curve (bottom .entry) (lengths0 .entry) in
+        let on-top = lent-curve (top .entry) (lengths2 .entry) in
+        ⌜ Table on-bottom on-top b t (now (seam .entry)) (length (now (seam .entry))) (now (table .exit)) ⌝ }
 {
     let mut i = 0usize;
     let mut from = 0usize;
@@ -89,7 +89,7 @@ pub(crate) fn fill_columns(
 
 // The n + 1 points of a level line: those of the table's columns on the row of the patch at v.
 pub(crate) fn level_points(table: &[f64], row: Row, v: f64, n: usize, points: &mut [f64])
-    requires { ⌜ (n ≤ max-cells) × (9 * (n + 1) ≤ length (now table)) × (2 * (n + 1) ≤ length (now points)) ⌝ }
+    requires { ⌜ LevelRoom n (now table) (now points) ⌝ }
     ensures { λ _. ⌜ now (points .exit) ≡ splice (now (points .entry)) 0 (level-points (now (table .entry)) row v n) ⌝ }
 {
     let mut i = 0usize;

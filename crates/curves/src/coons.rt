@@ -1,16 +1,12 @@
 // The public functions of the grid: tests in their order, then the grid. specs/Coons.antt defines what each answers and leaves.
 ghost use mathlib.Core.Path.{_≡_};
 ghost use mathlib.Core.Bool.{true};
-ghost use Prim.Native.Nat.{_*_, _≤_, _<_};
-ghost use lib.ListN.{length};
 ghost use Rattle.base.specs.Refusal.{outcome};
-ghost use Rattle.curves.specs.Curve.{curve};
-ghost use Rattle.curves.specs.inner.Segments.{Sampled};
-ghost use Rattle.curves.specs.Boundary.{boundary, curve-ends};
 ghost use Rattle.curves.specs.Grid.{seams};
-ghost use Rattle.curves.specs.Coons.{outcome-of, grid-stage, patch, seam-limit, seams-limit, curve-limit, curves-limit, cells-limit, coons-from-parameters, coons-seamed, coons-curves, coons-quads, coons-nodes};
-ghost use Rattle.curves.specs.Limits.{max-curve, max-seam};
-ghost use Rattle.curves.specs.inner.Small.{small-curve, small-seam};
+ghost use Rattle.curves.specs.Coons.{outcome-of, grid-stage, patch, seam-limit, seams-limit, curve-limit, curves-limit, cells-limit};
+ghost use Rattle.curves.specs.Coons.{coons-from-parameters, coons-seamed, coons-curves, coons-quads, coons-nodes};
+ghost use Rattle.curves.specs.inner.Curves.{lent, lent-curves};
+ghost use Rattle.curves.specs.inner.Grids.{lent-seams, StageGiven, TileGiven, TileShort, SmallTile, SmallGiven};
 use crate::boundary::BoundaryAnswer;
 use crate::boundary::Ends;
 use crate::boundary::checked_curves;
@@ -75,7 +71,7 @@ fn check_seam_limit(values: &[f64]) -> Check
 }
 
 fn check_seam_limits(bottom: &[f64], top: &[f64], left: &[f64], right: &[f64]) -> Check
-    ensures { λ r. ⌜ outcome r ≡ seams-limit (seams (now (bottom .entry)) (now (top .entry)) (now (left .entry)) (now (right .entry))) ⌝ }
+    ensures { λ r. ⌜ outcome r ≡ seams-limit (lent-seams (bottom .entry) (top .entry) (left .entry) (right .entry)) ⌝ }
 {
     let of_bottom = check_seam_limit(bottom);
     let of_top = check_seam_limit(top);
@@ -128,12 +124,14 @@ fn grid_stage(
     high: &mut [f64],
     out: &mut [f64],
 ) -> GridAnswer
-    requires { ⌜ Sampled (now bottom) (now lengths0) × Sampled (now top) (now lengths2) ⌝ }
-    requires { ⌜ Sampled (now right) (now lengths1) × Sampled (now left) (now lengths3) ⌝ }
-    requires { ⌜ (b ≡ curve-ends (curve (now bottom) (now lengths0))) × (t ≡ curve-ends (curve (now top) (now lengths2))) ⌝ }
-    requires { ⌜ (length (now «bottom_u») ≤ max-seam) × (length (now «top_u») ≤ max-seam) × (length (now «left_v») ≤ max-seam) × (length (now «right_v») ≤ max-seam) ⌝ }
-    requires { ⌜ (9 * length (now «bottom_u») ≤ length (now table)) × (2 * length (now «bottom_u») ≤ length (now low)) × (2 * length (now «bottom_u») ≤ length (now high)) ⌝ }
-    ensures { λ r. ⌜ outcome-of r (now (out .exit)) ≡ grid-stage layout (boundary (curve (now (bottom .entry)) (now (lengths0 .entry))) (curve (now (right .entry)) (now (lengths1 .entry))) (curve (now (top .entry)) (now (lengths2 .entry))) (curve (now (left .entry)) (now (lengths3 .entry)))) (seams (now («bottom_u» .entry)) (now («top_u» .entry)) (now («left_v» .entry)) (now («right_v» .entry))) (now (out .entry)) ⌝ }
+    requires { let c = lent-curves bottom lengths0 right lengths1 top lengths2 left lengths3 in
+        let s = lent-seams «bottom_u» «top_u» «left_v» «right_v» in
+        ⌜ StageGiven c b t s (now table) (now low) (now high) ⌝ }
+    ensures { λ r.
+        let c = lent-curves (bottom .entry) (lengths0 .entry) (right .entry) (lengths1 .entry)
+        (top .entry) (lengths2 .entry) (left .entry) (lengths3 .entry) in
+        let s = lent-seams («bottom_u» .entry) («top_u» .entry) («left_v» .entry) («right_v» .entry) in
+        ⌜ outcome-of r (now (out .exit)) ≡ grid-stage layout c s (now (out .entry)) ⌝ }
 {
     if let Check::Refused(cause) = check_seams(bottom_u, top_u, left_v, right_v) {
         return GridAnswer::Refused(cause);
@@ -191,10 +189,13 @@ fn patch_in(
     high: &mut [f64],
     out: &mut [f64],
 ) -> GridAnswer
-    requires { ⌜ (length (now bottom) ≤ 2 * length (now lengths0)) × (length (now right) ≤ 2 * length (now lengths1)) × (length (now top) ≤ 2 * length (now lengths2)) × (length (now left) ≤ 2 * length (now lengths3)) ⌝ }
-    requires { ⌜ (length (now «bottom_u») ≤ max-seam) × (length (now «top_u») ≤ max-seam) × (length (now «left_v») ≤ max-seam) × (length (now «right_v») ≤ max-seam) ⌝ }
-    requires { ⌜ (9 * length (now «bottom_u») ≤ length (now table)) × (2 * length (now «bottom_u») ≤ length (now low)) × (2 * length (now «bottom_u») ≤ length (now high)) ⌝ }
-    ensures { λ r. ⌜ outcome-of r (now (out .exit)) ≡ patch layout (now (bottom .entry)) (now (right .entry)) (now (top .entry)) (now (left .entry)) (seams (now («bottom_u» .entry)) (now («top_u» .entry)) (now («left_v» .entry)) (now («right_v» .entry))) (now (out .entry)) ⌝ }
+    requires { let s = lent-seams «bottom_u» «top_u» «left_v» «right_v» in
+        ⌜ TileGiven (lent bottom right top left) (lent lengths0 lengths1 lengths2 lengths3) s (now table) (now low) (now high) ⌝ }
+    ensures { λ r.
+        let s = lent-seams («bottom_u» .entry) («top_u» .entry) («left_v» .entry) («right_v» .entry) in
+        ⌜
+        outcome-of r (now (out .exit)) ≡ patch layout
+        (now (bottom .entry)) (now (right .entry)) (now (top .entry)) (now (left .entry)) s (now (out .entry)) ⌝ }
 {
     let joined = checked_curves(
         bottom,
@@ -251,9 +252,12 @@ fn small_patch(
     layout: Layout,
     out: &mut [f64],
 ) -> GridAnswer
-    requires { ⌜ (length (now bottom) ≤ small-curve) × (length (now right) ≤ small-curve) × (length (now top) ≤ small-curve) × (length (now left) ≤ small-curve) ⌝ }
-    requires { ⌜ (length (now «bottom_u») ≤ small-seam) × (length (now «top_u») ≤ max-seam) × (length (now «left_v») ≤ max-seam) × (length (now «right_v») ≤ max-seam) ⌝ }
-    ensures { λ r. ⌜ outcome-of r (now (out .exit)) ≡ patch layout (now (bottom .entry)) (now (right .entry)) (now (top .entry)) (now (left .entry)) (seams (now («bottom_u» .entry)) (now («top_u» .entry)) (now («left_v» .entry)) (now («right_v» .entry))) (now (out .entry)) ⌝ }
+    requires { ⌜ SmallGiven (lent bottom right top left) (lent-seams «bottom_u» «top_u» «left_v» «right_v») ⌝ }
+    ensures { λ r.
+        let s = lent-seams («bottom_u» .entry) («top_u» .entry) («left_v» .entry) («right_v» .entry) in
+        ⌜
+        outcome-of r (now (out .exit)) ≡ patch layout
+        (now (bottom .entry)) (now (right .entry)) (now (top .entry)) (now (left .entry)) s (now (out .entry)) ⌝ }
 {
     let mut lengths0 = [0.0; SMALL_POINTS];
     let mut lengths1 = [0.0; SMALL_POINTS];
@@ -296,9 +300,12 @@ fn large_patch(
     layout: Layout,
     out: &mut [f64],
 ) -> GridAnswer
-    requires { ⌜ (length (now bottom) ≤ max-curve) × (length (now right) ≤ max-curve) × (length (now top) ≤ max-curve) × (length (now left) ≤ max-curve) ⌝ }
-    requires { ⌜ (length (now «bottom_u») ≤ max-seam) × (length (now «top_u») ≤ max-seam) × (length (now «left_v») ≤ max-seam) × (length (now «right_v») ≤ max-seam) ⌝ }
-    ensures { λ r. ⌜ outcome-of r (now (out .exit)) ≡ patch layout (now (bottom .entry)) (now (right .entry)) (now (top .entry)) (now (left .entry)) (seams (now («bottom_u» .entry)) (now («top_u» .entry)) (now («left_v» .entry)) (now («right_v» .entry))) (now (out .entry)) ⌝ }
+    requires { ⌜ TileShort (lent bottom right top left) (lent-seams «bottom_u» «top_u» «left_v» «right_v») ⌝ }
+    ensures { λ r.
+        let s = lent-seams («bottom_u» .entry) («top_u» .entry) («left_v» .entry) («right_v» .entry) in
+        ⌜
+        outcome-of r (now (out .exit)) ≡ patch layout
+        (now (bottom .entry)) (now (right .entry)) (now (top .entry)) (now (left .entry)) s (now (out .entry)) ⌝ }
 {
     let mut lengths0 = [0.0; MAX_POINTS];
     let mut lengths1 = [0.0; MAX_POINTS];
@@ -329,7 +336,9 @@ fn large_patch(
 }
 
 fn is_small(bottom: &[f64], right: &[f64], top: &[f64], left: &[f64], bottom_u: &[f64]) -> bool
-    ensures { λ r. ⌜ (r ≡ true → (length (now (bottom .entry)) ≤ small-curve) × (length (now (right .entry)) ≤ small-curve) × (length (now (top .entry)) ≤ small-curve) × (length (now (left .entry)) ≤ small-curve) × (length (now («bottom_u» .entry)) ≤ small-seam)) ⌝ }
+    ensures { λ r.
+        let points = lent (bottom .entry) (right .entry) (top .entry) (left .entry) in
+        ⌜ (r ≡ true → SmallTile points (now («bottom_u» .entry))) ⌝ }
 {
     if bottom.len() > SMALL_CURVE {
         return false;
@@ -358,9 +367,12 @@ fn make_patch(
     layout: Layout,
     out: &mut [f64],
 ) -> GridAnswer
-    requires { ⌜ (length (now bottom) ≤ max-curve) × (length (now right) ≤ max-curve) × (length (now top) ≤ max-curve) × (length (now left) ≤ max-curve) ⌝ }
-    requires { ⌜ (length (now «bottom_u») ≤ max-seam) × (length (now «top_u») ≤ max-seam) × (length (now «left_v») ≤ max-seam) × (length (now «right_v») ≤ max-seam) ⌝ }
-    ensures { λ r. ⌜ outcome-of r (now (out .exit)) ≡ patch layout (now (bottom .entry)) (now (right .entry)) (now (top .entry)) (now (left .entry)) (seams (now («bottom_u» .entry)) (now («top_u» .entry)) (now («left_v» .entry)) (now («right_v» .entry))) (now (out .entry)) ⌝ }
+    requires { ⌜ TileShort (lent bottom right top left) (lent-seams «bottom_u» «top_u» «left_v» «right_v») ⌝ }
+    ensures { λ r.
+        let s = lent-seams («bottom_u» .entry) («top_u» .entry) («left_v» .entry) («right_v» .entry) in
+        ⌜
+        outcome-of r (now (out .exit)) ≡ patch layout
+        (now (bottom .entry)) (now (right .entry)) (now (top .entry)) (now (left .entry)) s (now (out .entry)) ⌝ }
 {
     let small = is_small(bottom, right, top, left, bottom_u);
     if small {
@@ -404,7 +416,11 @@ fn from_parameters(
     layout: Layout,
     out: &mut [f64],
 ) -> GridAnswer
-    ensures { λ r. ⌜ outcome-of r (now (out .exit)) ≡ coons-from-parameters layout (now (bottom .entry)) (now (right .entry)) (now (top .entry)) (now (left .entry)) (seams (now («bottom_u» .entry)) (now («top_u» .entry)) (now («left_v» .entry)) (now («right_v» .entry))) (now (out .entry)) ⌝ }
+    ensures { λ r.
+        let s = lent-seams («bottom_u» .entry) («top_u» .entry) («left_v» .entry) («right_v» .entry) in
+        ⌜
+        outcome-of r (now (out .exit)) ≡ coons-from-parameters layout
+        (now (bottom .entry)) (now (right .entry)) (now (top .entry)) (now (left .entry)) s (now (out .entry)) ⌝ }
 {
     let of_curves = check_curve_limits(bottom, right, top, left);
     let of_seams = check_seam_limits(bottom_u, top_u, left_v, right_v);
@@ -436,7 +452,11 @@ fn from_even_parameters(
     layout: Layout,
     out: &mut [f64],
 ) -> GridAnswer
-    ensures { λ r. ⌜ outcome-of r (now (out .exit)) ≡ coons-from-parameters layout (now (bottom .entry)) (now (right .entry)) (now (top .entry)) (now (left .entry)) (seams (now (us .entry)) (now (us .entry)) (now (vs .entry)) (now (vs .entry))) (now (out .entry)) ⌝ }
+    ensures { λ r.
+        let s = lent-seams (us .entry) (us .entry) (vs .entry) (vs .entry) in
+        ⌜
+        outcome-of r (now (out .exit)) ≡ coons-from-parameters layout
+        (now (bottom .entry)) (now (right .entry)) (now (top .entry)) (now (left .entry)) s (now (out .entry)) ⌝ }
 {
     from_parameters(bottom, right, top, left, us, us, vs, vs, layout, out)
 }
@@ -452,7 +472,10 @@ fn from_cells(
     layout: Layout,
     out: &mut [f64],
 ) -> GridAnswer
-    ensures { λ r. ⌜ outcome-of r (now (out .exit)) ≡ coons-curves layout (now (bottom .entry)) (now (right .entry)) (now (top .entry)) (now (left .entry)) «n_u» «n_v» (now (out .entry)) ⌝ }
+    ensures { λ r.
+        ⌜
+        outcome-of r (now (out .exit)) ≡ coons-curves layout (now (bottom .entry)) (now (right .entry))
+        (now (top .entry)) (now (left .entry)) «n_u» «n_v» (now (out .entry)) ⌝ }
 {
     let of_curves = check_curve_limits(bottom, right, top, left);
     let of_cells = check_cell_limits(n_u, n_v);
@@ -489,7 +512,11 @@ pub fn coons_from_parameters(
     right_v: &[f64],
     out: &mut [f64],
 ) -> GridAnswer
-    ensures { λ r. ⌜ outcome-of r (now (out .exit)) ≡ coons-seamed (now (bottom .entry)) (now (right .entry)) (now (top .entry)) (now (left .entry)) (seams (now («bottom_u» .entry)) (now («top_u» .entry)) (now («left_v» .entry)) (now («right_v» .entry))) (now (out .entry)) ⌝ }
+    ensures { λ r.
+        let s = seams (now («bottom_u» .entry)) (now («top_u» .entry)) (now («left_v» .entry)) (now («right_v» .entry)) in
+        ⌜
+        outcome-of r (now (out .exit)) ≡ coons-seamed
+        (now (bottom .entry)) (now (right .entry)) (now (top .entry)) (now (left .entry)) s (now (out .entry)) ⌝ }
 {
     from_parameters(
         bottom,
@@ -515,7 +542,10 @@ pub fn coons_curves(
     n_v: u32,
     out: &mut [f64],
 ) -> GridAnswer
-    ensures { λ r. ⌜ outcome-of r (now (out .exit)) ≡ coons-quads (now (bottom .entry)) (now (right .entry)) (now (top .entry)) (now (left .entry)) «n_u» «n_v» (now (out .entry)) ⌝ }
+    ensures { λ r.
+        ⌜
+        outcome-of r (now (out .exit)) ≡ coons-quads (now (bottom .entry)) (now (right .entry))
+        (now (top .entry)) (now (left .entry)) «n_u» «n_v» (now (out .entry)) ⌝ }
 {
     from_cells(bottom, right, top, left, n_u, n_v, Layout::Quads, out)
 }
@@ -530,7 +560,10 @@ pub fn coons_nodes(
     n_v: u32,
     out: &mut [f64],
 ) -> GridAnswer
-    ensures { λ r. ⌜ outcome-of r (now (out .exit)) ≡ coons-nodes (now (bottom .entry)) (now (right .entry)) (now (top .entry)) (now (left .entry)) «n_u» «n_v» (now (out .entry)) ⌝ }
+    ensures { λ r.
+        ⌜
+        outcome-of r (now (out .exit)) ≡ coons-nodes (now (bottom .entry)) (now (right .entry))
+        (now (top .entry)) (now (left .entry)) «n_u» «n_v» (now (out .entry)) ⌝ }
 {
     from_cells(bottom, right, top, left, n_u, n_v, Layout::Nodes, out)
 }

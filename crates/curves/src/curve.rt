@@ -4,11 +4,11 @@ ghost use mathlib.Core.Path.{_≡_};
 ghost use mathlib.Core.Bool.{true};
 ghost use Prim.Native.Nat.{_+_, _*_, _<_, _≤_};
 ghost use lib.ListN.{length};
-ghost use lib.Dec.{T};
-ghost use Rattle.base.specs.Refusal.{outcome, is-passed};
+ghost use Rattle.base.specs.Refusal.{outcome};
 ghost use Rattle.base.specs.Buffers.{splice};
-ghost use Rattle.curves.specs.Curve.{point-count, point-at, distance, total-length, curve, cumulative-of, knot, toward, span, fraction, blend, segment-at, curve-at, all-finite, total-test, curve-test};
-ghost use Rattle.curves.specs.inner.Segments.{Sampled, Rising, InSegment};
+ghost use Rattle.curves.specs.Curve.{point-count, point-at, distance, total-length, curve, cumulative-of, knot, toward, span};
+ghost use Rattle.curves.specs.Curve.{fraction, blend, segment-at, curve-at, all-finite, total-test};
+ghost use Rattle.curves.specs.inner.Segments.{Lengths, Sampled, InSegment, Measured};
 use crate::point::Point;
 use base::refusal::Check;
 use base::refusal::Refusal;
@@ -133,8 +133,8 @@ fn check_total(total: f64, side: u32) -> Check
 // Tests the curve of a side (13 to 15), and writes its table of lengths.
 pub(crate) fn new_curve(points: &[f64], side: u32, cumulative: &mut [f64]) -> Check
     requires { ⌜ point-count (now points) ≤ length (now cumulative) ⌝ }
-    ensures { λ r. ⌜ outcome r ≡ curve-test (now (points .entry)) side ⌝ }
-    ensures { λ r. ⌜ (T (is-passed (outcome r)) → now (cumulative .exit) ≡ splice (now (cumulative .entry)) 0 (cumulative-of (now (points .entry)))) ⌝ }
+    ensures { λ r.
+        ⌜ Measured (now (points .entry)) side (now (cumulative .entry)) (now (cumulative .exit)) (outcome r) ⌝ }
 {
     if points.len() / 2 < 2 {
         return Check::Refused(Refusal::CurveTooShort(side));
@@ -183,8 +183,7 @@ fn in_segment(lengths: &[f64], k: usize, target: f64) -> bool
 
 // The same segment, looked for at the hint `near` and on either side of it before halving: along a seam the next target lies close by.
 fn segment_near(lengths: &[f64], target: f64, near: usize) -> usize
-    requires { ⌜ 2 ≤ length (now lengths) ⌝ }
-    requires { ⌜ Rising (now lengths) ⌝ }
+    requires { ⌜ Lengths (now lengths) ⌝ }
     ensures { λ r. ⌜ r ≡ segment-at (now (lengths .entry)) target ⌝ }
     ensures { λ r. ⌜ r + 1 < length (now (lengths .entry)) ⌝ }
 {
@@ -229,7 +228,7 @@ pub(crate) struct Located {
 
 // The point at the fraction t of the curve's length, t clamped to 0..1. A good hint `near` spares the halving.
 pub(crate) fn curve_near(points: &[f64], cumulative: &[f64], t: f64, near: usize) -> Located
-    requires { ⌜ Sampled (now points) (now cumulative) ⌝ }
+    requires { ⌜ Sampled (curve (now points) (now cumulative)) ⌝ }
     ensures { λ r. ⌜ r .point ≡ curve-at (curve (now (points .entry)) (now (cumulative .entry))) t ⌝ }
 {
     let clamped = clamp_unit(t);
@@ -246,7 +245,7 @@ pub(crate) fn curve_near(points: &[f64], cumulative: &[f64], t: f64, near: usize
 
 // The same without a hint.
 pub(crate) fn curve_at(points: &[f64], cumulative: &[f64], t: f64) -> Point
-    requires { ⌜ Sampled (now points) (now cumulative) ⌝ }
+    requires { ⌜ Sampled (curve (now points) (now cumulative)) ⌝ }
     ensures { λ r. ⌜ r ≡ curve-at (curve (now (points .entry)) (now (cumulative .entry))) t ⌝ }
 {
     let located = curve_near(points, cumulative, t, 0);

@@ -1,21 +1,13 @@
 // The grid of a patch: its points row by row, the tests of its points and quads (23 to 25), and what is written of it.
 ghost use mathlib.Core.Path.{_≡_};
-ghost use mathlib.Core.Bool.{true, cond};
-ghost use Prim.Native.Nat.{_+_, _*_, _≤_};
-ghost use lib.Dec.{T};
-ghost use lib.ListN.{length};
+ghost use mathlib.Core.Bool.{cond};
 ghost use Rattle.base.specs.Refusal.{outcome, is-passed};
 ghost use Rattle.base.specs.Buffers.{splice};
-ghost use Rattle.curves.specs.Curve.{curve};
-ghost use Rattle.curves.specs.inner.Segments.{Sampled};
-ghost use Rattle.curves.specs.Boundary.{boundary, curve-ends};
-ghost use Rattle.curves.specs.inner.Columns.{Table};
-ghost use Rattle.curves.specs.inner.Level.{Upright};
-ghost use Rattle.curves.specs.Grid.{crossings, row-of, row-points, row-test, seams, n-u, n-v, grid-of, grid-test, needed};
+ghost use Rattle.curves.specs.Grid.{crossings, row-of, n-u, n-v, grid-of, needed};
 ghost use Rattle.curves.specs.Quad.{zeros};
-ghost use Rattle.curves.specs.inner.Rows.{mapped-points, Laid};
-ghost use Rattle.curves.specs.Coons.{filled};
-ghost use Rattle.curves.specs.Limits.{max-seam, max-cells};
+ghost use Rattle.curves.specs.inner.Curves.{lent-curves};
+ghost use Rattle.curves.specs.inner.Rows.{mapped-points, RowFilled, Laid};
+ghost use Rattle.curves.specs.inner.Grids.{lent-seams, RowGiven, PairsGiven, PointsGiven, RowsGiven, CellsRoom, GridGiven, Gridded};
 use crate::boundary::Ends;
 use crate::columns::fill_columns;
 use crate::columns::level_points;
@@ -44,9 +36,10 @@ fn fill_crossings(
     j: u32,
     row: &mut [f64],
 ) -> Check
-    requires { ⌜ (n ≤ max-cells) × (n + 1 ≤ length (now seam0)) × (n + 1 ≤ length (now seam2)) × (2 * (n + 1) ≤ length (now row)) ⌝ }
-    ensures { λ r. ⌜ outcome r ≡ row-test (crossings (now (seam0 .entry)) (now (seam2 .entry)) v0 v1 j) n ⌝ }
-    ensures { λ r. ⌜ (T (is-passed (outcome r)) → now (row .exit) ≡ splice (now (row .entry)) 0 (row-points (crossings (now (seam0 .entry)) (now (seam2 .entry)) v0 v1 j) n)) ⌝ }
+    requires { ⌜ RowGiven n (now seam0) (now seam2) (now row) ⌝ }
+    ensures { λ r.
+        let f = crossings (now (seam0 .entry)) (now (seam2 .entry)) v0 v1 j in
+        ⌜ RowFilled f n (now (row .entry)) (now (row .exit)) (outcome r) ⌝ }
 {
     let mut i = 0usize;
     let mut k = 0usize;
@@ -86,11 +79,12 @@ fn map_points(
     n: usize,
     row: &mut [f64],
 )
-    requires { ⌜ Sampled (now bottom) (now lengths0) × Sampled (now top) (now lengths2) ⌝ }
-    requires { ⌜ Sampled (now right) (now lengths1) × Sampled (now left) (now lengths3) ⌝ }
-    requires { ⌜ (b ≡ curve-ends (curve (now bottom) (now lengths0))) × (t ≡ curve-ends (curve (now top) (now lengths2))) ⌝ }
-    requires { ⌜ (n ≤ max-cells) × (2 * (n + 1) ≤ length (now row)) ⌝ }
-    ensures { λ _. ⌜ now (row .exit) ≡ splice (now (row .entry)) 0 (mapped-points (boundary (curve (now (bottom .entry)) (now (lengths0 .entry))) (curve (now (right .entry)) (now (lengths1 .entry))) (curve (now (top .entry)) (now (lengths2 .entry))) (curve (now (left .entry)) (now (lengths3 .entry)))) (now (row .entry)) n) ⌝ }
+    requires { let c = lent-curves bottom lengths0 right lengths1 top lengths2 left lengths3 in
+        ⌜ PairsGiven c b t n (now row) ⌝ }
+    ensures { λ _.
+        let c = lent-curves (bottom .entry) (lengths0 .entry) (right .entry) (lengths1 .entry)
+        (top .entry) (lengths2 .entry) (left .entry) (lengths3 .entry) in
+        ⌜ now (row .exit) ≡ splice (now (row .entry)) 0 (mapped-points c (now (row .entry)) n) ⌝ }
 {
     let mut i = 0usize;
     let mut k = 0usize;
@@ -131,14 +125,13 @@ fn fill_row(
     j: usize,
     row: &mut [f64],
 ) -> Check
-    requires { ⌜ Sampled (now bottom) (now lengths0) × Sampled (now top) (now lengths2) ⌝ }
-    requires { ⌜ Sampled (now right) (now lengths1) × Sampled (now left) (now lengths3) ⌝ }
-    requires { ⌜ (b ≡ curve-ends (curve (now bottom) (now lengths0))) × (t ≡ curve-ends (curve (now top) (now lengths2))) ⌝ }
-    requires { ⌜ Table (curve (now bottom) (now lengths0)) (curve (now top) (now lengths2)) b t (now seam0) (n + 1) (now table) ⌝ }
-    requires { ⌜ (upright ≡ true → Upright (now seam0) (now seam2)) ⌝ }
-    requires { ⌜ (n ≤ max-cells) × (j ≤ max-cells) × (n + 1 ≤ length (now seam0)) × (n + 1 ≤ length (now seam2)) × (2 * (n + 1) ≤ length (now row)) ⌝ }
-    ensures { λ r. ⌜ outcome r ≡ row-test (row-of (boundary (curve (now (bottom .entry)) (now (lengths0 .entry))) (curve (now (right .entry)) (now (lengths1 .entry))) (curve (now (top .entry)) (now (lengths2 .entry))) (curve (now (left .entry)) (now (lengths3 .entry)))) (now (seam0 .entry)) (now (seam2 .entry)) v0 v1 j) n ⌝ }
-    ensures { λ r. ⌜ (T (is-passed (outcome r)) → now (row .exit) ≡ splice (now (row .entry)) 0 (row-points (row-of (boundary (curve (now (bottom .entry)) (now (lengths0 .entry))) (curve (now (right .entry)) (now (lengths1 .entry))) (curve (now (top .entry)) (now (lengths2 .entry))) (curve (now (left .entry)) (now (lengths3 .entry)))) (now (seam0 .entry)) (now (seam2 .entry)) v0 v1 j) n)) ⌝ }
+    requires { let c = lent-curves bottom lengths0 right lengths1 top lengths2 left lengths3 in
+        ⌜ PointsGiven c b t (now table) upright (now seam0) (now seam2) n j (now row) ⌝ }
+    ensures { λ r.
+        let c = lent-curves (bottom .entry) (lengths0 .entry) (right .entry) (lengths1 .entry)
+        (top .entry) (lengths2 .entry) (left .entry) (lengths3 .entry) in
+        let f = row-of c (now (seam0 .entry)) (now (seam2 .entry)) v0 v1 j in
+        ⌜ RowFilled f n (now (row .entry)) (now (row .exit)) (outcome r) ⌝ }
 {
     if upright {
         let level = is_straight(v0, v1);
@@ -195,16 +188,14 @@ fn grid_rows(
     high: &mut [f64],
     out: &mut [f64],
 ) -> Check
-    requires { ⌜ Sampled (now bottom) (now lengths0) × Sampled (now top) (now lengths2) ⌝ }
-    requires { ⌜ Sampled (now right) (now lengths1) × Sampled (now left) (now lengths3) ⌝ }
-    requires { ⌜ Table (curve (now bottom) (now lengths0)) (curve (now top) (now lengths2)) b t (now «bottom_u») (length (now «bottom_u»)) (now table) ⌝ }
-    requires { ⌜ (upright ≡ true → Upright (now «bottom_u») (now «top_u»)) ⌝ }
-    requires { ⌜ (b ≡ curve-ends (curve (now bottom) (now lengths0))) × (t ≡ curve-ends (curve (now top) (now lengths2))) ⌝ }
-    requires { ⌜ (2 ≤ length (now «bottom_u»)) × (length (now «bottom_u») ≤ max-seam) × (length (now «bottom_u») ≡ length (now «top_u»)) × (2 ≤ length (now «left_v»)) × (length (now «left_v») ≤ max-seam) × (length (now «left_v») ≡ length (now «right_v»)) ⌝ }
-    requires { ⌜ (2 * length (now «bottom_u») ≤ length (now low)) × (2 * length (now «bottom_u») ≤ length (now high)) ⌝ }
-    requires { ⌜ needed layout (n-u (seams (now «bottom_u») (now «top_u») (now «left_v») (now «right_v»))) (n-v (seams (now «bottom_u») (now «top_u») (now «left_v») (now «right_v»))) ≤ length (now out) ⌝ }
-    ensures { λ r. ⌜ outcome r ≡ grid-test (grid-of (boundary (curve (now (bottom .entry)) (now (lengths0 .entry))) (curve (now (right .entry)) (now (lengths1 .entry))) (curve (now (top .entry)) (now (lengths2 .entry))) (curve (now (left .entry)) (now (lengths3 .entry)))) (seams (now («bottom_u» .entry)) (now («top_u» .entry)) (now («left_v» .entry)) (now («right_v» .entry)))) (n-u (seams (now («bottom_u» .entry)) (now («top_u» .entry)) (now («left_v» .entry)) (now («right_v» .entry)))) (n-v (seams (now («bottom_u» .entry)) (now («top_u» .entry)) (now («left_v» .entry)) (now («right_v» .entry)))) ⌝ }
-    ensures { λ r. ⌜ Laid layout (grid-of (boundary (curve (now (bottom .entry)) (now (lengths0 .entry))) (curve (now (right .entry)) (now (lengths1 .entry))) (curve (now (top .entry)) (now (lengths2 .entry))) (curve (now (left .entry)) (now (lengths3 .entry)))) (seams (now («bottom_u» .entry)) (now («top_u» .entry)) (now («left_v» .entry)) (now («right_v» .entry)))) (n-u (seams (now («bottom_u» .entry)) (now («top_u» .entry)) (now («left_v» .entry)) (now («right_v» .entry)))) (n-v (seams (now («bottom_u» .entry)) (now («top_u» .entry)) (now («left_v» .entry)) (now («right_v» .entry)))) (now (out .entry)) (now (out .exit)) (outcome r) ⌝ }
+    requires { let c = lent-curves bottom lengths0 right lengths1 top lengths2 left lengths3 in
+        let s = lent-seams «bottom_u» «top_u» «left_v» «right_v» in
+        ⌜ RowsGiven c b t s layout (now table) upright (now low) (now high) (now out) ⌝ }
+    ensures { λ r.
+        let c = lent-curves (bottom .entry) (lengths0 .entry) (right .entry) (lengths1 .entry)
+        (top .entry) (lengths2 .entry) (left .entry) (lengths3 .entry) in
+        let s = lent-seams («bottom_u» .entry) («top_u» .entry) («left_v» .entry) («right_v» .entry) in
+        ⌜ Laid layout (grid-of c s) (n-u s) (n-v s) (now (out .entry)) (now (out .exit)) (outcome r) ⌝ }
 {
     let n = bottom_u.len() - 1;
     let m = left_v.len() - 1;
@@ -253,8 +244,10 @@ fn grid_rows(
 
 // Where the grid of n by m cells is refused, the needed output is cleared.
 fn clear_refused(answer: Check, layout: Layout, n: usize, m: usize, out: &mut [f64])
-    requires { ⌜ (n ≤ max-cells) × (m ≤ max-cells) × (needed layout n m ≤ length (now out)) ⌝ }
-    ensures { λ _. ⌜ now (out .exit) ≡ cond (is-passed (outcome answer)) (now (out .entry)) (splice (now (out .entry)) 0 (zeros (needed layout n m))) ⌝ }
+    requires { ⌜ CellsRoom layout n m (now out) ⌝ }
+    ensures { λ _.
+        let cleared = splice (now (out .entry)) 0 (zeros (needed layout n m)) in
+        ⌜ now (out .exit) ≡ cond (is-passed (outcome answer)) (now (out .entry)) cleared ⌝ }
 {
     if let Check::Passed = answer {
         return;
@@ -286,14 +279,14 @@ pub(crate) fn coons_grid(
     high: &mut [f64],
     out: &mut [f64],
 ) -> Check
-    requires { ⌜ Sampled (now bottom) (now lengths0) × Sampled (now top) (now lengths2) ⌝ }
-    requires { ⌜ Sampled (now right) (now lengths1) × Sampled (now left) (now lengths3) ⌝ }
-    requires { ⌜ (b ≡ curve-ends (curve (now bottom) (now lengths0))) × (t ≡ curve-ends (curve (now top) (now lengths2))) ⌝ }
-    requires { ⌜ (2 ≤ length (now «bottom_u»)) × (length (now «bottom_u») ≤ max-seam) × (length (now «bottom_u») ≡ length (now «top_u»)) × (2 ≤ length (now «left_v»)) × (length (now «left_v») ≤ max-seam) × (length (now «left_v») ≡ length (now «right_v»)) ⌝ }
-    requires { ⌜ (9 * length (now «bottom_u») ≤ length (now table)) × (2 * length (now «bottom_u») ≤ length (now low)) × (2 * length (now «bottom_u») ≤ length (now high)) ⌝ }
-    requires { ⌜ needed layout (n-u (seams (now «bottom_u») (now «top_u») (now «left_v») (now «right_v»))) (n-v (seams (now «bottom_u») (now «top_u») (now «left_v») (now «right_v»))) ≤ length (now out) ⌝ }
-    ensures { λ r. ⌜ outcome r ≡ grid-test (grid-of (boundary (curve (now (bottom .entry)) (now (lengths0 .entry))) (curve (now (right .entry)) (now (lengths1 .entry))) (curve (now (top .entry)) (now (lengths2 .entry))) (curve (now (left .entry)) (now (lengths3 .entry)))) (seams (now («bottom_u» .entry)) (now («top_u» .entry)) (now («left_v» .entry)) (now («right_v» .entry)))) (n-u (seams (now («bottom_u» .entry)) (now («top_u» .entry)) (now («left_v» .entry)) (now («right_v» .entry)))) (n-v (seams (now («bottom_u» .entry)) (now («top_u» .entry)) (now («left_v» .entry)) (now («right_v» .entry)))) ⌝ }
-    ensures { λ r. ⌜ now (out .exit) ≡ filled layout (grid-of (boundary (curve (now (bottom .entry)) (now (lengths0 .entry))) (curve (now (right .entry)) (now (lengths1 .entry))) (curve (now (top .entry)) (now (lengths2 .entry))) (curve (now (left .entry)) (now (lengths3 .entry)))) (seams (now («bottom_u» .entry)) (now («top_u» .entry)) (now («left_v» .entry)) (now («right_v» .entry)))) (n-u (seams (now («bottom_u» .entry)) (now («top_u» .entry)) (now («left_v» .entry)) (now («right_v» .entry)))) (n-v (seams (now («bottom_u» .entry)) (now («top_u» .entry)) (now («left_v» .entry)) (now («right_v» .entry)))) (now (out .entry)) .out ⌝ }
+    requires { let c = lent-curves bottom lengths0 right lengths1 top lengths2 left lengths3 in
+        let s = lent-seams «bottom_u» «top_u» «left_v» «right_v» in
+        ⌜ GridGiven c b t s layout (now table) (now low) (now high) (now out) ⌝ }
+    ensures { λ r.
+        let c = lent-curves (bottom .entry) (lengths0 .entry) (right .entry) (lengths1 .entry)
+        (top .entry) (lengths2 .entry) (left .entry) (lengths3 .entry) in
+        let s = lent-seams («bottom_u» .entry) («top_u» .entry) («left_v» .entry) («right_v» .entry) in
+        ⌜ Gridded layout (grid-of c s) (n-u s) (n-v s) (now (out .entry)) (now (out .exit)) (outcome r) ⌝ }
 {
     let upright = are_upright(bottom_u, top_u);
     let mut hints = [0usize; 4];

@@ -1,16 +1,12 @@
 // Lay: the grid of one region, given as just one record, from counts, breaks and curves.
 ghost use mathlib.Core.Path.{_≡_};
 ghost use mathlib.Core.Bool.{false, _||_};
-ghost use Prim.Native.Nat.{ℕ, _*_, _≤_};
-ghost use lib.ListN.{length, take};
-ghost use lib.Dec.{T, ltb};
-ghost use Rattle.base.specs.Lists.{all};
-ghost use Rattle.base.specs.Refusal.{outcome, is-passed, then-test};
-ghost use Rattle.regions.specs.Region.{places, side, side-sum};
-ghost use Rattle.base.specs.Buffers.{splice};
+ghost use lib.Dec.{ltb};
+ghost use Rattle.base.specs.Refusal.{outcome, then-test};
 ghost use Rattle.curves.specs.Coons.{outcome-of};
-ghost use Rattle.curves.specs.Lay.{tile-input, counts-along, seam-of, record-test, edges-test, breaks-test, lay-test, lay};
+ghost use Rattle.curves.specs.Lay.{tile-input, record-test, edges-test, breaks-test, lay-test, lay};
 ghost use Rattle.curves.specs.Limits.{max-seam};
+ghost use Rattle.curves.specs.inner.Lays.{EdgesGiven, Counted, SideGiven, SideLaid, FourShort};
 use crate::coons::GridAnswer;
 use crate::coons::check_curve_limits;
 use crate::coons::coons_from_parameters;
@@ -53,7 +49,9 @@ fn check_edges(region: &[u16], n: usize, k: u32) -> Check
 }
 
 fn check_all_edges(region: &[u16], n: usize) -> Check
-    ensures { λ r. ⌜ outcome r ≡ then-test (edges-test (now (region .entry)) n 0) (then-test (edges-test (now (region .entry)) n 1) (then-test (edges-test (now (region .entry)) n 2) (edges-test (now (region .entry)) n 3))) ⌝ }
+    ensures { λ r.
+        let on = edges-test (now (region .entry)) n in
+        ⌜ outcome r ≡ then-test (on 0) (then-test (on 1) (then-test (on 2) (on 3))) ⌝ }
 {
     let of_bottom = check_edges(region, n, 0);
     let of_right = check_edges(region, n, 1);
@@ -82,7 +80,11 @@ fn check_all_breaks(
     breaks2: &[f64],
     breaks3: &[f64],
 ) -> Check
-    ensures { λ r. ⌜ outcome r ≡ then-test (breaks-test (now (region .entry)) (now (breaks0 .entry)) 0) (then-test (breaks-test (now (region .entry)) (now (breaks1 .entry)) 1) (then-test (breaks-test (now (region .entry)) (now (breaks2 .entry)) 2) (breaks-test (now (region .entry)) (now (breaks3 .entry)) 3))) ⌝ }
+    ensures { λ r.
+        let on = breaks-test (now (region .entry)) in
+        ⌜
+        outcome r ≡ then-test (on (now (breaks0 .entry)) 0) (then-test (on (now (breaks1 .entry)) 1)
+        (then-test (on (now (breaks2 .entry)) 2) (on (now (breaks3 .entry)) 3))) ⌝ }
 {
     let of_bottom = check_breaks(region, breaks0, 0);
     let of_right = check_breaks(region, breaks1, 1);
@@ -106,7 +108,10 @@ fn check_lay(
     top: &[f64],
     left: &[f64],
 ) -> Check
-    ensures { λ r. ⌜ outcome r ≡ lay-test (now (region .entry)) n (tile-input (now (breaks0 .entry)) (now (breaks1 .entry)) (now (breaks2 .entry)) (now (breaks3 .entry)) (now (bottom .entry)) (now (right .entry)) (now (top .entry)) (now (left .entry))) ⌝ }
+    ensures { λ r.
+        let f = tile-input (now (breaks0 .entry)) (now (breaks1 .entry)) (now (breaks2 .entry)) (now (breaks3 .entry))
+        (now (bottom .entry)) (now (right .entry)) (now (top .entry)) (now (left .entry)) in
+        ⌜ outcome r ≡ lay-test (now (region .entry)) n f ⌝ }
 {
     let of_record = check_record(region, n);
     let of_curves = check_curve_limits(bottom, right, top, left);
@@ -119,12 +124,8 @@ fn check_lay(
 
 // Writes the counts of a side's edges, and returns what they add up to. 64 bits hold it: a side has few edges.
 fn counts_along(edges: &[u16], counts: &[u32], out: &mut [u32]) -> usize
-    requires { ⌜ length (now edges) ≤ places ⌝ }
-    requires { ⌜ length (now edges) ≤ length (now out) ⌝ }
-    requires { ⌜ T (all (λ (e : ℕ). ltb e (length (now counts))) (now edges)) ⌝ }
-    ensures { λ r. ⌜ r ≡ side-sum (now (counts .entry)) (now (edges .entry)) ⌝ }
-    ensures { λ r. ⌜ r ≤ places * 4294967295 ⌝ }
-    ensures { λ r. ⌜ now (out .exit) ≡ splice (now (out .entry)) 0 (counts-along (now (counts .entry)) (now (edges .entry))) ⌝ }
+    requires { ⌜ EdgesGiven (now edges) (now counts) (now out) ⌝ }
+    ensures { λ r. ⌜ Counted (now (edges .entry)) (now (counts .entry)) (now (out .entry)) (now (out .exit)) r ⌝ }
 {
     let mut total = 0usize;
     let mut i = 0usize;
@@ -140,12 +141,8 @@ fn counts_along(edges: &[u16], counts: &[u32], out: &mut [u32]) -> usize
 
 // Writes the seam of side k, unless it is too long, and returns how many values it has.
 fn lay_side(region: &[u16], counts: &[u32], k: u32, breaks: &[f64], out: &mut [f64]) -> usize
-    requires { ⌜ length (side places (now region) k) ≤ places ⌝ }
-    requires { ⌜ T (is-passed (edges-test (now region) (length (now counts)) k)) ⌝ }
-    requires { ⌜ T (is-passed (breaks-test (now region) (now breaks) k)) ⌝ }
-    requires { ⌜ max-seam ≤ length (now out) ⌝ }
-    ensures { λ r. ⌜ r ≡ length (seam-of (now (region .entry)) (now (counts .entry)) k (now (breaks .entry))) ⌝ }
-    ensures { λ r. ⌜ (r ≤ max-seam → take r (now (out .exit)) ≡ seam-of (now (region .entry)) (now (counts .entry)) k (now (breaks .entry))) ⌝ }
+    requires { ⌜ SideGiven (now region) (now counts) k (now breaks) (now out) ⌝ }
+    ensures { λ r. ⌜ SideLaid (now (region .entry)) (now (counts .entry)) k (now (breaks .entry)) (now (out .exit)) r ⌝ }
 {
     let edges = side(region, k);
     let mut along = [0u32; MAX_ALONG];
@@ -160,7 +157,7 @@ fn lay_side(region: &[u16], counts: &[u32], k: u32, breaks: &[f64], out: &mut [f
 // Whether a seam has too many values, of the four numbers of them.
 fn any_too_long(bottom: usize, top: usize, left: usize, right: usize) -> bool
     ensures { λ r. ⌜ r ≡ (ltb max-seam bottom || (ltb max-seam top || (ltb max-seam left || ltb max-seam right))) ⌝ }
-    ensures { λ r. ⌜ (r ≡ false → (bottom ≤ max-seam) × (top ≤ max-seam) × (left ≤ max-seam) × (right ≤ max-seam)) ⌝ }
+    ensures { λ r. ⌜ (r ≡ false → FourShort bottom top left right) ⌝ }
 {
     if bottom > MAX_SEAM {
         return true;
@@ -191,7 +188,10 @@ pub fn lay_region(
     left: &[f64],
     out: &mut [f64],
 ) -> GridAnswer
-    ensures { λ r. ⌜ outcome-of r (now (out .exit)) ≡ lay (now (region .entry)) (now (counts .entry)) (tile-input (now (breaks0 .entry)) (now (breaks1 .entry)) (now (breaks2 .entry)) (now (breaks3 .entry)) (now (bottom .entry)) (now (right .entry)) (now (top .entry)) (now (left .entry))) (now (out .entry)) ⌝ }
+    ensures { λ r.
+        let f = tile-input (now (breaks0 .entry)) (now (breaks1 .entry)) (now (breaks2 .entry)) (now (breaks3 .entry))
+        (now (bottom .entry)) (now (right .entry)) (now (top .entry)) (now (left .entry)) in
+        ⌜ outcome-of r (now (out .exit)) ≡ lay (now (region .entry)) (now (counts .entry)) f (now (out .entry)) ⌝ }
 {
     if let Check::Refused(cause) = check_lay(
         region,

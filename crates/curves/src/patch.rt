@@ -1,8 +1,7 @@
 // One point of the Coons patch, split into what u decides (a column), what v decides (a row), and the rest, since the points of a grid
 // share columns and rows.
 ghost use mathlib.Core.Path.{_≡_};
-ghost use Rattle.curves.specs.Curve.{curve};
-ghost use Rattle.curves.specs.inner.Segments.{Sampled};
+ghost use Rattle.curves.specs.inner.Curves.{lent-curve, SampledPair};
 ghost use Rattle.curves.specs.Patch.{lerp2, combined};
 ghost use Rattle.curves.specs.inner.Columns.{column-at, row-at, patch-point};
 use crate::boundary::Ends;
@@ -52,8 +51,9 @@ pub(crate) fn column_at(
     u: f64,
     hints: &mut [usize; 4],
 ) -> Column
-    requires { ⌜ Sampled (now bottom) (now lengths0) × Sampled (now top) (now lengths2) ⌝ }
-    ensures { λ r. ⌜ r ≡ column-at (curve (now (bottom .entry)) (now (lengths0 .entry))) (curve (now (top .entry)) (now (lengths2 .entry))) b t u ⌝ }
+    requires { ⌜ SampledPair (lent-curve bottom lengths0) (lent-curve top lengths2) ⌝ }
+    ensures { λ r.
+        ⌜ r ≡ column-at (lent-curve (bottom .entry) (lengths0 .entry)) (lent-curve (top .entry) (lengths2 .entry)) b t u ⌝ }
 {
     let near_bottom = hints[0];
     let on_bottom = curve_near(bottom, lengths0, u, near_bottom);
@@ -83,8 +83,9 @@ pub(crate) fn row_at(
     v: f64,
     hints: &mut [usize; 4],
 ) -> Row
-    requires { ⌜ Sampled (now right) (now lengths1) × Sampled (now left) (now lengths3) ⌝ }
-    ensures { λ r. ⌜ r ≡ row-at (curve (now (right .entry)) (now (lengths1 .entry))) (curve (now (left .entry)) (now (lengths3 .entry))) v ⌝ }
+    requires { ⌜ SampledPair (lent-curve right lengths1) (lent-curve left lengths3) ⌝ }
+    ensures { λ r.
+        ⌜ r ≡ row-at (lent-curve (right .entry) (lengths1 .entry)) (lent-curve (left .entry) (lengths3 .entry)) v ⌝ }
 {
     let near_right = hints[1];
     let on_right = curve_near(right, lengths1, v, near_right);

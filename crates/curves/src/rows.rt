@@ -1,14 +1,14 @@
 // What is tested and written once two rows of grid points are there: the cells between them (25), and the part of the output that the upper
 // row adds. A row of n + 1 points is lent as x, y in turn.
 ghost use mathlib.Core.Path.{_≡_};
-ghost use Prim.Native.Nat.{_+_, _*_, _<_, _≤_};
+ghost use Prim.Native.Nat.{_+_, _≤_};
 ghost use lib.ListN.{length};
 ghost use Rattle.base.specs.Refusal.{outcome};
 ghost use Rattle.base.specs.Buffers.{splice};
 ghost use mathlib.Core.Bool.{true};
-ghost use Rattle.curves.specs.inner.Rows.{row-size, AllSound};
+ghost use Rattle.curves.specs.inner.Rows.{row-size, AllSound, CellGiven, TwoRows, QuadsRoom, NodesRoom, RowRoom, RowLaid};
 ghost use Rattle.curves.specs.declared.rows.Layout.the-variants.{Quads};
-ghost use Rattle.curves.specs.Grid.{cell-test, cells-test, below-test, quad-values, quads-between, node-values, nodes-of, row-part, needed};
+ghost use Rattle.curves.specs.Grid.{cell-test, cells-test, below-test, quad-values, quads-between, node-values, nodes-of, needed};
 ghost use Rattle.curves.specs.Limits.{max-cells};
 use crate::curve::point_at;
 use crate::point::Point;
@@ -24,7 +24,7 @@ pub(crate) enum Layout {
 
 // 25 at the cell i of row j.
 fn check_cell(low: &[f64], high: &[f64], i: usize, j: u32) -> Check
-    requires { ⌜ (i ≤ max-cells) × (2 * i + 3 < length (now low)) × (2 * i + 3 < length (now high)) ⌝ }
+    requires { ⌜ CellGiven (now low) (now high) i ⌝ }
     ensures { λ r. ⌜ outcome r ≡ cell-test (now (low .entry)) (now (high .entry)) j i ⌝ }
 {
     let index = i as u32;
@@ -37,7 +37,7 @@ fn check_cell(low: &[f64], high: &[f64], i: usize, j: u32) -> Check
 
 // 25 along row j of the cells.
 fn check_cells(low: &[f64], high: &[f64], n: usize, j: usize) -> Check
-    requires { ⌜ (n ≤ max-cells) × (j ≤ max-cells) × (2 * (n + 1) ≤ length (now low)) × (2 * (n + 1) ≤ length (now high)) ⌝ }
+    requires { ⌜ TwoRows (now low) (now high) n j ⌝ }
     ensures { λ r. ⌜ outcome r ≡ cells-test (now (low .entry)) (now (high .entry)) n j ⌝ }
 {
     let row = j as u32;
@@ -53,7 +53,7 @@ fn check_cells(low: &[f64], high: &[f64], n: usize, j: usize) -> Check
 
 // 25 of the cells below row j of the points: the lowest row has none, and `low` is not read there.
 fn check_row(low: &[f64], high: &[f64], n: usize, j: usize) -> Check
-    requires { ⌜ (n ≤ max-cells) × (j ≤ max-cells) × (2 * (n + 1) ≤ length (now low)) × (2 * (n + 1) ≤ length (now high)) ⌝ }
+    requires { ⌜ TwoRows (now low) (now high) n j ⌝ }
     ensures { λ r. ⌜ outcome r ≡ below-test (now (low .entry)) (now (high .entry)) n j ⌝ }
 {
     if j == 0 {
@@ -78,9 +78,11 @@ fn write_quad(a: Point, b: Point, c: Point, d: Point, from: usize, out: &mut [f6
 
 // Writes the n quads between two rows, from an index on, and says whether each has an area: one pass over both rows does for the two.
 fn write_quads(low: &[f64], high: &[f64], n: usize, from: usize, out: &mut [f64]) -> bool
-    requires { ⌜ (2 * (n + 1) ≤ length (now low)) × (2 * (n + 1) ≤ length (now high)) × (from + 8 * n ≤ length (now out)) ⌝ }
+    requires { ⌜ QuadsRoom (now low) (now high) n from (now out) ⌝ }
     ensures { λ r. ⌜ (r ≡ true → AllSound (now (low .entry)) (now (high .entry)) n) ⌝ }
-    ensures { λ _. ⌜ now (out .exit) ≡ splice (now (out .entry)) from (quads-between (now (low .entry)) (now (high .entry)) n) ⌝ }
+    ensures { λ _.
+        let quads = quads-between (now (low .entry)) (now (high .entry)) n in
+        ⌜ now (out .exit) ≡ splice (now (out .entry)) from quads ⌝ }
 {
     let mut i = 0usize;
     let mut at = from;
@@ -112,7 +114,7 @@ fn write_node(p: Point, from: usize, out: &mut [f64])
 
 // Writes the n + 1 points of a row, from an index on.
 fn write_nodes(row: &[f64], n: usize, from: usize, out: &mut [f64])
-    requires { ⌜ (2 * (n + 1) ≤ length (now row)) × (from + 3 * (n + 1) ≤ length (now out)) ⌝ }
+    requires { ⌜ NodesRoom (now row) n from (now out) ⌝ }
     ensures { λ _. ⌜ now (out .exit) ≡ splice (now (out .entry)) from (nodes-of (now (row .entry)) n) ⌝ }
 {
     let mut i = 0usize;
@@ -127,9 +129,9 @@ fn write_nodes(row: &[f64], n: usize, from: usize, out: &mut [f64])
 
 // Writes the quads below row j of the points, and tests them (25). The lowest row has none.
 fn lay_quads(low: &[f64], high: &[f64], n: usize, j: usize, from: usize, out: &mut [f64]) -> Check
-    requires { ⌜ (n ≤ max-cells) × (j ≤ max-cells) × (2 * (n + 1) ≤ length (now low)) × (2 * (n + 1) ≤ length (now high)) × (from + length (row-part Quads (now low) (now high) n j) ≤ length (now out)) ⌝ }
-    ensures { λ r. ⌜ outcome r ≡ below-test (now (low .entry)) (now (high .entry)) n j ⌝ }
-    ensures { λ _. ⌜ now (out .exit) ≡ splice (now (out .entry)) from (row-part Quads (now (low .entry)) (now (high .entry)) n j) ⌝ }
+    requires { ⌜ RowRoom Quads (now low) (now high) n j from (now out) ⌝ }
+    ensures { λ r.
+        ⌜ RowLaid Quads (now (low .entry)) (now (high .entry)) n j from (now (out .entry)) (now (out .exit)) (outcome r) ⌝ }
 {
     if j == 0 {
         return Check::Passed;
@@ -152,9 +154,9 @@ pub(crate) fn write_row(
     from: usize,
     out: &mut [f64],
 ) -> Check
-    requires { ⌜ (n ≤ max-cells) × (j ≤ max-cells) × (2 * (n + 1) ≤ length (now low)) × (2 * (n + 1) ≤ length (now high)) × (from + length (row-part layout (now low) (now high) n j) ≤ length (now out)) ⌝ }
-    ensures { λ r. ⌜ outcome r ≡ below-test (now (low .entry)) (now (high .entry)) n j ⌝ }
-    ensures { λ _. ⌜ now (out .exit) ≡ splice (now (out .entry)) from (row-part layout (now (low .entry)) (now (high .entry)) n j) ⌝ }
+    requires { ⌜ RowRoom layout (now low) (now high) n j from (now out) ⌝ }
+    ensures { λ r.
+        ⌜ RowLaid layout (now (low .entry)) (now (high .entry)) n j from (now (out .entry)) (now (out .exit)) (outcome r) ⌝ }
 {
     match layout {
         Layout::Quads => lay_quads(low, high, n, j, from, out),

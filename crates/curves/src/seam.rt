@@ -6,7 +6,10 @@ ghost use lib.ListN.{length};
 ghost use Rattle.base.specs.Refusal.{outcome};
 ghost use Rattle.base.specs.Buffers.{splice};
 ghost use Rattle.base.specs.Tests.{first-of};
-ghost use Rattle.curves.specs.Seam.{uniform-parameters, edge-values, side-seam, value-test, seam-ends-test, seam-test, pair-test, seams-test};
+ghost use Rattle.curves.specs.Seam.{uniform-parameters, edge-values, side-seam};
+ghost use Rattle.curves.specs.Seam.{value-test, seam-ends-test, seam-test, pair-test, seams-test};
+ghost use Rattle.curves.specs.inner.Grids.{lent-seams, ShortSeams};
+ghost use Rattle.curves.specs.inner.Lays.{SeamGiven};
 ghost use Rattle.curves.specs.Limits.{max-seam, max-cells};
 use base::refusal::Check;
 use base::refusal::Refusal;
@@ -44,7 +47,7 @@ fn edge_values(breaks: &[f64], i: usize, n: u32, from: usize, out: &mut [f64])
 
 // Writes the seam of a side, given the counts of its edges, and returns how many values it has.
 pub(crate) fn side_seam(breaks: &[f64], counts: &[u32], out: &mut [f64]) -> usize
-    requires { ⌜ (length (now counts) < length (now breaks)) × (length (side-seam (now breaks) (now counts)) ≤ length (now out)) ⌝ }
+    requires { ⌜ SeamGiven (now breaks) (now counts) (now out) ⌝ }
     ensures { λ r. ⌜ r ≡ length (side-seam (now (breaks .entry)) (now (counts .entry))) ⌝ }
     ensures { λ r. ⌜ now (out .exit) ≡ splice (now (out .entry)) 0 (side-seam (now (breaks .entry)) (now (counts .entry))) ⌝ }
 {
@@ -136,8 +139,9 @@ fn check_pair(a: &[f64], b: &[f64], pair: u32) -> Check
 
 // 18 to 22.
 pub(crate) fn check_seams(bottom: &[f64], top: &[f64], left: &[f64], right: &[f64]) -> Check
-    requires { ⌜ (length (now bottom) ≤ max-seam) × (length (now top) ≤ max-seam) × (length (now left) ≤ max-seam) × (length (now right) ≤ max-seam) ⌝ }
-    ensures { λ r. ⌜ outcome r ≡ seams-test (now (bottom .entry)) (now (top .entry)) (now (left .entry)) (now (right .entry)) ⌝ }
+    requires { ⌜ ShortSeams (lent-seams bottom top left right) ⌝ }
+    ensures { λ r.
+        ⌜ outcome r ≡ seams-test (now (bottom .entry)) (now (top .entry)) (now (left .entry)) (now (right .entry)) ⌝ }
 {
     let of_bottom = validate_parameters(bottom, 0);
     let of_top = validate_parameters(top, 2);

@@ -64,7 +64,8 @@ pub extern "C" fn juplatsk_round(
 ) -> u32
     ensures { λ r.
         let o = round (now (regions .entry)) (by (now (ideals .entry))) (now (counts .entry)) (expansions (limit-told stated limit)) in
-        ⌜ (r ≡ o .verdict .number) × (now (answer .exit) ≡ round-stored o) × (now (cost .exit) ≡ cost-of (o .move) ∷ []) × (now (counts .exit) ≡ o .counts) ⌝ }
+        ⌜ (r ≡ o .verdict .number) × (now (answer .exit) ≡ round-stored o)
+        × (now (cost .exit) ≡ cost-of (o .move) ∷ []) × (now (counts .exit) ≡ o .counts) ⌝ }
 {
     let limit = search_limit(stated, limit);
     let made = counts::round(regions, ideals, counts, limit);
@@ -82,7 +83,8 @@ pub extern "C" fn juplatsk_solve_counts_within(
     answer: &mut [u32; 3],
 ) -> u32
     ensures { λ r.
-        let o = solve (now (regions .entry)) (within (now (least .entry)) (now (most .entry))) (now (counts .entry)) (expansions (limit-told stated limit)) in
+        let ranges = within (now (least .entry)) (now (most .entry)) in
+        let o = solve (now (regions .entry)) ranges (now (counts .entry)) (expansions (limit-told stated limit)) in
         ⌜ (r ≡ o .verdict .number) × (now (answer .exit) ≡ solve-stored o) × (now (counts .exit) ≡ o .counts) ⌝ }
 {
     let limit = search_limit(stated, limit);
@@ -102,8 +104,10 @@ pub extern "C" fn juplatsk_round_within(
     cost: &mut [f64; 1],
 ) -> u32
     ensures { λ r.
-        let o = round (now (regions .entry)) (within (now (least .entry)) (now (most .entry))) (now (counts .entry)) (expansions (limit-told stated limit)) in
-        ⌜ (r ≡ o .verdict .number) × (now (answer .exit) ≡ round-stored o) × (now (cost .exit) ≡ cost-of (o .move) ∷ []) × (now (counts .exit) ≡ o .counts) ⌝ }
+        let ranges = within (now (least .entry)) (now (most .entry)) in
+        let o = round (now (regions .entry)) ranges (now (counts .entry)) (expansions (limit-told stated limit)) in
+        ⌜ (r ≡ o .verdict .number) × (now (answer .exit) ≡ round-stored o)
+        × (now (cost .exit) ≡ cost-of (o .move) ∷ []) × (now (counts .exit) ≡ o .counts) ⌝ }
 {
     let limit = search_limit(stated, limit);
     let made = counts::round_within(regions, least, most, counts, limit);
@@ -117,9 +121,9 @@ pub extern "C" fn juplatsk_energy(
     answer: &mut [u32; 2],
     sum: &mut [f64; 1],
 ) -> u32
-    ensures { λ r. ⌜ r ≡ energy (now (counts .entry)) (now (ideals .entry)) .verdict .number ⌝ }
-    ensures { λ _. ⌜ now (answer .exit) ≡ energy-stored (energy (now (counts .entry)) (now (ideals .entry))) ⌝ }
-    ensures { λ _. ⌜ now (sum .exit) ≡ energy (now (counts .entry)) (now (ideals .entry)) .total ∷ [] ⌝ }
+    ensures { λ r.
+        let o = energy (now (counts .entry)) (now (ideals .entry)) in
+        ⌜ (r ≡ o .verdict .number) × (now (answer .exit) ≡ energy-stored o) × (now (sum .exit) ≡ o .total ∷ []) ⌝ }
 {
     let total = counts::energy(counts, ideals);
     store_energy(total, answer, sum)
@@ -131,8 +135,9 @@ pub extern "C" fn juplatsk_constraints_hold(
     counts: &[u32],
     answer: &mut [u32; 3],
 ) -> u32
-    ensures { λ r. ⌜ r ≡ constraints-hold (now (regions .entry)) (now (counts .entry)) .verdict .number ⌝ }
-    ensures { λ _. ⌜ now (answer .exit) ≡ hold-stored (constraints-hold (now (regions .entry)) (now (counts .entry))) ⌝ }
+    ensures { λ r.
+        let o = constraints-hold (now (regions .entry)) (now (counts .entry)) in
+        ⌜ (r ≡ o .verdict .number) × (now (answer .exit) ≡ hold-stored o) ⌝ }
 {
     let held = counts::constraints_hold(regions, counts);
     store_hold(held, answer)
@@ -160,9 +165,10 @@ pub extern "C" fn juplatsk_coons_from_parameters(
     out: &mut [f64],
     answer: &mut [u32; 3],
 ) -> u32
-    ensures { λ r. ⌜ r ≡ coons-seamed (now (bottom .entry)) (now (right .entry)) (now (top .entry)) (now (left .entry)) (seams (now («bottom_u» .entry)) (now («top_u» .entry)) (now («left_v» .entry)) (now («right_v» .entry))) (now (out .entry)) .verdict .number ⌝ }
-    ensures { λ _. ⌜ now (answer .exit) ≡ grid-stored (coons-seamed (now (bottom .entry)) (now (right .entry)) (now (top .entry)) (now (left .entry)) (seams (now («bottom_u» .entry)) (now («top_u» .entry)) (now («left_v» .entry)) (now («right_v» .entry))) (now (out .entry))) ⌝ }
-    ensures { λ _. ⌜ now (out .exit) ≡ coons-seamed (now (bottom .entry)) (now (right .entry)) (now (top .entry)) (now (left .entry)) (seams (now («bottom_u» .entry)) (now («top_u» .entry)) (now («left_v» .entry)) (now («right_v» .entry))) (now (out .entry)) .out ⌝ }
+    ensures { λ r.
+        let s = seams (now («bottom_u» .entry)) (now («top_u» .entry)) (now («left_v» .entry)) (now («right_v» .entry)) in
+        let o = coons-seamed (now (bottom .entry)) (now (right .entry)) (now (top .entry)) (now (left .entry)) s (now (out .entry)) in
+        ⌜ (r ≡ o .verdict .number) × (now (answer .exit) ≡ grid-stored o) × (now (out .exit) ≡ o .out) ⌝ }
 {
     let made = curves::coons::coons_from_parameters(
         bottom,
@@ -189,9 +195,9 @@ pub extern "C" fn juplatsk_coons_curves(
     out: &mut [f64],
     answer: &mut [u32; 3],
 ) -> u32
-    ensures { λ r. ⌜ r ≡ coons-quads (now (bottom .entry)) (now (right .entry)) (now (top .entry)) (now (left .entry)) «n_u» «n_v» (now (out .entry)) .verdict .number ⌝ }
-    ensures { λ _. ⌜ now (answer .exit) ≡ grid-stored (coons-quads (now (bottom .entry)) (now (right .entry)) (now (top .entry)) (now (left .entry)) «n_u» «n_v» (now (out .entry))) ⌝ }
-    ensures { λ _. ⌜ now (out .exit) ≡ coons-quads (now (bottom .entry)) (now (right .entry)) (now (top .entry)) (now (left .entry)) «n_u» «n_v» (now (out .entry)) .out ⌝ }
+    ensures { λ r.
+        let o = coons-quads (now (bottom .entry)) (now (right .entry)) (now (top .entry)) (now (left .entry)) «n_u» «n_v» (now (out .entry)) in
+        ⌜ (r ≡ o .verdict .number) × (now (answer .exit) ≡ grid-stored o) × (now (out .exit) ≡ o .out) ⌝ }
 {
     let made = curves::coons::coons_curves(bottom, right, top, left, n_u, n_v, out);
     store_grid(made, answer)
@@ -212,9 +218,11 @@ pub extern "C" fn juplatsk_lay_region(
     out: &mut [f64],
     answer: &mut [u32; 3],
 ) -> u32
-    ensures { λ r. ⌜ r ≡ lay (now (region .entry)) (now (counts .entry)) (tile-input (now (breaks0 .entry)) (now (breaks1 .entry)) (now (breaks2 .entry)) (now (breaks3 .entry)) (now (bottom .entry)) (now (right .entry)) (now (top .entry)) (now (left .entry))) (now (out .entry)) .verdict .number ⌝ }
-    ensures { λ _. ⌜ now (answer .exit) ≡ grid-stored (lay (now (region .entry)) (now (counts .entry)) (tile-input (now (breaks0 .entry)) (now (breaks1 .entry)) (now (breaks2 .entry)) (now (breaks3 .entry)) (now (bottom .entry)) (now (right .entry)) (now (top .entry)) (now (left .entry))) (now (out .entry))) ⌝ }
-    ensures { λ _. ⌜ now (out .exit) ≡ lay (now (region .entry)) (now (counts .entry)) (tile-input (now (breaks0 .entry)) (now (breaks1 .entry)) (now (breaks2 .entry)) (now (breaks3 .entry)) (now (bottom .entry)) (now (right .entry)) (now (top .entry)) (now (left .entry))) (now (out .entry)) .out ⌝ }
+    ensures { λ r.
+        let tile = tile-input (now (breaks0 .entry)) (now (breaks1 .entry)) (now (breaks2 .entry)) (now (breaks3 .entry))
+        (now (bottom .entry)) (now (right .entry)) (now (top .entry)) (now (left .entry)) in
+        let o = lay (now (region .entry)) (now (counts .entry)) tile (now (out .entry)) in
+        ⌜ (r ≡ o .verdict .number) × (now (answer .exit) ≡ grid-stored o) × (now (out .exit) ≡ o .out) ⌝ }
 {
     let made = curves::lay::lay_region(
         region,
@@ -244,10 +252,11 @@ pub extern "C" fn juplatsk_mesh_tile_curves(
     cells: &mut [u32],
     answer: &mut [u32; 3],
 ) -> u32
-    ensures { λ r. ⌜ r ≡ mesh-tile-curves (now (bottom .entry)) (now (right .entry)) (now (top .entry)) (now (left .entry)) «n_u» «n_v» (now (points .entry)) (now (cells .entry)) .grid .verdict .number ⌝ }
-    ensures { λ _. ⌜ now (answer .exit) ≡ grid-stored (mesh-tile-curves (now (bottom .entry)) (now (right .entry)) (now (top .entry)) (now (left .entry)) «n_u» «n_v» (now (points .entry)) (now (cells .entry)) .grid) ⌝ }
-    ensures { λ _. ⌜ now (points .exit) ≡ mesh-tile-curves (now (bottom .entry)) (now (right .entry)) (now (top .entry)) (now (left .entry)) «n_u» «n_v» (now (points .entry)) (now (cells .entry)) .grid .out ⌝ }
-    ensures { λ _. ⌜ now (cells .exit) ≡ mesh-tile-curves (now (bottom .entry)) (now (right .entry)) (now (top .entry)) (now (left .entry)) «n_u» «n_v» (now (points .entry)) (now (cells .entry)) .cells ⌝ }
+    ensures { λ r.
+        let o = mesh-tile-curves (now (bottom .entry)) (now (right .entry)) (now (top .entry)) (now (left .entry))
+        «n_u» «n_v» (now (points .entry)) (now (cells .entry)) in
+        ⌜ (r ≡ o .grid .verdict .number) × (now (answer .exit) ≡ grid-stored (o .grid))
+        × (now (points .exit) ≡ o .grid .out) × (now (cells .exit) ≡ o .cells) ⌝ }
 {
     let made = mesh::tile::mesh_tile_curves(bottom, right, top, left, n_u, n_v, points, cells);
     store_grid(made, answer)
@@ -261,9 +270,9 @@ pub extern "C" fn juplatsk_coons_checked(
     out: &mut [f64],
     answer: &mut [u32; 3],
 ) -> u32
-    ensures { λ r. ⌜ r ≡ coons-checked (now (boundary .entry)) «n_u» «n_v» (now (out .entry)) .verdict .number ⌝ }
-    ensures { λ _. ⌜ now (answer .exit) ≡ grid-stored (coons-checked (now (boundary .entry)) «n_u» «n_v» (now (out .entry))) ⌝ }
-    ensures { λ _. ⌜ now (out .exit) ≡ coons-checked (now (boundary .entry)) «n_u» «n_v» (now (out .entry)) .out ⌝ }
+    ensures { λ r.
+        let o = coons-checked (now (boundary .entry)) «n_u» «n_v» (now (out .entry)) in
+        ⌜ (r ≡ o .verdict .number) × (now (answer .exit) ≡ grid-stored o) × (now (out .exit) ≡ o .out) ⌝ }
 {
     let made = mesh::tile::coons_checked(boundary, n_u, n_v, out);
     store_grid(made, answer)
@@ -278,10 +287,10 @@ pub extern "C" fn juplatsk_mesh_tile(
     cells: &mut [u32],
     answer: &mut [u32; 3],
 ) -> u32
-    ensures { λ r. ⌜ r ≡ mesh-tile (now (boundary .entry)) «n_u» «n_v» (now (points .entry)) (now (cells .entry)) .grid .verdict .number ⌝ }
-    ensures { λ _. ⌜ now (answer .exit) ≡ grid-stored (mesh-tile (now (boundary .entry)) «n_u» «n_v» (now (points .entry)) (now (cells .entry)) .grid) ⌝ }
-    ensures { λ _. ⌜ now (points .exit) ≡ mesh-tile (now (boundary .entry)) «n_u» «n_v» (now (points .entry)) (now (cells .entry)) .grid .out ⌝ }
-    ensures { λ _. ⌜ now (cells .exit) ≡ mesh-tile (now (boundary .entry)) «n_u» «n_v» (now (points .entry)) (now (cells .entry)) .cells ⌝ }
+    ensures { λ r.
+        let o = mesh-tile (now (boundary .entry)) «n_u» «n_v» (now (points .entry)) (now (cells .entry)) in
+        ⌜ (r ≡ o .grid .verdict .number) × (now (answer .exit) ≡ grid-stored (o .grid))
+        × (now (points .exit) ≡ o .grid .out) × (now (cells .exit) ≡ o .cells) ⌝ }
 {
     let made = mesh::tile::mesh_tile(boundary, n_u, n_v, points, cells);
     store_grid(made, answer)

@@ -3,12 +3,12 @@
 use mathlib.Core.Path.{_≡_}
 use mathlib.Core.Bool.{true, false}
 use mathlib.Core.List.{List, [], _∷_, _++_}
-use Prim.Native.Nat.{ℕ, _+_, _-_, _*_}
+use Prim.Native.Nat.{ℕ, _+_, _*_}
 use lib.ListN.{length, replicate}
 use lib.IntN.{negsuc}
 use lib.Ieee.{Float, nan, fin, binary64, ofBits}
 use Rattle.base.specs.Refusal.{passed, refused}
-use Rattle.regions.specs.Region.{places}
+use Rattle.regions.specs.Written.{region, alone}
 use Rattle.counts.specs.Cost.{real, Spacing, by, within}
 use Rattle.counts.specs.Solver.{none, made, expansions, Round, round, Solve, solve}
 use Rattle.counts.specs.Values.{max-limit}
@@ -66,19 +66,9 @@ All-hold (c ∷ cs) = Holds c × All-hold cs
 abbrev pub old-limit : SearchLimit
 old-limit = Expansions 100000
 
--- a side in its record
-abbrev pub side-record : List ℕ → List ℕ
-side-record edges = length edges ∷ edges ++ replicate (places - length edges) 0
-
-abbrev pub region : List ℕ → List ℕ → List ℕ → List ℕ → List ℕ
-region bottom right top left = side-record bottom ++ side-record right ++ side-record top ++ side-record left
-
 abbrev pub reals : List ℕ → List Float
 reals [] = []
 reals (n ∷ ns) = real n ∷ reals ns
-
-abbrev pub alone : ℕ → List ℕ
-alone edge = edge ∷ []
 
 abbrev pub lent-counts : ℕ → List ℕ
 lent-counts n = replicate n 9 ++ 7 ∷ []

@@ -3,3 +3,4 @@ pub mod Cases
 pub mod Loop
 pub mod Mesh
 pub mod Tile
+pub mod inner

@@ -1,16 +1,16 @@
 // The quads of a mesh as indices of its points. specs/Mesh.antt has the definitions.
 ghost use mathlib.Core.Path.{_≡_};
-ghost use Prim.Native.Nat.{_+_, _*_, _<_, _≤_};
+ghost use Prim.Native.Nat.{_≤_};
 ghost use lib.ListN.{length};
 ghost use Rattle.base.specs.Refusal.{verdict-of};
 ghost use Rattle.base.specs.Buffers.{splice};
 ghost use Rattle.mesh.specs.Mesh.{row-cells, mesh-cells, no-cells, zeroes};
-ghost use Rattle.curves.specs.Limits.{max-cells};
+ghost use Rattle.mesh.specs.inner.Cells.{RowGiven, CellsGiven};
 use base::refusal::Refusal;
 
 // Writes the n cells of row j, from an index on.
 fn write_row(n: u32, j: u32, from: usize, cells: &mut [u32])
-    requires { ⌜ (n ≤ max-cells) × (j < max-cells) × (from + 4 * n ≤ length (now cells)) ⌝ }
+    requires { ⌜ RowGiven n j from (now cells) ⌝ }
     ensures { λ _. ⌜ now (cells .exit) ≡ splice (now (cells .entry)) from (row-cells n j) ⌝ }
 {
     let across = n + 1;
@@ -30,7 +30,7 @@ fn write_row(n: u32, j: u32, from: usize, cells: &mut [u32])
 }
 
 pub(crate) fn write_cells(n: u32, m: u32, cells: &mut [u32])
-    requires { ⌜ (n ≤ max-cells) × (m ≤ max-cells) × (4 * (m * n) ≤ length (now cells)) ⌝ }
+    requires { ⌜ CellsGiven n m (now cells) ⌝ }
     ensures { λ _. ⌜ now (cells .exit) ≡ splice (now (cells .entry)) 0 (mesh-cells n m) ⌝ }
 {
     let width = 4 * (n as usize);

@@ -43,7 +43,9 @@ pub fn mesh_tile_curves(
     points: &mut [f64],
     cells: &mut [u32],
 ) -> GridAnswer
-    ensures { λ r. ⌜ mesh-of r (now (points .exit)) (now (cells .exit)) ≡ mesh-tile-curves (now (bottom .entry)) (now (right .entry)) (now (top .entry)) (now (left .entry)) «n_u» «n_v» (now (points .entry)) (now (cells .entry)) ⌝ }
+    ensures { λ r. ⌜ mesh-of r (now (points .exit)) (now (cells .exit))
+        ≡ mesh-tile-curves (now (bottom .entry)) (now (right .entry)) (now (top .entry)) (now (left .entry))
+        «n_u» «n_v» (now (points .entry)) (now (cells .entry)) ⌝ }
 {
     if !fits(n_u, n_v, cells) {
         // Without room for the points the grid makes its tests and then refuses.
@@ -82,7 +84,9 @@ fn check_tile(boundary: &[f64], n_u: u32, n_v: u32) -> Check
 // The quads of a 4-point loop, whose sides share its corners: only the last side, which ends where the loop begins, does not lie in the list.
 fn quads_of_corners(boundary: &[f64], n_u: u32, n_v: u32, out: &mut [f64]) -> GridAnswer
     requires { ⌜ 8 ≤ length (now boundary) ⌝ }
-    ensures { λ r. ⌜ outcome-of r (now (out .exit)) ≡ coons-quads (corner-pair (now (boundary .entry)) 0) (corner-pair (now (boundary .entry)) 1) (corner-pair (now (boundary .entry)) 2) (corner-pair (now (boundary .entry)) 3) «n_u» «n_v» (now (out .entry)) ⌝ }
+    ensures { λ r.
+        let side = corner-pair (now (boundary .entry)) in
+        ⌜ outcome-of r (now (out .exit)) ≡ coons-quads (side 0) (side 1) (side 2) (side 3) «n_u» «n_v» (now (out .entry)) ⌝ }
 {
     let left = [boundary[6], boundary[7], boundary[0], boundary[1]];
     coons_curves(
@@ -105,7 +109,10 @@ fn mesh_of_corners(
     cells: &mut [u32],
 ) -> GridAnswer
     requires { ⌜ 8 ≤ length (now boundary) ⌝ }
-    ensures { λ r. ⌜ mesh-of r (now (points .exit)) (now (cells .exit)) ≡ mesh-tile-curves (corner-pair (now (boundary .entry)) 0) (corner-pair (now (boundary .entry)) 1) (corner-pair (now (boundary .entry)) 2) (corner-pair (now (boundary .entry)) 3) «n_u» «n_v» (now (points .entry)) (now (cells .entry)) ⌝ }
+    ensures { λ r.
+        let side = corner-pair (now (boundary .entry)) in
+        ⌜ mesh-of r (now (points .exit)) (now (cells .exit))
+        ≡ mesh-tile-curves (side 0) (side 1) (side 2) (side 3) «n_u» «n_v» (now (points .entry)) (now (cells .entry)) ⌝ }
 {
     let left = [boundary[6], boundary[7], boundary[0], boundary[1]];
     mesh_tile_curves(
@@ -129,7 +136,9 @@ fn quads_of_quarters(
     out: &mut [f64],
 ) -> GridAnswer
     requires { ⌜ used ≤ point-count (now boundary) ⌝ }
-    ensures { λ r. ⌜ outcome-of r (now (out .exit)) ≡ coons-quads (quarter (now (boundary .entry)) used 0) (quarter (now (boundary .entry)) used 1) (quarter (now (boundary .entry)) used 2) (quarter (now (boundary .entry)) used 3) «n_u» «n_v» (now (out .entry)) ⌝ }
+    ensures { λ r.
+        let side = quarter (now (boundary .entry)) used in
+        ⌜ outcome-of r (now (out .exit)) ≡ coons-quads (side 0) (side 1) (side 2) (side 3) «n_u» «n_v» (now (out .entry)) ⌝ }
 {
     let bottom = quarter(boundary, used, 0);
     let right = quarter(boundary, used, 1);
@@ -148,7 +157,10 @@ fn mesh_of_quarters(
     cells: &mut [u32],
 ) -> GridAnswer
     requires { ⌜ used ≤ point-count (now boundary) ⌝ }
-    ensures { λ r. ⌜ mesh-of r (now (points .exit)) (now (cells .exit)) ≡ mesh-tile-curves (quarter (now (boundary .entry)) used 0) (quarter (now (boundary .entry)) used 1) (quarter (now (boundary .entry)) used 2) (quarter (now (boundary .entry)) used 3) «n_u» «n_v» (now (points .entry)) (now (cells .entry)) ⌝ }
+    ensures { λ r.
+        let side = quarter (now (boundary .entry)) used in
+        ⌜ mesh-of r (now (points .exit)) (now (cells .exit))
+        ≡ mesh-tile-curves (side 0) (side 1) (side 2) (side 3) «n_u» «n_v» (now (points .entry)) (now (cells .entry)) ⌝ }
 {
     let bottom = quarter(boundary, used, 0);
     let right = quarter(boundary, used, 1);
@@ -179,7 +191,8 @@ pub fn mesh_tile(
     points: &mut [f64],
     cells: &mut [u32],
 ) -> GridAnswer
-    ensures { λ r. ⌜ mesh-of r (now (points .exit)) (now (cells .exit)) ≡ mesh-tile (now (boundary .entry)) «n_u» «n_v» (now (points .entry)) (now (cells .entry)) ⌝ }
+    ensures { λ r. ⌜ mesh-of r (now (points .exit)) (now (cells .exit))
+        ≡ mesh-tile (now (boundary .entry)) «n_u» «n_v» (now (points .entry)) (now (cells .entry)) ⌝ }
 {
     if let Check::Refused(cause) = check_tile(boundary, n_u, n_v) {
         return GridAnswer::Refused(cause);

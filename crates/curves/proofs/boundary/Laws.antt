@@ -1,88 +1,162 @@
--- `checked-curves` by the outcomes of its tests, and the curves as the code holds them. Assumes nothing.
+-- `checked-curves` by the outcomes of its tests, and the curves as the code holds them: the table of a curve that passes stands in front of the
+-- list that was lent for it. Assumes nothing.
 use mathlib.Core.Path.{_≡_, refl, sym, ap, subst, _∙_}
 use mathlib.Core.Bool.{Bool, true, false, true≢false}
 use mathlib.Core.List.{List}
-use Prim.Native.Nat.{ℕ}
+use native.Mathlib.Omega.{arith}
 use lib.Dec.{T}
+use lib.ListN.{length, take}
 use lib.Ieee.{Float}
 use Rattle.base.specs.declared.verdict.Verdict.{Verdict}
 use Rattle.base.specs.Refusal.{verdict-of, outcome, is-passed, then-test}
 use Rattle.base.specs.declared.refusal.Check.{Check}
 use Rattle.base.specs.declared.refusal.Check.the-variants.{Passed, Refused}
 use Rattle.base.specs.declared.refusal.Refusal.{Refusal}
-use Rattle.curves.specs.Curve.{curve, cumulative-of, curve-test}
-use Rattle.curves.specs.inner.Segments.{Sampled}
-use Rattle.curves.specs.Boundary.{boundary, boundary-of, boundary-ends, ends-test, curves-test, checked-curves, joined-of, joined-curves}
 use Rattle.base.specs.Answers.{Answer, good, turned-away, verdict}
+use Rattle.base.proofs.BoolLaws.{true-T}
+use Rattle.base.proofs.TestLaws.{then-left, refusal-number, refusal-not-passed, chain-stops, chain-goes-on, four-passed, told-passed}
+use Rattle.base.proofs.TestLaws.{both-passed, follows, refuses}
+use Rattle.curves.specs.Curve.{curve, point-count, curve-test}
+use Rattle.curves.specs.Boundary.{BoundaryCurves, boundary, boundary-of, boundary-ends, ends-test, curves-test, checked-curves, joined-of}
+use Rattle.curves.specs.Boundary.{joined-curves}
+use Rattle.curves.specs.inner.Segments.{Measured}
+use Rattle.curves.specs.inner.Curves.{Sides, SampledCurves, PatchCurves, TablesFit, TablesWritten, CurvesChecked}
 use Rattle.curves.specs.declared.boundary.BoundaryEnds.{BoundaryEnds}
 use Rattle.curves.specs.declared.boundary.BoundaryAnswer.the-variants as boundary-answer
-use Rattle.base.proofs.TestLaws.{then-left, refusal-number, chain-stops, chain-goes-on, in-four, four-passed, told-passed, both-passed, follows, refuses}
+use Rattle.curves.proofs.Chains.{chained}
+use Rattle.curves.proofs.curve.Laws.{written}
 use Rattle.curves.proofs.curve.Rise.{sampled}
+
+-- ---- the definitions at the points of four sides
+
+abbrev pub curves-on : Sides → BoundaryCurves
+curves-on p = boundary-of (p .bottom) (p .right) (p .top) (p .left)
+
+abbrev pub curves-tested : Sides → Verdict
+curves-tested p = curves-test (p .bottom) (p .right) (p .top) (p .left)
+
+abbrev pub checked-on : Sides → Verdict
+checked-on p = checked-curves (p .bottom) (p .right) (p .top) (p .left)
+
+abbrev pub joined-on : Sides → Answer BoundaryEnds
+joined-on p = joined-curves (p .bottom) (p .right) (p .top) (p .left)
+
+-- ---- tables that are as long as they were have the room that they had
+
+pub record SameLengths (before after : Sides) : Type 0 where
+  pub bottom : length (after .bottom) ≡ length (before .bottom)
+  pub right : length (after .right) ≡ length (before .right)
+  pub top : length (after .top) ≡ length (before .top)
+  pub left : length (after .left) ≡ length (before .left)
+
+pub still-fit : {p before after : Sides} → TablesFit p before → SameLengths before after → TablesFit p after
+still-fit room same = record { bottom = omega arith; right = omega arith; top = omega arith; left = omega arith }
+
+-- ---- the tables, of which the code lends the part in front
+
+abbrev front : List Float → List Float → List Float
+front points table = take (point-count points) table
+
+abbrev pub fronts : Sides → Sides → BoundaryCurves
+fronts p tables =
+    boundary (curve (p .bottom) (front (p .bottom) (tables .bottom))) (curve (p .right) (front (p .right) (tables .right)))
+    (curve (p .top) (front (p .top) (tables .top))) (curve (p .left) (front (p .left) (tables .left)))
+
+pub fronts-are : {p before after : Sides} → TablesWritten p before after → fronts p after ≡ curves-on p
+fronts-are {p} w =
+    let b = written (p .bottom) _ _ (w .bottom) in
+    let r = written (p .right) _ _ (w .right) in
+    let t = written (p .top) _ _ (w .top) in
+    let l = written (p .left) _ _ (w .left) in
+    rw (b, r, t, l)
+
+-- curves that have passed can be asked for their points
+pub fronts-sampled : {p before after : Sides} → T (is-passed (curves-tested p)) → TablesWritten p before after → SampledCurves (fronts p after)
+unfolding curves-test
+fronts-sampled {p} passed w =
+    let each = four-passed (curve-test (p .bottom) 0) (curve-test (p .right) 1) (curve-test (p .top) 2) (curve-test (p .left) 3) passed in
+    let whole : SampledCurves (curves-on p) = record {
+      bottom = sampled (p .bottom) 0 (each .0);
+      right = sampled (p .right) 1 (each .1);
+      top = sampled (p .top) 2 (each .2);
+      left = sampled (p .left) 3 (each .3);
+    } in
+    subst SampledCurves (sym (fronts-are w)) whole
 
 -- ---- the chain over the four curves, as the code makes it from its end
 
--- where it passes, each curve has
-pub all-passed : (f f1 f2 c0 c1 c2 c3 : Check) → outcome f2 ≡ then-test (outcome c2) (outcome c3) → outcome f1 ≡ then-test (outcome c1) (outcome f2) → outcome f ≡ then-test (outcome c0) (outcome f1) → f ≡ Passed
-    → T (is-passed (outcome c0)) × T (is-passed (outcome c1)) × T (is-passed (outcome c2)) × T (is-passed (outcome c3))
-all-passed f f1 f2 c0 c1 c2 c3 e2 e1 e0 p =
-    let s = both-passed (outcome f) (outcome c0) (outcome f1) e0 (told-passed f p) in
-    let t = both-passed (outcome f1) (outcome c1) (outcome f2) e1 (s .1) in
-    let u = both-passed (outcome f2) (outcome c2) (outcome c3) e2 (t .1) in
-    (s .0, t .0, u .0, u .1)
+pub record FourTested (p before after : Sides) (whole : Check) : Type 0 where
+  pub told : outcome whole ≡ curves-tested p
+  pub tables : whole ≡ Passed → TablesWritten p before after
 
-module _ (b r t l : List Float) where
-  pub four-curves : (f f1 f2 c0 c1 c2 c3 : Check) → outcome f2 ≡ then-test (outcome c2) (outcome c3) → outcome f1 ≡ then-test (outcome c1) (outcome f2) → outcome f ≡ then-test (outcome c0) (outcome f1)
-      → outcome c0 ≡ curve-test b 0 → outcome c1 ≡ curve-test r 1 → outcome c2 ≡ curve-test t 2 → outcome c3 ≡ curve-test l 3 → outcome f ≡ curves-test b r t l
-  unfolding curves-test
-  four-curves f f1 f2 c0 c1 c2 c3 = in-four f f1 f2 c0 c1 c2 c3 (curve-test b 0) (curve-test r 1) (curve-test t 2) (curve-test l 3)
+pub four-tested : {p before after : Sides} {v0 v1 v2 v3 from2 from1 : Verdict} {whole : Check}
+    → Measured (p .bottom) 0 (before .bottom) (after .bottom) v0 → Measured (p .right) 1 (before .right) (after .right) v1
+    → Measured (p .top) 2 (before .top) (after .top) v2 → Measured (p .left) 3 (before .left) (after .left) v3
+    → from2 ≡ then-test v2 v3 → from1 ≡ then-test v1 from2 → outcome whole ≡ then-test v0 from1 → FourTested p before after whole
+unfolding curves-test
+four-tested {v0 = v0} {v1} {v2} {v3} {from2} {from1} {whole} bottom right top left e2 e1 e0 = record {
+  told = chained e0 (bottom .told) (chained e1 (right .told) (chained e2 (top .told) (left .told)));
+  tables = λ e. let s = both-passed (outcome whole) v0 from1 e0 (told-passed whole e) in
+      let t = both-passed from1 v1 from2 e1 (s .1) in
+      let u = both-passed from2 v2 v3 e2 (t .1) in
+      record { bottom = bottom .written (s .0); right = right .written (t .0); top = top .written (u .0); left = left .written (u .1) };
+}
 
-  pub curve-refused : (c : Check) (cause : Refusal) → c ≡ Refused cause → outcome c ≡ curves-test b r t l → outcome (Refused cause) ≡ checked-curves b r t l
-  unfolding checked-curves
-  curve-refused c cause e o = chain-stops _ e o
-
-  -- ---- the tables, of which the code lends the part in front
-
-  pub same-boundary : (x0 x1 x2 x3 : List Float) → x0 ≡ cumulative-of b → x1 ≡ cumulative-of r → x2 ≡ cumulative-of t → x3 ≡ cumulative-of l
-      → boundary (curve b x0) (curve r x1) (curve t x2) (curve l x3) ≡ boundary-of b r t l
-  same-boundary x0 x1 x2 x3 e0 e1 e2 e3 =
-      ap (λ (x : List Float). boundary (curve b x) (curve r x1) (curve t x2) (curve l x3)) e0
-      ∙ ap (λ (x : List Float). boundary (curve b (cumulative-of b)) (curve r x) (curve t x2) (curve l x3)) e1
-      ∙ ap (λ (x : List Float). boundary (curve b (cumulative-of b)) (curve r (cumulative-of r)) (curve t x) (curve l x3)) e2
-      ∙ ap (λ (x : List Float). boundary (curve b (cumulative-of b)) (curve r (cumulative-of r)) (curve t (cumulative-of t)) (curve l x)) e3
-
-  pub ends-are : (e : BoundaryEnds) (x0 x1 x2 x3 : List Float) → e ≡ boundary-ends (boundary (curve b x0) (curve r x1) (curve t x2) (curve l x3))
-      → x0 ≡ cumulative-of b → x1 ≡ cumulative-of r → x2 ≡ cumulative-of t → x3 ≡ cumulative-of l → e ≡ boundary-ends (boundary-of b r t l)
-  ends-are e x0 x1 x2 x3 g e0 e1 e2 e3 = g ∙ ap boundary-ends (same-boundary x0 x1 x2 x3 e0 e1 e2 e3)
-
-  pub ends-tested : (c : Check) (v : Verdict) (e : BoundaryEnds) → c ≡ Passed → outcome c ≡ curves-test b r t l → v ≡ ends-test e → e ≡ boundary-ends (boundary-of b r t l) → v ≡ checked-curves b r t l
-  unfolding checked-curves
-  ends-tested c v e p o f g = f ∙ ap ends-test g ∙ chain-goes-on p o
+module _ {p before after : Sides} {whole : Check} (f : FourTested p before after whole) where
+  pub tested-passed : whole ≡ Passed → T (is-passed (curves-tested p))
+  tested-passed e = subst (λ (v : Verdict). T (is-passed v)) (f .told) (told-passed whole e)
 
   -- ---- the answer
 
-  pub not-joined : (c : Check) (cause : Refusal) → c ≡ Refused cause → outcome c ≡ checked-curves b r t l → joined-of (boundary-answer.Refused cause) ≡ joined-curves b r t l
+  not-joined : (d : Check) (cause : Refusal) → d ≡ Refused cause → outcome d ≡ checked-on p → joined-of (boundary-answer.Refused cause) ≡ joined-on p
   unfolding joined-of joined-curves
-  not-joined c cause e o = refuses (good (boundary-ends (boundary-of b r t l))) turned-away c cause (checked-curves b r t l) e o
+  not-joined d cause e o = refuses (good (boundary-ends (curves-on p))) turned-away d cause (checked-on p) e o
 
-  pub are-joined : (c : Check) (e : BoundaryEnds) → c ≡ Passed → outcome c ≡ checked-curves b r t l → e ≡ boundary-ends (boundary-of b r t l) → joined-of (boundary-answer.Joined e) ≡ joined-curves b r t l
-  unfolding joined-of joined-curves
-  are-joined c e p o g = ap good g ∙ follows (good (boundary-ends (boundary-of b r t l))) turned-away c (checked-curves b r t l) p o
+  -- a curve is refused
+  pub curve-refused : {cause : Refusal} → whole ≡ Refused cause → CurvesChecked p before after (joined-of (boundary-answer.Refused cause))
+  unfolding checked-curves
+  curve-refused {cause} e =
+      let o : outcome (Refused cause) ≡ checked-on p = chain-stops _ e (f .told) in
+      record { told = not-joined (Refused cause) cause refl o; written = λ t. absurd (refusal-not-passed cause _ o t) }
 
-  -- where there is a refusal, it is the tests' one; where there are ends, the tests are passed
-  pub told-refused : (cause : Refusal) → joined-of (boundary-answer.Refused cause) ≡ joined-curves b r t l → outcome (Refused cause) ≡ checked-curves b r t l
+  module _ {e : BoundaryEnds} (passes : whole ≡ Passed) (ends : e ≡ boundary-ends (fronts p after)) where
+    ends-are : e ≡ boundary-ends (curves-on p)
+    ends-are = ends ∙ ap boundary-ends (fronts-are (f .tables passes))
+
+    ends-tested : (v : Verdict) → v ≡ ends-test e → v ≡ checked-on p
+    unfolding checked-curves
+    ends-tested v o = o ∙ ap ends-test ends-are ∙ chain-goes-on passes (f .told)
+
+    -- the curves do not join
+    pub ends-refused : {d : Check} {cause : Refusal} → d ≡ Refused cause → outcome d ≡ ends-test e
+        → CurvesChecked p before after (joined-of (boundary-answer.Refused cause))
+    ends-refused {d} {cause} g o = record { told = not-joined d cause g (ends-tested _ o); written = λ t. f .tables passes }
+
+    -- they do
+    pub ends-joined : {d : Check} → d ≡ Passed → outcome d ≡ ends-test e → CurvesChecked p before after (joined-of (boundary-answer.Joined e))
+    unfolding joined-of joined-curves
+    ends-joined {d} g o = record {
+      told = ap good ends-are ∙ follows (good (boundary-ends (curves-on p))) turned-away d (checked-on p) g (ends-tested _ o);
+      written = λ t. f .tables passes;
+    }
+
+-- ---- what an answer says: a refusal is the tests' one, and where there are ends, the tests are passed
+
+module _ {p before after : Sides} {a : Answer BoundaryEnds} (c : CurvesChecked p before after a) where
+  pub told-refused : (cause : Refusal) → a ≡ joined-of (boundary-answer.Refused cause) → outcome (Refused cause) ≡ checked-on p
   unfolding outcome joined-of joined-curves
-  told-refused cause e = go (is-passed (checked-curves b r t l)) e
+  told-refused cause e = go (is-passed (checked-on p)) (sym e ∙ c .told)
     where
       go : (d : Bool) → _≡_ {A = Answer BoundaryEnds} (turned-away (verdict-of cause)) (elim d [
-        | true ↦ good (boundary-ends (boundary-of b r t l))
-        | false ↦ turned-away (checked-curves b r t l)
-      ]) → verdict-of cause ≡ checked-curves b r t l
+        | true ↦ good (boundary-ends (curves-on p))
+        | false ↦ turned-away (checked-on p)
+      ]) → verdict-of cause ≡ checked-on p
       go true q = absurd (true≢false (sym (ap (λ (a : Answer BoundaryEnds). is-passed (verdict a)) q) ∙ refusal-number cause))
       go false q = ap verdict q
 
-  pub told-joined : (e : BoundaryEnds) → joined-of (boundary-answer.Joined e) ≡ joined-curves b r t l → (is-passed (checked-curves b r t l) ≡ true) × (e ≡ boundary-ends (boundary-of b r t l))
+  told-joined : (e : BoundaryEnds) → a ≡ joined-of (boundary-answer.Joined e) → (is-passed (checked-on p) ≡ true) × (e ≡ boundary-ends (curves-on p))
   unfolding joined-of joined-curves
-  told-joined e q = go (is-passed (checked-curves b r t l)) refl q
+  told-joined e g = go (is-passed (checked-on p)) refl (sym g ∙ c .told)
     where
       ends-in : Answer BoundaryEnds → BoundaryEnds
       ends-in (good x) = x
@@ -92,20 +166,30 @@ module _ (b r t l : List Float) where
       is-good (good x) = true
       is-good (turned-away v) = false
 
-      go : (d : Bool) → is-passed (checked-curves b r t l) ≡ d → _≡_ {A = Answer BoundaryEnds} (good e) (elim d [
-        | true ↦ good (boundary-ends (boundary-of b r t l))
-        | false ↦ turned-away (checked-curves b r t l)
-      ]) → (is-passed (checked-curves b r t l) ≡ true) × (e ≡ boundary-ends (boundary-of b r t l))
-      go true p q = (p, ap ends-in q)
-      go false p q = absurd (true≢false (ap is-good q))
+      go : (d : Bool) → is-passed (checked-on p) ≡ d → _≡_ {A = Answer BoundaryEnds} (good e) (elim d [
+        | true ↦ good (boundary-ends (curves-on p))
+        | false ↦ turned-away (checked-on p)
+      ]) → (is-passed (checked-on p) ≡ true) × (e ≡ boundary-ends (curves-on p))
+      go true x q = (x, ap ends-in q)
+      go false x q = absurd (true≢false (ap is-good q))
 
-  -- curves that are not refused have each passed
-  pub each-passed : T (is-passed (checked-curves b r t l)) → T (is-passed (curve-test b 0)) × T (is-passed (curve-test r 1)) × T (is-passed (curve-test t 2)) × T (is-passed (curve-test l 3))
-  unfolding checked-curves curves-test
-  each-passed p =
-      four-passed (curve-test b 0) (curve-test r 1) (curve-test t 2) (curve-test l 3)
-      (then-left (then-test (curve-test b 0) (then-test (curve-test r 1) (then-test (curve-test t 2) (curve-test l 3)))) (ends-test (boundary-ends (boundary-of b r t l))) p)
+-- curves that join: they have passed, their tables are written, and these are their ends
+pub record JoinedCurves (p before after : Sides) (e : BoundaryEnds) : Type 0 where
+  pub passed : is-passed (checked-on p) ≡ true
+  pub tables : TablesWritten p before after
+  pub ends : e ≡ boundary-ends (curves-on p)
 
--- the part of a buffer that holds the table of a curve that has passed
-pub part-sampled : (points : List Float) (side : ℕ) (v : Verdict) (xs : List Float) → v ≡ curve-test points side → T (is-passed v) → xs ≡ cumulative-of points → Sampled points xs
-part-sampled points side v xs e t f = subst (Sampled points) (sym f) (sampled points side (subst (λ (x : Verdict). T (is-passed x)) e t))
+pub joined : {p before after : Sides} {a : Answer BoundaryEnds} {e : BoundaryEnds} → CurvesChecked p before after a
+    → a ≡ joined-of (boundary-answer.Joined e) → JoinedCurves p before after e
+joined {e = e} c g = let q = told-joined c e g in record { passed = q .0; tables = c .written (true-T _ (q .0)); ends = q .1 }
+
+-- so that a patch can be made of them
+pub joined-patch : {p before after : Sides} {e : BoundaryEnds} → JoinedCurves p before after e → PatchCurves (fronts p after) (e .bottom) (e .top)
+unfolding checked-curves
+joined-patch {p} {e = e} j =
+    let here : e ≡ boundary-ends (fronts p _) = j .ends ∙ sym (ap boundary-ends (fronts-are (j .tables))) in
+    record {
+      curves = fronts-sampled (then-left (curves-tested p) _ (true-T _ (j .passed))) (j .tables);
+      bottom-ends = ap (λ (x : BoundaryEnds). x .bottom) here;
+      top-ends = ap (λ (x : BoundaryEnds). x .top) here;
+    }

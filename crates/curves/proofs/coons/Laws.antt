@@ -2,7 +2,7 @@
 use mathlib.Core.Path.{_≡_, refl, sym, ap, subst, _∙_}
 use mathlib.Core.Bool.{Bool, true, false, not, _||_}
 use mathlib.Core.List.{List}
-use Prim.Native.Nat.{ℕ, _+_, _-_, _*_, _%_, _≤_, _<_}
+use Prim.Native.Nat.{ℕ, _+_, _*_, _%_, _≤_, _<_}
 use native.Mathlib.Nat.{mul-le-mul-right}
 use native.Mathlib.Omega.{arith}
 use lib.ListN.{length, take}
@@ -16,12 +16,15 @@ use Rattle.base.specs.declared.refusal.Check.the-variants.{Passed, Refused}
 use Rattle.base.specs.declared.refusal.Refusal.{Refusal}
 use Rattle.base.specs.declared.refusal.Refusal.the-variants as because
 use Rattle.base.proofs.BoolLaws.{not-T-false}
-use Rattle.base.proofs.TestLaws.{then-left, then-right, not-refused, was-passed, chain-stops, chain-goes-on, in-turn, told-passed, both-passed, four-passed, follows, refuses}
+use Rattle.base.proofs.TestLaws.{then-left, then-right, not-refused, was-passed, chain-stops, chain-goes-on, told-passed, both-passed, four-passed, follows, refuses}
 use Rattle.base.specs.Buffers.{splice}
 use Rattle.curves.specs.Boundary.{BoundaryCurves}
+use Rattle.curves.specs.inner.Curves.{Sides, ShortCurves}
+use Rattle.curves.specs.inner.Grids.{ShortSeams, PairedSeams, Gridded}
 use Rattle.curves.specs.Seam.{uniform-parameters, seam-test, pair-test, seams-test}
 use Rattle.curves.specs.Grid.{Seams, seams, n-u, n-v, Grid, grid-of, grid-test, needed}
-use Rattle.curves.specs.Coons.{Outcome, outcome-of, refusal, unless, filled, seams-and-room-test, grid-stage, curve-limit, curves-limit, seam-limit, seams-limit, cells-limit, coons-from-parameters, coons-curves, coons-nodes}
+use Rattle.curves.specs.Coons.{Outcome, outcome-of, refusal, unless, filled, seams-and-room-test, grid-stage, curve-limit, curves-limit}
+use Rattle.curves.specs.Coons.{seam-limit, seams-limit, cells-limit, coons-from-parameters, coons-curves, coons-nodes}
 use Rattle.curves.specs.declared.rows.Layout.{Layout}
 use Rattle.curves.specs.declared.rows.Layout.the-variants.{Nodes}
 use Rattle.curves.specs.declared.coons.GridAnswer.the-variants as grid-answer
@@ -31,9 +34,10 @@ use Rattle.curves.specs.Limits.{max-curve, max-seam, max-cells}
 
 -- ---- an answer, by the tests before it
 
-pub turned-away : (out : List Float) (rest : Outcome) (c : Check) (cause : Refusal) (v : Verdict) → c ≡ Refused cause → outcome c ≡ v → outcome-of (grid-answer.Refused cause) out ≡ unless v out rest
+pub turned-away : (out : List Float) (rest : Outcome) {c : Check} {cause : Refusal} {v : Verdict} → c ≡ Refused cause → outcome c ≡ v
+    → outcome-of (grid-answer.Refused cause) out ≡ unless v out rest
 unfolding outcome-of
-turned-away out rest c cause v e o = refuses rest (refusal out) c cause v e o
+turned-away out rest {c} {cause} {v} e o = refuses rest (refusal out) c cause v e o
 
 pub goes-on : (out : List Float) (rest : Outcome) (v : Verdict) → is-passed v ≡ true → rest ≡ unless v out rest
 goes-on out rest v e = ap (λ (b : Bool). elim b [
@@ -41,26 +45,37 @@ goes-on out rest v e = ap (λ (b : Bool). elim b [
   | false ↦ refusal out v
 ]) (sym e)
 
+pub let-by : (out : List Float) (rest : Outcome) {c : Check} {v : Verdict} → c ≡ Passed → outcome c ≡ v → rest ≡ unless v out rest
+let-by out rest {v = v} e o = goes-on out rest v (was-passed e o)
+
+-- two tests in a row were passed
+pub limits-passed : {c : Check} (u v : Verdict) → c ≡ Passed → outcome c ≡ then-test u v → T (is-passed u) × T (is-passed v)
+limits-passed {c} u v e o = both-passed (outcome c) u v o (told-passed c e)
+
 -- ---- the grid
 
-module _ (layout : Layout) (f : Grid) (n m : ℕ) (out : List Float) where
-  pub made : (c : Check) (left : List Float) → c ≡ Passed → outcome c ≡ grid-test f n m → left ≡ filled layout f n m out .out → outcome-of (grid-answer.Made (m * n)) left ≡ filled layout f n m out
+module _ {layout : Layout} {f : Grid} {n m : ℕ} {out left : List Float} {c : Check} (g : Gridded layout f n m out left (outcome c)) where
+  made : c ≡ Passed → outcome-of (grid-answer.Made (m * n)) left ≡ filled layout f n m out
   unfolding outcome-of filled
-  made c left e o h =
-      let q = follows (good-grid f n m layout out) (no-grid f n m layout out) c (grid-test f n m) e o in
-      ap (λ (l : List Float). record { verdict = passed; quads = m * n; out = l }) (h ∙ ap (λ (x : Outcome). x .out) (sym q)) ∙ q
+  made e =
+      let q = follows (good-grid f n m layout out) (no-grid f n m layout out) c (grid-test f n m) e (g .told) in
+      ap (λ (l : List Float). record { verdict = passed; quads = m * n; out = l }) (g .left ∙ ap (λ (x : Outcome). x .out) (sym q)) ∙ q
 
-  pub not-made : (c : Check) (cause : Refusal) (left : List Float) → c ≡ Refused cause → outcome c ≡ grid-test f n m → left ≡ filled layout f n m out .out → outcome-of (grid-answer.Refused cause) left ≡ filled layout f n m out
+  not-made : {cause : Refusal} → c ≡ Refused cause → outcome-of (grid-answer.Refused cause) left ≡ filled layout f n m out
   unfolding outcome-of filled
-  not-made c cause left e o h =
-      let q = refuses (good-grid f n m layout out) (no-grid f n m layout out) c cause (grid-test f n m) e o in
-      ap (λ (l : List Float). refusal l (verdict-of cause)) (h ∙ ap (λ (x : Outcome). x .out) (sym q)) ∙ q
+  not-made {cause} e =
+      let q = refuses (good-grid f n m layout out) (no-grid f n m layout out) c cause (grid-test f n m) e (g .told) in
+      ap (λ (l : List Float). refusal l (verdict-of cause)) (g .left ∙ ap (λ (x : Outcome). x .out) (sym q)) ∙ q
 
 -- ---- the seams and the room
 
+abbrev pub seams-tested : Seams → Verdict
+seams-tested s = seams-test (s .bottom) (s .top) (s .left) (s .right)
+
 long-enough : (xs : List Float) (k : ℕ) → T (is-passed (seam-test xs k)) → 2 ≤ length xs
 unfolding seam-test
-long-enough xs k q = let short = ltb (length xs) 2 in ltb-false (length xs) 2 (not-T-false short (T-not short (not-refused short 17 k 0 (then-left (refuse-if short (refused 18 k 0)) _ q))))
+long-enough xs k q = let short = ltb (length xs) 2 in ltb-false (length xs) 2
+    (not-T-false short (T-not short (not-refused short 17 k 0 (then-left (refuse-if short (refused 18 k 0)) _ q))))
 
 equally-long : (xs ys : List Float) (k : ℕ) → T (is-passed (pair-test xs ys k)) → length xs ≡ length ys
 unfolding pair-test
@@ -71,19 +86,32 @@ equally-long xs ys k q = go (eqb (length xs) (length ys)) refl q
     go false e u = absurd u
 
 -- what seams that are let by are like
-pub seams-passed : (b t l r : List Float) → T (is-passed (seams-test b t l r)) → (2 ≤ length b) × (length b ≡ length t) × (2 ≤ length l) × (length l ≡ length r)
+pub seams-paired : {s : Seams} {k : Check} → ShortSeams s → k ≡ Passed → outcome k ≡ seams-tested s → PairedSeams s
 unfolding seams-test
-seams-passed b t l r p =
+seams-paired {s} {k} short e o =
+    let b = s .bottom in
+    let t = s .top in
+    let l = s .left in
+    let r = s .right in
     let v1 = then-test (pair-test b t 0) (pair-test l r 1) in
     let v2 = then-test (seam-test r 1) v1 in
     let v3 = then-test (seam-test l 3) v2 in
     let v4 = then-test (seam-test t 2) v3 in
+    let p = subst (λ (v : Verdict). T (is-passed v)) o (told-passed k e) in
     let p3 = then-right (seam-test t 2) v3 (then-right (seam-test b 0) v4 p) in
     let p1 = then-right (seam-test r 1) v1 (then-right (seam-test l 3) v2 p3) in
-    (long-enough b 0 (then-left (seam-test b 0) v4 p), equally-long b t 0 (then-left (pair-test b t 0) (pair-test l r 1) p1), long-enough l 3 (then-left (seam-test l 3) v2 p3), equally-long l r 1 (then-right (pair-test b t 0) (pair-test l r 1) p1))
-
-pub seams-fine : (b t l r : List Float) (k : Check) → k ≡ Passed → outcome k ≡ seams-test b t l r → (2 ≤ length b) × (length b ≡ length t) × (2 ≤ length l) × (length l ≡ length r)
-seams-fine b t l r k e o = seams-passed b t l r (subst (λ (v : Verdict). T (is-passed v)) o (told-passed k e))
+    record {
+      u = record {
+        two = long-enough b 0 (then-left (seam-test b 0) v4 p);
+        short = short .bottom;
+        same = equally-long b t 0 (then-left (pair-test b t 0) (pair-test l r 1) p1);
+      };
+      v = record {
+        two = long-enough l 3 (then-left (seam-test l 3) v2 p3);
+        short = short .left;
+        same = equally-long l r 1 (then-right (pair-test b t 0) (pair-test l r 1) p1);
+      };
+    }
 
 pub cells-fit : (n m : ℕ) → n ≤ max-cells → m ≤ max-cells → m * n ≤ 1048576
 cells-fit n m h k = let e : m * n ≤ max-cells * n = mul-le-mul-right n k in omega arith
@@ -92,51 +120,71 @@ module _ (layout : Layout) (c : BoundaryCurves) (s : Seams) (out : List Float) w
   abbrev rest : Outcome
   rest = filled layout (grid-of c s) (n-u s) (n-v s) out
 
-  pub bad-seams : (k : Check) (cause : Refusal) → k ≡ Refused cause → outcome k ≡ seams-test (s .bottom) (s .top) (s .left) (s .right) → outcome-of (grid-answer.Refused cause) out ≡ grid-stage layout c s out
+  pub bad-seams : {k : Check} {cause : Refusal} → k ≡ Refused cause → outcome k ≡ seams-tested s
+      → outcome-of (grid-answer.Refused cause) out ≡ grid-stage layout c s out
   unfolding grid-stage seams-and-room-test
-  bad-seams k cause e o = turned-away out rest (Refused cause) cause _ refl (chain-stops (refuse-if (ltb (length out) (needed layout (n-u s) (n-v s))) (refused 11 0 0)) e o)
+  bad-seams e o = turned-away out rest refl (chain-stops (refuse-if (ltb (length out) (needed layout (n-u s) (n-v s))) (refused 11 0 0)) e o)
 
-  -- the chain, once the seams are let by
-  room-only : (k : Check) (d : Bool) → k ≡ Passed → outcome k ≡ seams-test (s .bottom) (s .top) (s .left) (s .right) → ltb (length out) (needed layout (n-u s) (n-v s)) ≡ d
-      → refuse-if d (refused 11 0 0) ≡ seams-and-room-test layout s (length out)
-  unfolding seams-and-room-test
-  room-only k d e o h = ap (λ (x : Bool). refuse-if x (refused 11 0 0)) (sym h) ∙ chain-goes-on e o
+  module _ {k : Check} (e : k ≡ Passed) (o : outcome k ≡ seams-tested s) where
+    -- the chain, once the seams are let by
+    room-only : (d : Bool) → ltb (length out) (needed layout (n-u s) (n-v s)) ≡ d → refuse-if d (refused 11 0 0) ≡ seams-and-room-test layout s (length out)
+    unfolding seams-and-room-test
+    room-only d h = ap (λ (x : Bool). refuse-if x (refused 11 0 0)) (sym h) ∙ chain-goes-on e o
 
-  pub no-room : (k : Check) → k ≡ Passed → outcome k ≡ seams-test (s .bottom) (s .top) (s .left) (s .right) → length out < needed layout (n-u s) (n-v s)
-      → outcome-of (grid-answer.Refused because.OutputTooShort) out ≡ grid-stage layout c s out
-  unfolding grid-stage outcome verdict-of
-  no-room k e o h = turned-away out rest (Refused because.OutputTooShort) because.OutputTooShort _ refl (room-only k true e o (lt-ltb (length out) (needed layout (n-u s) (n-v s)) h))
+    pub no-room : length out < needed layout (n-u s) (n-v s) → outcome-of (grid-answer.Refused because.OutputTooShort) out ≡ grid-stage layout c s out
+    unfolding grid-stage outcome verdict-of
+    no-room h = turned-away out rest {c = Refused because.OutputTooShort} refl (room-only true (lt-ltb (length out) (needed layout (n-u s) (n-v s)) h))
 
-  pub to-the-grid : (k : Check) (x : Outcome) → k ≡ Passed → outcome k ≡ seams-test (s .bottom) (s .top) (s .left) (s .right) → needed layout (n-u s) (n-v s) ≤ length out
-      → x ≡ filled layout (grid-of c s) (n-u s) (n-v s) out → x ≡ grid-stage layout c s out
-  unfolding grid-stage
-  to-the-grid k x e o h q = q ∙ goes-on out rest (seams-and-room-test layout s (length out)) (ap is-passed (sym (room-only k false e o (le-ltb (length out) (needed layout (n-u s) (n-v s)) h))))
+    to-the-grid : (x : Outcome) → needed layout (n-u s) (n-v s) ≤ length out → x ≡ rest → x ≡ grid-stage layout c s out
+    unfolding grid-stage
+    to-the-grid x h q =
+        q ∙ goes-on out rest (seams-and-room-test layout s (length out))
+        (ap is-passed (sym (room-only false (le-ltb (length out) (needed layout (n-u s) (n-v s)) h))))
+
+    module _ {left : List Float} {g : Check} (h : needed layout (n-u s) (n-v s) ≤ length out)
+        (w : Gridded layout (grid-of c s) (n-u s) (n-v s) out left (outcome g)) where
+      pub grid-made : g ≡ Passed → outcome-of (grid-answer.Made (n-v s * n-u s)) left ≡ grid-stage layout c s out
+      grid-made p = to-the-grid _ h (made w p)
+
+      pub grid-refused : {cause : Refusal} → g ≡ Refused cause → outcome-of (grid-answer.Refused cause) left ≡ grid-stage layout c s out
+      grid-refused p = to-the-grid _ h (not-made w p)
 
 -- ---- limits
 
-pub curve-let-by : (points : List Float) → T (is-passed (curve-limit points)) → length points ≤ max-curve
+curve-let-by : (points : List Float) → T (is-passed (curve-limit points)) → length points ≤ max-curve
 unfolding curve-limit
 curve-let-by points p = go (ltb max-curve (length points)) refl p
   where
-    go : (d : Bool) → ltb max-curve (length points) ≡ d → T (is-passed (refuse-if (d || not (eqb (length points % 2) 0)) (refused 1 0 0))) → length points ≤ max-curve
+    go : (d : Bool) → ltb max-curve (length points) ≡ d → T (is-passed (refuse-if (d || not (eqb (length points % 2) 0)) (refused 1 0 0)))
+        → length points ≤ max-curve
     go true e q = absurd q
     go false e q = ltb-false max-curve (length points) e
 
-pub curves-let-by : (b r t l : List Float) → T (is-passed (curves-limit b r t l)) → (length b ≤ max-curve) × (length r ≤ max-curve) × (length t ≤ max-curve) × (length l ≤ max-curve)
+pub curves-let-by : {p : Sides} → T (is-passed (curves-limit (p .bottom) (p .right) (p .top) (p .left))) → ShortCurves max-curve p
 unfolding curves-limit
-curves-let-by b r t l p =
-    let q = four-passed (curve-limit b) (curve-limit r) (curve-limit t) (curve-limit l) p in
-    (curve-let-by b (q .0), curve-let-by r (q .1), curve-let-by t (q .2), curve-let-by l (q .3))
+curves-let-by {p} passed =
+    let q = four-passed (curve-limit (p .bottom)) (curve-limit (p .right)) (curve-limit (p .top)) (curve-limit (p .left)) passed in
+    record {
+      bottom = curve-let-by (p .bottom) (q .0);
+      right = curve-let-by (p .right) (q .1);
+      top = curve-let-by (p .top) (q .2);
+      left = curve-let-by (p .left) (q .3);
+    }
 
-pub seam-let-by : (values : List Float) → T (is-passed (seam-limit values)) → length values ≤ max-seam
+seam-let-by : (values : List Float) → T (is-passed (seam-limit values)) → length values ≤ max-seam
 unfolding seam-limit
 seam-let-by values p = let long = ltb max-seam (length values) in ltb-false max-seam (length values) (not-T-false long (T-not long (not-refused long 0 0 0 p)))
 
-pub seams-let-by : (b t l r : List Float) → T (is-passed (seams-limit (seams b t l r))) → (length b ≤ max-seam) × (length t ≤ max-seam) × (length l ≤ max-seam) × (length r ≤ max-seam)
+pub seams-let-by : {s : Seams} → T (is-passed (seams-limit s)) → ShortSeams s
 unfolding seams-limit
-seams-let-by b t l r p =
-    let q = four-passed (seam-limit b) (seam-limit t) (seam-limit l) (seam-limit r) p in
-    (seam-let-by b (q .0), seam-let-by t (q .1), seam-let-by l (q .2), seam-let-by r (q .3))
+seams-let-by {s} passed =
+    let q = four-passed (seam-limit (s .bottom)) (seam-limit (s .top)) (seam-limit (s .left)) (seam-limit (s .right)) passed in
+    record {
+      bottom = seam-let-by (s .bottom) (q .0);
+      top = seam-let-by (s .top) (q .1);
+      left = seam-let-by (s .left) (q .2);
+      right = seam-let-by (s .right) (q .3);
+    }
 
 -- ---- even seams
 
@@ -145,20 +193,10 @@ unfolding uniform-parameters
 length-even n = length-tabulate _ 0 (n + 1)
 
 -- the front of the buffer that they were written to
-pub even-part : (n : ℕ) (d xs : List Float) → xs ≡ splice d 0 (uniform-parameters n) → take (n + 1) xs ≡ uniform-parameters n
-even-part n d xs e = ap (take (n + 1)) e ∙ take-splice d (uniform-parameters n) (n + 1) (length-even n)
+pub even-part : (n : ℕ) (d : List Float) {xs : List Float} → xs ≡ splice d 0 (uniform-parameters n) → take (n + 1) xs ≡ uniform-parameters n
+even-part n d e = ap (take (n + 1)) e ∙ take-splice d (uniform-parameters n) (n + 1) (length-even n)
 
--- ---- the limits of both, then what follows
-
--- both tests were passed
-pub limits-passed : (c c0 c1 : Check) (u v : Verdict) → c ≡ Passed → outcome c ≡ then-test (outcome c0) (outcome c1) → outcome c0 ≡ u → outcome c1 ≡ v → T (is-passed u) × T (is-passed v)
-limits-passed c c0 c1 u v e o p q = both-passed (outcome c) u v (in-turn _ _ _ u v o p q) (told-passed c e)
-
-pub past-limits : (out : List Float) (x rest : Outcome) (c c0 c1 : Check) (u v : Verdict) → c ≡ Passed → outcome c ≡ then-test (outcome c0) (outcome c1) → outcome c0 ≡ u → outcome c1 ≡ v → x ≡ rest → x ≡ unless (then-test u v) out rest
-past-limits out x rest c c0 c1 u v e o p q h = h ∙ goes-on out rest (then-test u v) (was-passed e (in-turn _ _ _ u v o p q))
-
-pub at-limits : (out : List Float) (rest : Outcome) (c c0 c1 : Check) (cause : Refusal) (u v : Verdict) → c ≡ Refused cause → outcome c ≡ then-test (outcome c0) (outcome c1) → outcome c0 ≡ u → outcome c1 ≡ v → outcome-of (grid-answer.Refused cause) out ≡ unless (then-test u v) out rest
-at-limits out rest c c0 c1 cause u v e o p q = turned-away out rest c cause (then-test u v) e (in-turn _ _ _ u v o p q)
+-- ---- cells
 
 -- what numbers of cells that are let by are like
 pub cells-let-by : (n m : ℕ) → T (is-passed (cells-limit n m)) → (n ≤ max-cells) × (m ≤ max-cells)
@@ -195,12 +233,14 @@ passed-before v out rest h = go (is-passed v) refl h
     go false e h = subst (λ (x : Verdict). T (is-passed x)) h tt
 
 -- a grid that is made has numbers of cells that are let by
-cells-of-made : (layout : Layout) (bottom right top left : List Float) (n m : ℕ) (out : List Float) → passed ≡ coons-curves layout bottom right top left n m out .verdict
+cells-of-made : (layout : Layout) (bottom right top left : List Float) (n m : ℕ) (out : List Float)
+    → passed ≡ coons-curves layout bottom right top left n m out .verdict
     → (n ≤ max-cells) × (m ≤ max-cells)
 unfolding coons-curves
 cells-of-made layout bottom right top left n m out h =
     let limits : Verdict = then-test (curves-limit bottom right top left) (cells-limit n m) in
     cells-let-by n m (then-right (curves-limit bottom right top left) (cells-limit n m) (passed-before limits out _ h))
 
-pub cells-of-nodes : (bottom right top left : List Float) (n m : ℕ) (out : List Float) → passed ≡ coons-nodes bottom right top left n m out .verdict → (n ≤ max-cells) × (m ≤ max-cells)
+pub cells-of-nodes : (bottom right top left : List Float) (n m : ℕ) (out : List Float) → passed ≡ coons-nodes bottom right top left n m out .verdict
+    → (n ≤ max-cells) × (m ≤ max-cells)
 cells-of-nodes bottom right top left n m out h = cells-of-made Nodes bottom right top left n m out h

@@ -9,6 +9,7 @@ use lib.Seq.{drop-cons}
 use lib.Dec.{ltb}
 use lib.Ieee.{Float, nan, binary64, add}
 use borrow.Author.Tests.{lt-ltb, le-ltb}
+use Rattle.base.specs.declared.verdict.Verdict.{Verdict}
 use Rattle.base.specs.Refusal.{refused, then-test, refuse-if}
 use Rattle.floats.specs.Scalar.{is-finite}
 use Rattle.base.specs.Buffers.{splice}
@@ -38,10 +39,10 @@ finite-end xs i h = ap all-finite (drop-of-length-le xs h)
 -- ---- the table of lengths
 
 -- one point further
-pub length-more : (points : List Float) (k : ℕ) (run step : Float) (p q : Point) → run ≡ length-to points k → p ≡ point-at points k → q ≡ point-at points (k + 1) → step ≡ distance p q
-    → add binary64 run step ≡ length-to points (k + 1)
+pub length-more : (points : List Float) (k : ℕ) {run step : Float} {p q : Point} → run ≡ length-to points k → p ≡ point-at points k
+    → q ≡ point-at points (k + 1) → step ≡ distance p q → add binary64 run step ≡ length-to points (k + 1)
 unfolding length-to
-length-more points k run step p q e f g h =
+length-more points k {step = step} {q = q} e f g h =
     ap (λ (x : Float). add binary64 x step) e
     ∙ ap (add binary64 (length-to points k)) (h ∙ ap (λ (x : Point). distance x q) f ∙ ap (distance (point-at points k)) (g ∙ ap (point-at points) (add-one k)))
     ∙ sym (ap (length-to points) (add-one k))
@@ -56,14 +57,17 @@ written points d xs e = ap (take (point-count points)) e ∙ take-splice d (cumu
 
 -- ---- 13, 14, 15
 
-by-tests : (points : List Float) (side : ℕ) (short finite : Bool) (total : Float) → ltb (point-count points) 2 ≡ short → all-finite points ≡ finite → total ≡ total-length points
+by-tests : (points : List Float) (side : ℕ) (short finite : Bool) (total : Float) → ltb (point-count points) 2 ≡ short → all-finite points ≡ finite
+    → total ≡ total-length points
     → then-test (refuse-if short (refused 13 side 0)) (then-test (refuse-if (not finite) (refused 14 side 0)) (total-test total side)) ≡ curve-test points side
 unfolding curve-test
 by-tests points side short finite total e f g =
+    let chain : Bool → Bool → Float → Verdict =
+    λ s b x. then-test (refuse-if s (refused 13 side 0)) (then-test (refuse-if (not b) (refused 14 side 0)) (total-test x side)) in
     sym
-    (ap (λ (b : Bool). then-test (refuse-if b (refused 13 side 0)) (then-test (refuse-if (not (all-finite points)) (refused 14 side 0)) (total-test (total-length points) side))) e
-    ∙ ap (λ (b : Bool). then-test (refuse-if short (refused 13 side 0)) (then-test (refuse-if (not b) (refused 14 side 0)) (total-test (total-length points) side))) f
-    ∙ ap (λ (x : Float). then-test (refuse-if short (refused 13 side 0)) (then-test (refuse-if (not finite) (refused 14 side 0)) (total-test x side))) (sym g))
+    (ap (λ (b : Bool). chain b (all-finite points) (total-length points)) e
+    ∙ ap (λ (b : Bool). chain short b (total-length points)) f
+    ∙ ap (chain short finite) (sym g))
 
 pub too-short : (points : List Float) (side : ℕ) → point-count points < 2 → refused 13 side 0 ≡ curve-test points side
 too-short points side h = by-tests points side true _ _ (lt-ltb (point-count points) 2 h) refl refl
@@ -71,5 +75,6 @@ too-short points side h = by-tests points side true _ _ (lt-ltb (point-count poi
 pub not-finite : (points : List Float) (side : ℕ) → 2 ≤ point-count points → all-finite points ≡ false → refused 14 side 0 ≡ curve-test points side
 not-finite points side h f = by-tests points side false false _ (le-ltb (point-count points) 2 h) f refl
 
-pub measured : (points : List Float) (side : ℕ) (total : Float) → 2 ≤ point-count points → all-finite points ≡ true → total ≡ total-length points → total-test total side ≡ curve-test points side
-measured points side total h f g = by-tests points side false true total (le-ltb (point-count points) 2 h) f g
+pub measured : (points : List Float) (side : ℕ) {total : Float} → 2 ≤ point-count points → all-finite points ≡ true → total ≡ total-length points
+    → total-test total side ≡ curve-test points side
+measured points side {total} h f g = by-tests points side false true total (le-ltb (point-count points) 2 h) f g

@@ -19,25 +19,27 @@ module _ (c : List Float) (target : Float) (rises : Rising c) where
   before i zero h k = let e : i + 0 ≡ i = omega arith in subst (λ (n : ℕ). le (getD c n nan) target ≡ true) e k
   before i (suc j) h k =
       let e : i + suc j ≡ i + j + 1 = omega arith in
-      before i j (omega arith) (le-le (getD c (i + j) nan) (getD c (i + j + 1) nan) target (rises (i + j) (omega arith)) (subst (λ (n : ℕ). le (getD c n nan) target ≡ true) e k))
+      before i j (omega arith) (le-le (getD c (i + j) nan) (getD c (i + j + 1) nan) target (rises (i + j) (omega arith))
+      (subst (λ (n : ℕ). le (getD c n nan) target ≡ true) e k))
 
   -- after a length above the target each is
   after : (i j : ℕ) → i + j < length c → lt target (getD c i nan) ≡ true → lt target (getD c (i + j) nan) ≡ true
   after i zero h k = let e : i ≡ i + 0 = omega arith in subst (λ (n : ℕ). lt target (getD c n nan) ≡ true) e k
   after i (suc j) h k =
       let e : i + j + 1 ≡ i + suc j = omega arith in
-      subst (λ (n : ℕ). lt target (getD c n nan) ≡ true) e (lt-le target (getD c (i + j) nan) (getD c (i + j + 1) nan) (after i j (omega arith) k) (rises (i + j) (omega arith)))
+      subst (λ (n : ℕ). lt target (getD c n nan) ≡ true) e
+      (lt-le target (getD c (i + j) nan) (getD c (i + j + 1) nan) (after i j (omega arith) k) (rises (i + j) (omega arith)))
 
   module _ (k : ℕ) (inside : InSegment c k target) where
     to-left : (m : ℕ) → m ≤ k → le (getD c m nan) target ≡ true
     to-left m h =
         let e : k ≡ m + (k - m) = omega arith in
-        before m (k - m) (omega (arith, inside .0)) (subst (λ (n : ℕ). le (getD c n nan) target ≡ true) e (inside .1))
+        before m (k - m) (omega (arith, inside .has-end)) (subst (λ (n : ℕ). le (getD c n nan) target ≡ true) e (inside .from-start))
 
     to-right : (m : ℕ) → k < m → m < length c → le (getD c m nan) target ≡ false
     to-right m h l =
         let e : k + 1 + (m - (k + 1)) ≡ m = omega arith in
-        lt-not-le target (getD c m nan) (subst (λ (n : ℕ). lt target (getD c n nan) ≡ true) e (after (k + 1) (m - (k + 1)) (omega arith) (inside .2)))
+        lt-not-le target (getD c m nan) (subst (λ (n : ℕ). lt target (getD c n nan) ≡ true) e (after (k + 1) (m - (k + 1)) (omega arith) (inside .below-end)))
 
     -- from any lo and hi around k; n bounds their distance
     found : (n lo hi : ℕ) → hi - lo ≤ n → lo ≤ k → k < hi → hi < length c → halved c target lo hi ≡ k
@@ -57,6 +59,9 @@ module _ (c : List Float) (target : Float) (rises : Rising c) where
             let u = ltb-false k ((lo + hi) / 2) f in
             step-right c target lo hi s (to-left ((lo + hi) / 2) u) ∙ next ((lo + hi) / 2) hi (omega arith) u q l
 
-    pub hinted : k ≡ segment-at c target
+    found-whole : k ≡ segment-at c target
     unfolding segment-at
-    hinted = let h = inside .0 in sym (found (length c - 1) 0 (length c - 1) (omega arith) (omega arith) (omega arith) (omega arith))
+    found-whole = let h = inside .has-end in sym (found (length c - 1) 0 (length c - 1) (omega arith) (omega arith) (omega arith) (omega arith))
+
+pub hinted : {lengths : List Float} {target : Float} {k : ℕ} → Rising lengths → InSegment lengths k target → k ≡ segment-at lengths target
+hinted {lengths} {target} {k} rises inside = found-whole lengths target rises k inside

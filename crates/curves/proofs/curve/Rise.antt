@@ -1,4 +1,5 @@
--- Where the whole length of a curve is finite, the lengths run rise: a distance is not below zero, and a sum rounded is not below what it was added to. Assumes nothing.
+-- Where the whole length of a curve is finite, the lengths run rise: a distance is not below zero, and a sum rounded is not below what it was added
+-- to. Assumes nothing.
 use mathlib.Core.Path.{_≡_, refl, sym, ap, subst, _∙_}
 use mathlib.Core.Bool.{Bool, true, false, not, cond}
 use mathlib.Core.List.{List}
@@ -20,7 +21,7 @@ use Rattle.base.proofs.TestLaws.{then-left, then-right, not-refused}
 use Rattle.floats.specs.Scalar.{nought, is-finite, is-positive}
 use Rattle.base.specs.Buffers.{tabulate}
 use Rattle.floats.specs.Root.{among, rounded, root}
-use Rattle.curves.specs.Curve.{point-count, point-at, distance, length-to, total-length, cumulative-of, all-finite, total-test, curve-test}
+use Rattle.curves.specs.Curve.{point-count, point-at, distance, length-to, total-length, cumulative-of, arc-curve, all-finite, total-test, curve-test}
 use Rattle.curves.specs.inner.Segments.{Rising, Sampled}
 use Rattle.curves.specs.declared.point.Point.{Point}
 use Rattle.floats.proofs.root.Amounts.{among-of}
@@ -135,13 +136,15 @@ step f (fin false m e) (fin true (suc o) k) h n t = absurd n
 before : (points : List Float) (k j : ℕ) → T (is-finite (length-to points (k + j))) → T (is-finite (length-to points k))
 unfolding length-to
 before points k zero t = subst (λ (n : ℕ). T (is-finite (length-to points n))) (add-zero k) t
-before points k (suc j) t = before points k j (add-finite binary64 (length-to points (k + j)) _ (subst (λ (n : ℕ). T (is-finite (length-to points n))) (add-suc k j) t))
+before points k (suc j) t = before points k j (add-finite binary64 (length-to points (k + j)) _
+    (subst (λ (n : ℕ). T (is-finite (length-to points n))) (add-suc k j) t))
 
 none-among : T (among binary64 nought)
 unfolding among ofBits fits
 none-among = tt
 
-run-next : (points : List Float) (k : ℕ) → T (among binary64 (length-to points k)) → T (is-finite (length-to points (suc k))) → Next binary64 (length-to points k) (length-to points (suc k))
+run-next : (points : List Float) (k : ℕ) → T (among binary64 (length-to points k)) → T (is-finite (length-to points (suc k)))
+    → Next binary64 (length-to points k) (length-to points (suc k))
 unfolding length-to
 run-next points k h t =
     let p = point-at points k in
@@ -200,7 +203,7 @@ sampled-rise points lengths side t e =
     subst Rising (sym e) (lengths-rise points (total-finite (total-length points) side v))
 
 -- a curve that has passed can be asked for its points
-pub sampled : (points : List Float) (side : ℕ) → T (is-passed (curve-test points side)) → Sampled points (cumulative-of points)
+pub sampled : (points : List Float) (side : ℕ) → T (is-passed (curve-test points side)) → Sampled (arc-curve points)
 unfolding curve-test
 sampled points side t =
     let short = ltb (point-count points) 2 in
@@ -208,4 +211,4 @@ sampled points side t =
     let two : 2 ≤ point-count points = ltb-false (point-count points) 2 (not-T-false short (T-not short long)) in
     let rise = sampled-rise points (cumulative-of points) side t refl in
     let l = length-cumulative points in
-    (omega (arith, l, two), omega (arith, l), rise)
+    record { lengths = record { two = omega (arith, l, two); rising = rise }; points = omega (arith, l) }

@@ -1,7 +1,7 @@
 -- Laws of lay: how long its seams are, its tests one by one, what they let by, and its answer by them. Assumes nothing.
 use mathlib.Core.Path.{_≡_, refl, sym, ap, subst, _∙_}
 use mathlib.Core.Bool.{Bool, true, false, true≢false, not, _||_, cond}
-use mathlib.Core.List.{List, [], _∷_, _++_}
+use mathlib.Core.List.{List, [], _∷_}
 use Prim.Native.Nat.{ℕ, zero, suc, _+_, _/_, _≤_, _<_}
 use native.Mathlib.Nat.{add-suc}
 use native.Mathlib.Omega.{arith}
@@ -9,7 +9,7 @@ use lib.Dec.{T, ltb, eqb, ltb→lt, eqb→eq}
 use lib.Ieee.{Float}
 use lib.Ieee.Fits.{and-l, and-r}
 use lib.ListN.{length, getD, set, take, drop, length-append}
-use lib.Seq.{take-all, take-at}
+use lib.Seq.{take-all}
 use Rattle.base.specs.Lists.{all}
 use Rattle.base.specs.declared.verdict.Verdict.{Verdict}
 use Rattle.base.specs.Refusal.{refused, verdict-of, outcome, is-passed, then-test, refuse-if}
@@ -31,10 +31,11 @@ use Rattle.curves.specs.Coons.{Outcome, outcome-of, curves-limit, seam-l
 use Rattle.curves.specs.Lay.{TileInput, counts-along, seam-of, seams-of, record-test, edges-test, breaks-test, sides-test, lay-test, lay}
 use Rattle.curves.specs.declared.rows.Layout.the-variants.{Quads}
 use Rattle.curves.specs.declared.coons.GridAnswer.the-variants as grid-answer
-use Rattle.base.proofs.BufferLaws.{part-written, set-splice}
+use Rattle.base.proofs.BufferLaws.{part-written, set-splice, take-splice}
 use Rattle.curves.proofs.coons.Laws.{turned-away, goes-on}
 use Rattle.curves.proofs.seam.Laws.{length-edge}
 use Rattle.curves.specs.Limits.{max-seam}
+use Rattle.curves.specs.inner.Lays.{Counted, SidePassed, SideLaid, FourShort}
 
 -- ---- how long a seam is: one more than its side adds up to
 
@@ -52,9 +53,10 @@ pub length-seam : (region counts : List ℕ) (k : ℕ) (breaks : List Float) →
 unfolding seam-of side-seam
 length-seam region counts k breaks = length-from breaks 0 counts (side places region k)
 
-pub seam-is : (region counts : List ℕ) (k : ℕ) (breaks : List Float) (along : List ℕ) → along ≡ counts-along counts (side places region k) → side-seam breaks along ≡ seam-of region counts k breaks
+pub seam-is : (region counts : List ℕ) (k : ℕ) (breaks : List Float) {along : List ℕ} → along ≡ counts-along counts (side places region k)
+    → side-seam breaks along ≡ seam-of region counts k breaks
 unfolding seam-of
-seam-is region counts k breaks along e = ap (side-seam breaks) e
+seam-is region counts k breaks e = ap (side-seam breaks) e
 
 -- ---- the counts of a side's edges
 
@@ -68,22 +70,23 @@ along-drop counts [] (suc i) = refl
 along-drop counts (e ∷ edges) (suc i) = along-drop counts edges i
 
 -- the front of the buffer that they were written to
-pub along-part : (counts edges xs rest : List ℕ) → xs ≡ counts-along counts edges ++ rest → take (length edges) xs ≡ counts-along counts edges
-along-part counts edges xs rest e = ap (take (length edges)) e ∙ take-at (counts-along counts edges) rest (length edges) (length-along counts edges)
+pub along-front : {counts edges before after : List ℕ} {total : ℕ} → Counted edges counts before after total → take (length edges) after ≡ counts-along counts edges
+along-front {counts} {edges} {before} c =
+    ap (take (length edges)) (c .written) ∙ take-splice before (counts-along counts edges) (length edges) (length-along counts edges)
 
 -- a turn of the loop that writes them to a buffer d, and its end
 module _ (counts edges d : List ℕ) where
-  pub along-more : (out : List ℕ) (i v : ℕ) → i < length edges → length edges ≤ length d → length out ≡ length d → v ≡ getD counts (getD edges i 0) 0
-      → out ≡ splice d 0 (take i (counts-along counts edges)) → set out i v ≡ splice d 0 (take (i + 1) (counts-along counts edges))
-  along-more out i v h g l e o =
+  pub along-more : {out : List ℕ} {v : ℕ} (i : ℕ) → out ≡ splice d 0 (take i (counts-along counts edges)) → i < length edges → length edges ≤ length d
+      → length out ≡ length d → v ≡ getD counts (getD edges i 0) 0 → set out i v ≡ splice d 0 (take (i + 1) (counts-along counts edges))
+  along-more {out} {v} i o h g l e =
       let n = length-along counts edges in
       part-written d out (counts-along counts edges) (v ∷ []) (counts-along counts (drop (i + 1) edges)) i (set out i v) (omega (arith, n)) (omega (arith, n))
       (along-drop counts edges i
       ∙ ap (counts-along counts) (drop-at edges 0 i h)
       ∙ ap (λ (x : ℕ). x ∷ counts-along counts (drop (i + 1) edges)) (sym e)) o (set-splice out i v (omega arith))
 
-  pub along-done : (out : List ℕ) (i : ℕ) → length edges ≤ i → out ≡ splice d 0 (take i (counts-along counts edges)) → out ≡ splice d 0 (counts-along counts edges)
-  along-done out i h o = o ∙ ap (splice d 0) (take-all i (counts-along counts edges) (let n = length-along counts edges in omega (arith, n)))
+  pub along-done : {out : List ℕ} (i : ℕ) → out ≡ splice d 0 (take i (counts-along counts edges)) → length edges ≤ i → out ≡ splice d 0 (counts-along counts edges)
+  along-done i o h = o ∙ ap (splice d 0) (take-all i (counts-along counts edges) (let n = length-along counts edges in omega (arith, n)))
 
 pub edge-below : (n : ℕ) (edges : List ℕ) (i : ℕ) → T (all (λ (e : ℕ). ltb e n) edges) → i < length edges → getD edges i 0 < n
 edge-below n [] i t h = absurd (omega arith)
@@ -93,18 +96,21 @@ edge-below n (e ∷ edges) (suc i) t h = edge-below n edges i (and-r (ltb e n) (
 -- ---- the tests, by what the code finds
 
 module _ (region : List ℕ) (n : ℕ) where
-  pub record-by : (b : Bool) → eqb (length region) (record-size places) ≡ b → then-test (refuse-if (not b) (refused 1 0 0)) (limits-test places n region) ≡ record-test region n
+  pub record-by : (b : Bool) → eqb (length region) (record-size places) ≡ b
+      → then-test (refuse-if (not b) (refused 1 0 0)) (limits-test places n region) ≡ record-test region n
   unfolding record-test
   record-by b e = ap (λ (x : Bool). then-test (refuse-if (not x) (refused 1 0 0)) (limits-test places n region)) (sym e)
 
-  pub edges-by : (k : ℕ) (edges : List ℕ) (b : Bool) → edges ≡ side places region k → all (λ (e : ℕ). ltb e n) edges ≡ b → refuse-if (not b) (refused 3 0 k) ≡ edges-test region n k
+  pub edges-by : (k : ℕ) {edges : List ℕ} (b : Bool) → edges ≡ side places region k → all (λ (e : ℕ). ltb e n) edges ≡ b
+      → refuse-if (not b) (refused 3 0 k) ≡ edges-test region n k
   unfolding edges-test
-  edges-by k edges b s e = ap (λ (x : Bool). refuse-if (not x) (refused 3 0 k)) (sym e ∙ ap (all (λ (x : ℕ). ltb x n)) s)
+  edges-by k b s e = ap (λ (x : Bool). refuse-if (not x) (refused 3 0 k)) (sym e ∙ ap (all (λ (x : ℕ). ltb x n)) s)
 
-pub breaks-by : (region : List ℕ) (breaks : List Float) (k : ℕ) (edges : List ℕ) (b : Bool) → edges ≡ side places region k → eqb (length breaks) (suc (length edges)) ≡ b
+pub breaks-by : (region : List ℕ) (breaks : List Float) (k : ℕ) {edges : List ℕ} (b : Bool) → edges ≡ side places region k
+    → eqb (length breaks) (suc (length edges)) ≡ b
     → refuse-if (not b) (refused 27 k 0) ≡ breaks-test region breaks k
 unfolding breaks-test
-breaks-by region breaks k edges b s e = ap (λ (x : Bool). refuse-if (not x) (refused 27 k 0)) (sym e ∙ ap (λ (l : List ℕ). eqb (length breaks) (suc (length l))) s)
+breaks-by region breaks k b s e = ap (λ (x : Bool). refuse-if (not x) (refused 27 k 0)) (sym e ∙ ap (λ (l : List ℕ). eqb (length breaks) (suc (length l))) s)
 
 -- ---- what they let by
 
@@ -116,7 +122,8 @@ pub edges-known : (region : List ℕ) (n k : ℕ) → T (is-passed (edges-test r
 unfolding edges-test
 edges-known region n k t = let b = all (λ (e : ℕ). ltb e n) (side places region k) in not-not b (not-refused (not b) 2 0 k t)
 
-pub breaks-known : (region : List ℕ) (breaks : List Float) (k : ℕ) → T (is-passed (breaks-test region breaks k)) → length breaks ≡ suc (length (side places region k))
+pub breaks-known : (region : List ℕ) (breaks : List Float) (k : ℕ) → T (is-passed (breaks-test region breaks k))
+    → length breaks ≡ suc (length (side places region k))
 unfolding breaks-test
 breaks-known region breaks k t =
     let b = eqb (length breaks) (suc (length (side places region k))) in
@@ -127,40 +134,43 @@ pub sides-short : (region : List ℕ) (n : ℕ) → T (is-passed (record-test re
 unfolding record-test
 sides-short region n t k h =
     let v : Verdict = refuse-if (not (eqb (length region) (record-size places))) (refused 1 0 0) in
-    let e : length region ≡ record-size places = eqb→eq (length region) (record-size places) (not-not (eqb (length region) (record-size places)) (not-refused (not (eqb (length region) (record-size places))) 0 0 0 (then-left v (limits-test places n region) t))) in
+    let e : length region ≡ record-size places = eqb→eq (length region) (record-size places)
+    (not-not (eqb (length region) (record-size places))
+    (not-refused (not (eqb (length region) (record-size places))) 0 0 0 (then-left v (limits-test places n region) t))) in
     let w = limits-passed places n region (T-true (is-passed (limits-test places n region)) (then-right v (limits-test places n region) t)) .1 in
-    side-short places region k (side-few places 0 region (subst (λ (m : ℕ). T (sides-fit places (m / record-size places) region)) e (whole-sides places region w)) k h)
+    side-short places region k (side-few places 0 region
+    (subst (λ (m : ℕ). T (sides-fit places (m / record-size places) region)) e (whole-sides places region w)) k h)
 
--- what the tests let by of one side
-pub record SideKnown (region : List ℕ) (n k : ℕ) (breaks : List Float) : Type 0 where
-  pub short : length (side places region k) ≤ places
-  pub edges : T (is-passed (edges-test region n k))
-  pub fit : T (is-passed (breaks-test region breaks k))
-
+-- what they let by of the whole
 pub record Known (region : List ℕ) (n : ℕ) (f : TileInput) : Type 0 where
+  pub passed : T (is-passed (lay-test region n f))
   pub curves : T (is-passed (curves-limit (f .bottom) (f .right) (f .top) (f .left)))
-  pub side0 : SideKnown region n 0 (f .breaks0)
-  pub side1 : SideKnown region n 1 (f .breaks1)
-  pub side2 : SideKnown region n 2 (f .breaks2)
-  pub side3 : SideKnown region n 3 (f .breaks3)
+  pub side0 : SidePassed region n 0 (f .breaks0)
+  pub side1 : SidePassed region n 1 (f .breaks1)
+  pub side2 : SidePassed region n 2 (f .breaks2)
+  pub side3 : SidePassed region n 3 (f .breaks3)
 
-pub known : (region : List ℕ) (n : ℕ) (f : TileInput) → T (is-passed (lay-test region n f)) → Known region n f
+pub known : {region : List ℕ} {n : ℕ} {f : TileInput} {c : Check} → c ≡ Passed → outcome c ≡ lay-test region n f → Known region n f
 unfolding lay-test sides-test
-known region n f t =
+known {region} {n} {f} {c} passes o =
+    let t : T (is-passed (lay-test region n f)) = subst (λ (v : Verdict). T (is-passed v)) o (told-passed c passes) in
     let limit = curves-limit (f .bottom) (f .right) (f .top) (f .left) in
     let s = then-right (record-test region n) (then-test limit (sides-test region n f)) t in
     let r = then-right limit (sides-test region n f) s in
     let short = sides-short region n (then-left (record-test region n) (then-test limit (sides-test region n f)) t) in
     let of-edges = then-test (edges-test region n 0) (then-test (edges-test region n 1) (then-test (edges-test region n 2) (edges-test region n 3))) in
-    let of-breaks = then-test (breaks-test region (f .breaks0) 0) (then-test (breaks-test region (f .breaks1) 1) (then-test (breaks-test region (f .breaks2) 2) (breaks-test region (f .breaks3) 3))) in
+    let of-breaks = then-test (breaks-test region (f .breaks0) 0) (then-test (breaks-test region (f .breaks1) 1)
+    (then-test (breaks-test region (f .breaks2) 2) (breaks-test region (f .breaks3) 3))) in
     let e = four-passed (edges-test region n 0) (edges-test region n 1) (edges-test region n 2) (edges-test region n 3) (then-left of-edges of-breaks r) in
-    let b = four-passed (breaks-test region (f .breaks0) 0) (breaks-test region (f .breaks1) 1) (breaks-test region (f .breaks2) 2) (breaks-test region (f .breaks3) 3) (then-right of-edges of-breaks r) in
+    let b = four-passed (breaks-test region (f .breaks0) 0) (breaks-test region (f .breaks1) 1) (breaks-test region (f .breaks2) 2)
+    (breaks-test region (f .breaks3) 3) (then-right of-edges of-breaks r) in
     record {
+      passed = t;
       curves = then-left limit (sides-test region n f) s;
-      side0 = record { short = short 0 (omega arith); edges = e .0; fit = b .0 };
-      side1 = record { short = short 1 (omega arith); edges = e .1; fit = b .1 };
-      side2 = record { short = short 2 (omega arith); edges = e .2; fit = b .2 };
-      side3 = record { short = short 3 (omega arith); edges = e .3; fit = b .3 };
+      side0 = record { few = short 0 (omega arith); edges-known = e .0; breaks-fit = b .0 };
+      side1 = record { few = short 1 (omega arith); edges-known = e .1; breaks-fit = b .1 };
+      side2 = record { few = short 2 (omega arith); edges-known = e .2; breaks-fit = b .2 };
+      side3 = record { few = short 3 (omega arith); edges-known = e .3; breaks-fit = b .3 };
     }
 
 -- ---- the limit of the seams, by their lengths
@@ -187,44 +197,50 @@ module _ (s : Seams) where
   some-limit false false false false h = absurd (true≢false (sym h))
 
   -- one of the seams is too long
-  pub limit-passed : (n0 n2 n3 n1 : ℕ) → n0 ≡ length (s .bottom) → n2 ≡ length (s .top) → n3 ≡ length (s .left) → n1 ≡ length (s .right)
+  limit-passed : (n0 n2 n3 n1 : ℕ) → n0 ≡ length (s .bottom) → n2 ≡ length (s .top) → n3 ≡ length (s .left) → n1 ≡ length (s .right)
       → (ltb max-seam n0 || (ltb max-seam n2 || (ltb max-seam n3 || ltb max-seam n1))) ≡ true → refused 1 0 0 ≡ seams-limit s
-  limit-passed n0 n2 n3 n1 e0 e2 e3 e1 h = some-limit (ltb max-seam n0) (ltb max-seam n2) (ltb max-seam n3) (ltb max-seam n1) h ∙ limits-by n0 n2 n3 n1 e0 e2 e3 e1
+  limit-passed n0 n2 n3 n1 e0 e2 e3 e1 h =
+      some-limit (ltb max-seam n0) (ltb max-seam n2) (ltb max-seam n3) (ltb max-seam n1) h ∙ limits-by n0 n2 n3 n1 e0 e2 e3 e1
 
 -- ---- lay's answer, by its tests
 
-pub tested : (region : List ℕ) (n : ℕ) (f : TileInput) (c : Check) → c ≡ Passed → outcome c ≡ lay-test region n f → T (is-passed (lay-test region n f))
-tested region n f c e o = subst (λ (v : Verdict). T (is-passed v)) o (told-passed c e)
-
 module _ (region counts : List ℕ) (f : TileInput) (out : List Float) where
-  abbrev grid : Outcome
-  grid = coons-from-parameters Quads (f .bottom) (f .right) (f .top) (f .left) (seams-of region counts f) out
+  abbrev grid-by : Seams → Outcome
+  grid-by s = coons-from-parameters Quads (f .bottom) (f .right) (f .top) (f .left) s out
 
-  pub lay-refused : (c : Check) (cause : Refusal) → c ≡ Refused cause → outcome c ≡ lay-test region (length counts) f → outcome-of (grid-answer.Refused cause) out ≡ lay region counts f out
+  pub lay-refused : {c : Check} {cause : Refusal} → c ≡ Refused cause → outcome c ≡ lay-test region (length counts) f
+      → outcome-of (grid-answer.Refused cause) out ≡ lay region counts f out
   unfolding lay
-  lay-refused c cause e o = turned-away out grid c cause (lay-test region (length counts) f) e o
+  lay-refused e o = turned-away out (grid-by (seams-of region counts f)) e o
 
-  pub laid : T (is-passed (lay-test region (length counts) f)) → grid ≡ lay region counts f out
+  laid : Known region (length counts) f → grid-by (seams-of region counts f) ≡ lay region counts f out
   unfolding lay
-  laid t = goes-on out grid (lay-test region (length counts) f) (T-true (is-passed (lay-test region (length counts) f)) t)
+  laid k = goes-on out (grid-by (seams-of region counts f)) (lay-test region (length counts) f) (T-true (is-passed (lay-test region (length counts) f)) (k .passed))
 
-  pub laid-by : (b t l r : List Float) (x : Outcome) → T (is-passed (lay-test region (length counts) f)) → b ≡ seam-of region counts 0 (f .breaks0) → t ≡ seam-of region counts 2 (f .breaks2)
-      → l ≡ seam-of region counts 3 (f .breaks3) → r ≡ seam-of region counts 1 (f .breaks1) → x ≡ coons-from-parameters Quads (f .bottom) (f .right) (f .top) (f .left) (seams b t l r) out → x ≡ lay region counts f out
-  laid-by b t l r x p e0 e2 e3 e1 q =
-      let go : Seams → Outcome = λ s. coons-from-parameters Quads (f .bottom) (f .right) (f .top) (f .left) s out in
-      q
-      ∙ ap (λ (z : List Float). go (seams z t l r)) e0
-      ∙ ap (λ (z : List Float). go (seams (seam-of region counts 0 (f .breaks0)) z l r)) e2
-      ∙ ap (λ (z : List Float). go (seams (seam-of region counts 0 (f .breaks0)) (seam-of region counts 2 (f .breaks2)) z r)) e3
-      ∙ ap (λ (z : List Float). go (seams (seam-of region counts 0 (f .breaks0)) (seam-of region counts 2 (f .breaks2)) (seam-of region counts 3 (f .breaks3)) z)) e1
-      ∙ laid p
+  -- once its tests are passed and its sides are laid
+  module _ (k : Known region (length counts) f) {a0 a2 a3 a1 : List Float} {n0 n2 n3 n1 : ℕ}
+      (bottom : SideLaid region counts 0 (f .breaks0) a0 n0) (top : SideLaid region counts 2 (f .breaks2) a2 n2)
+      (left : SideLaid region counts 3 (f .breaks3) a3 n3) (right : SideLaid region counts 1 (f .breaks1) a1 n1) where
+    pub laid-by : {x : Outcome} → FourShort n0 n2 n3 n1 → x ≡ grid-by (seams (take n0 a0) (take n2 a2) (take n3 a3) (take n1 a1)) → x ≡ lay region counts f out
+    laid-by short q =
+        let b = seam-of region counts 0 (f .breaks0) in
+        let t = seam-of region counts 2 (f .breaks2) in
+        let l = seam-of region counts 3 (f .breaks3) in
+        q
+        ∙ ap (λ (z : List Float). grid-by (seams z (take n2 a2) (take n3 a3) (take n1 a1))) (bottom .written (short .bottom-short))
+        ∙ ap (λ (z : List Float). grid-by (seams b z (take n3 a3) (take n1 a1))) (top .written (short .top-short))
+        ∙ ap (λ (z : List Float). grid-by (seams b t z (take n1 a1))) (left .written (short .left-short))
+        ∙ ap (λ (z : List Float). grid-by (seams b t l z)) (right .written (short .right-short))
+        ∙ laid k
 
-  -- "1 for a seam too long": where the curves are within their limit, that of the seams decides
-  pub seam-too-long : T (is-passed (lay-test region (length counts) f)) → refused 1 0 0 ≡ seams-limit (seams-of region counts f) → outcome-of (grid-answer.Refused because.Malformed) out ≡ lay region counts f out
-  unfolding coons-from-parameters outcome verdict-of
-  seam-too-long t e =
-      let k = known region (length counts) f t in
-      let limit = curves-limit (f .bottom) (f .right) (f .top) (f .left) in
-      let limit-of-seams = seams-limit (seams-of region counts f) in
-      let q : outcome (Refused because.Malformed) ≡ then-test limit limit-of-seams = e ∙ ap (λ (b : Bool). cond b limit-of-seams limit) (sym (T-true (is-passed limit) (k .curves))) in
-      turned-away out _ (Refused because.Malformed) because.Malformed _ refl q ∙ laid t
+    -- "1 for a seam too long": where the curves are within their limit, that of the seams decides
+    pub seam-too-long : (ltb max-seam n0 || (ltb max-seam n2 || (ltb max-seam n3 || ltb max-seam n1))) ≡ true
+        → outcome-of (grid-answer.Refused because.Malformed) out ≡ lay region counts f out
+    unfolding coons-from-parameters outcome verdict-of
+    seam-too-long h =
+        let limit = curves-limit (f .bottom) (f .right) (f .top) (f .left) in
+        let limit-of-seams = seams-limit (seams-of region counts f) in
+        let e = limit-passed (seams-of region counts f) n0 n2 n3 n1 (bottom .long) (top .long) (left .long) (right .long) h in
+        let q : outcome (Refused because.Malformed) ≡ then-test limit limit-of-seams =
+        e ∙ ap (λ (b : Bool). cond b limit-of-seams limit) (sym (T-true (is-passed limit) (k .curves))) in
+        turned-away out _ {c = Refused because.Malformed} refl q ∙ laid k

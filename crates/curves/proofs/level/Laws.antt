@@ -80,7 +80,7 @@ level-crossing a c i j p q =
     sym (not-parallel a a c c i j (ap (λ (z : Float). lt (float-abs z) e-12) (denominator-one a c p q) ∙ not-small))
     ∙ ap (λ (z : Float). inside-or-refused z (crossing-v a a c c) i j) (u-begins a c p q)
     ∙ ap (λ (z : Float). inside-or-refused c z i j) (v-begins a c p q)
-    ∙ sym (inside c a i j c a (sym (q .clamped)) (sym (p .clamped)) (q .inside) (p .inside))
+    ∙ sym (inside c a i j (sym (q .clamped)) (sym (p .clamped)) (q .inside) (p .inside))
 
 -- ---- the tests of `is_plain`
 

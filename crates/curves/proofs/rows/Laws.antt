@@ -1,4 +1,5 @@
--- The rows of a grid: how long what each adds is, and a loop over rows 0 to m of the points that tests the cells below each one and writes what it adds. Assumes nothing.
+-- The rows of a grid: how long what each adds is, and a loop over rows 0 to m of the points that tests the cells below each one and writes what it
+-- adds. Assumes nothing.
 use mathlib.Core.Path.{_≡_, refl, sym, ap, _∙_}
 use mathlib.Core.Bool.{Bool, true, not}
 use mathlib.Core.List.{List, [], _∷_}
@@ -6,8 +7,8 @@ use Prim.Native.Nat.{ℕ, zero, suc, _+_, _-_, _*_, _<_, _≤_}
 use native.Mathlib.Nat.{mul-comm, mul-le-mul-right}
 use native.Mathlib.Numerals.{add-one}
 use native.Mathlib.Omega.{arith}
-use lib.ListN.{length, getD, set, take}
-use lib.Seq.{length-take-le, take-suc}
+use lib.ListN.{length, getD, set, take, length-set}
+use lib.Seq.{length-take-le, take-suc, take-all}
 use lib.Ieee.{Float, nan}
 use Rattle.base.specs.declared.verdict.Verdict.{Verdict}
 use Rattle.base.specs.Refusal.{passed, refused, refuse-if, outcome, then-test}
@@ -19,8 +20,9 @@ use Rattle.floats.specs.Scalar.{nought, is-positive}
 use Rattle.curves.specs.Point.{signed-area}
 use Rattle.curves.specs.Curve.{point-at}
 use Rattle.curves.specs.Quad.{quad-test, zeros}
-use Rattle.curves.specs.Grid.{PointRow, Grid, coordinates, row-points, cell-test, cells-test, below-test, quads-test, quad-values, quads-between, node-values, nodes-of, row-part, grid-part, grid-values, needed}
-use Rattle.curves.specs.inner.Rows.{row-size}
+use Rattle.curves.specs.Grid.{PointRow, Grid, coordinates, row-points, cell-test, cells-test, below-test, quads-test, quad-values, quads-between}
+use Rattle.curves.specs.Grid.{node-values, nodes-of, row-part, grid-part, grid-values, needed}
+use Rattle.curves.specs.inner.Rows.{row-size, QuadsRoom, NodesRoom, RowRoom, RowLaid}
 use Rattle.curves.specs.declared.point.Point.{Point}
 use Rattle.curves.specs.declared.rows.Layout.{Layout}
 use Rattle.curves.specs.declared.rows.Layout.the-variants.{Quads, Nodes}
@@ -32,7 +34,8 @@ use Rattle.curves.specs.Limits.{max-cells}
 -- ---- stores in a row
 
 pub quad-stored : (d : List Float) (k : ℕ) (a b c e : Point) → k + 8 ≤ length d
-    → set (set (set (set (set (set (set (set d k (a .x)) (k + 1) (a .y)) (k + 2) (b .x)) (k + 3) (b .y)) (k + 4) (c .x)) (k + 5) (c .y)) (k + 6) (e .x)) (k + 7) (e .y) ≡ splice d k (quad-values a b c e)
+    → set (set (set (set (set (set (set (set d k (a .x)) (k + 1) (a .y)) (k + 2) (b .x)) (k + 3) (b .y)) (k + 4) (c .x)) (k + 5) (c .y)) (k + 6)
+    (e .x)) (k + 7) (e .y) ≡ splice d k (quad-values a b c e)
 quad-stored d k a b c e h =
     let s0 = store-next d k [] d k (a .x) (splice-none d k) (omega arith) (omega arith) in
     let s1 = store-next d k (a .x ∷ []) _ (k + 1) (a .y) s0 refl (omega arith) in
@@ -51,71 +54,128 @@ node-stored d k p h =
 
 -- ---- a row copied to the front of a list
 
-pub copy-step : (d row out : List Float) (i : ℕ) → out ≡ splice d 0 (take i row) → i < length row → length row ≤ length d → set out i (getD row i nan) ≡ splice d 0 (take (i + 1) row)
-copy-step d row out i o h r =
-    let t : length (take i row) ≡ i = length-take-le i row (omega arith) in
-    store-next d 0 (take i row) out i (getD row i nan) o (omega (arith, t)) (omega arith)
-    ∙ ap (splice d 0) (sym (ap (λ (k : ℕ). take k row) (add-one i) ∙ take-suc row i nan h))
+-- its first i values
+pub record CopiedTo (row d : List Float) (i : ℕ) (out : List Float) : Type 0 where
+  pub within : i ≤ length row
+  pub same-length : length out ≡ length d
+  pub written : out ≡ splice d 0 (take i row)
 
-pub copied-row : (row low next : List Float) (w : ℕ) → length row ≡ w → next ≡ splice low 0 row → take w next ≡ row
-copied-row row low next w e n = ap (take w) n ∙ take-splice low row w e
+pub none-copied : {row d : List Float} → CopiedTo row d 0 d
+none-copied = record { within = omega arith; same-length = refl; written = refl }
+
+pub next-copied : {row d out : List Float} {i : ℕ} → CopiedTo row d i out → i < length row → length row ≤ length d → CopiedTo row d (i + 1) (set out i (getD row i nan))
+next-copied {row} {d} {out} {i} s h r =
+    let t : length (take i row) ≡ i = length-take-le i row (omega arith) in
+    record {
+      within = omega arith;
+      same-length = simp length-set (s .same-length);
+      written = store-next d 0 (take i row) out i (getD row i nan) (s .written) (omega (arith, t)) (omega arith)
+          ∙ ap (splice d 0) (sym (ap (λ (k : ℕ). take k row) (add-one i) ∙ take-suc row i nan h));
+    }
+
+pub all-copied : {row d out : List Float} {i : ℕ} → CopiedTo row d i out → length row ≤ i → out ≡ splice d 0 row
+all-copied {row} {d} s h = s .written ∙ ap (splice d 0) (take-all _ row h)
+
+pub copied-row : {row next : List Float} (low : List Float) (w : ℕ) → length row ≡ w → next ≡ splice low 0 row → take w next ≡ row
+copied-row {row} low w e n = ap (take w) n ∙ take-splice low row w e
+
+-- ---- quads between two rows, and points of one, written over d from an index on
+
+abbrev quad-at : List Float → List Float → ℕ → List Float
+quad-at low high i = quad-values (point-at low i) (point-at low (i + 1)) (point-at high (i + 1)) (point-at high i)
+
+abbrev node-at : List Float → ℕ → List Float
+node-at row i = node-values (point-at row i)
+
+-- the first i quads
+pub record QuadsTo (low high : List Float) (from : ℕ) (d : List Float) (i : ℕ) (out : List Float) : Type 0 where
+  pub written : out ≡ splice d from (concat-tabulate (quad-at low high) 0 i)
+
+-- the first i points
+pub record NodesTo (row : List Float) (from : ℕ) (d : List Float) (i : ℕ) (out : List Float) : Type 0 where
+  pub written : out ≡ splice d from (concat-tabulate (node-at row) 0 i)
+
+-- the corners of the cell i
+pub record Corners (low high : List Float) (i : ℕ) (a b c d : Point) : Type 0 where
+  pub lower-left : a ≡ point-at low i
+  pub lower-right : b ≡ point-at low (i + 1)
+  pub upper-right : c ≡ point-at high (i + 1)
+  pub upper-left : d ≡ point-at high i
+
+quads-length : (low high : List Float) (n : ℕ) → length (concat-tabulate (quad-at low high) 0 n) ≡ 8 * n
+quads-length low high n = length-concat (quad-at low high) 8 0 n (λ i h. refl) ∙ mul-comm n 8
+
+nodes-length : (row : List Float) (n : ℕ) → length (concat-tabulate (node-at row) 0 n) ≡ 3 * n
+nodes-length row n = length-concat (node-at row) 3 0 n (λ i h. refl) ∙ mul-comm n 3
+
+pub no-quads : {low high d : List Float} {from : ℕ} → QuadsTo low high from d 0 d
+no-quads {d = d} {from = from} = record { written = splice-none d from }
+
+pub no-nodes : {row d : List Float} {from : ℕ} → NodesTo row from d 0 d
+no-nodes {d = d} {from = from} = record { written = splice-none d from }
+
+-- a turn of the loop that writes the quads: the one that was written is the one of its four points
+pub next-quad : {low high d out next : List Float} {from i at : ℕ} {p q r s : Point} → QuadsTo low high from d i out → at ≡ from + 8 * i → at ≤ length d
+    → Corners low high i p q r s → next ≡ splice out at (quad-values p q r s) → QuadsTo low high from d (i + 1) next
+next-quad {low} {high} {d} {out} {next} {from} {i} {at} {p} {q} {r} {s} o e h c w =
+    let l = quads-length low high i in
+    let same : quad-values p q r s ≡ quad-at low high i =
+    ap (λ (x : Point). quad-values x q r s) (c .lower-left)
+    ∙ ap (λ (x : Point). quad-values (point-at low i) x r s) (c .lower-right)
+    ∙ ap (λ (x : Point). quad-values (point-at low i) (point-at low (i + 1)) x s) (c .upper-right)
+    ∙ ap (λ (x : Point). quad-values (point-at low i) (point-at low (i + 1)) (point-at high (i + 1)) x) (c .upper-left) in
+    record { written = concat-step d from (quad-at low high) out i at next (o .written) (omega (arith, l, e)) h (w ∙ ap (splice out at) same) }
+
+-- and of the one that writes the points
+pub next-node : {row d out next : List Float} {from i at : ℕ} {p : Point} → NodesTo row from d i out → at ≡ from + 3 * i → at ≤ length d
+    → p ≡ point-at row i → next ≡ splice out at (node-values p) → NodesTo row from d (i + 1) next
+next-node {row} {d} {out} {next} {from} {i} {at} o e h c w =
+    let l = nodes-length row i in
+    record {
+      written = concat-step d from (node-at row) out i at next (o .written) (omega (arith, l, e)) h
+          (w ∙ ap (λ (x : Point). splice out at (node-values x)) c);
+    }
+
+pub quads-done : {low high d out : List Float} {from i n : ℕ} → QuadsTo low high from d i out → i ≡ n → out ≡ splice d from (quads-between low high n)
+unfolding quads-between
+quads-done {low} {high} {d} {from = from} o e = o .written ∙ ap (λ (k : ℕ). splice d from (concat-tabulate (quad-at low high) 0 k)) e
+
+pub nodes-done : {row d out : List Float} {from i : ℕ} (n : ℕ) → NodesTo row from d i out → i ≡ n + 1 → out ≡ splice d from (nodes-of row n)
+unfolding nodes-of
+nodes-done {row} {d} {from = from} n o e = o .written ∙ ap (λ (k : ℕ). splice d from (concat-tabulate (node-at row) 0 k)) e
+
+-- a quad with an area passes, as the one of its four points
+pub cell-passes : {low high : List Float} {i : ℕ} {p q r s : Point} (j : ℕ) → Corners low high i p q r s → is-positive (signed-area p q r s) ≡ true
+    → cell-test low high j i ≡ passed
+unfolding cell-test quad-test
+cell-passes {low} {high} {i} {p} {q} {r} {s} j c t =
+    let e : signed-area p q r s ≡ signed-area (point-at low i) (point-at low (i + 1)) (point-at high (i + 1)) (point-at high i) =
+    ap (λ (x : Point). signed-area x q r s) (c .lower-left)
+    ∙ ap (λ (x : Point). signed-area (point-at low i) x r s) (c .lower-right)
+    ∙ ap (λ (x : Point). signed-area (point-at low i) (point-at low (i + 1)) x s) (c .upper-right)
+    ∙ ap (λ (x : Point). signed-area (point-at low i) (point-at low (i + 1)) (point-at high (i + 1)) x) (c .upper-left) in
+    ap (λ (x : Bool). refuse-if (not x) (refused 25 i j)) (sym (ap is-positive e) ∙ t)
 
 -- ---- what a row adds, and its length
 
-abbrev pub quad-at : List Float → List Float → ℕ → List Float
-quad-at low high i = quad-values (point-at low i) (point-at low (i + 1)) (point-at high (i + 1)) (point-at high i)
-
-abbrev pub node-at : List Float → ℕ → List Float
-node-at row i = node-values (point-at row i)
-
-pub quads-length : (low high : List Float) (n : ℕ) → length (concat-tabulate (quad-at low high) 0 n) ≡ 8 * n
-quads-length low high n = length-concat (quad-at low high) 8 0 n (λ i h. refl) ∙ mul-comm n 8
-
--- the quad that was written is the one of its four points
-pub quad-same : (low high : List Float) (i : ℕ) (out : List Float) (at : ℕ) (a b c d : Point) (next : List Float)
-    → a ≡ point-at low i → b ≡ point-at low (i + 1) → c ≡ point-at high (i + 1) → d ≡ point-at high i → next ≡ splice out at (quad-values a b c d)
-    → next ≡ splice out at (quad-at low high i)
-quad-same low high i out at a b c d next p q r s w =
-    w
-    ∙ ap (λ (x : Point). splice out at (quad-values x b c d)) p
-    ∙ ap (λ (x : Point). splice out at (quad-values (point-at low i) x c d)) q
-    ∙ ap (λ (x : Point). splice out at (quad-values (point-at low i) (point-at low (i + 1)) x d)) r
-    ∙ ap (λ (x : Point). splice out at (quad-values (point-at low i) (point-at low (i + 1)) (point-at high (i + 1)) x)) s
-
--- a quad with an area passes, as the one of its four points
-pub cell-passes : (low high : List Float) (i j : ℕ) (a b c d : Point)
-    → a ≡ point-at low i → b ≡ point-at low (i + 1) → c ≡ point-at high (i + 1) → d ≡ point-at high i → is-positive (signed-area a b c d) ≡ true
-    → cell-test low high j i ≡ passed
-unfolding cell-test quad-test
-cell-passes low high i j a b c d p q r s t =
-    let e : signed-area a b c d ≡ signed-area (point-at low i) (point-at low (i + 1)) (point-at high (i + 1)) (point-at high i) =
-    ap (λ (x : Point). signed-area x b c d) p
-    ∙ ap (λ (x : Point). signed-area (point-at low i) x c d) q
-    ∙ ap (λ (x : Point). signed-area (point-at low i) (point-at low (i + 1)) x d) r
-    ∙ ap (λ (x : Point). signed-area (point-at low i) (point-at low (i + 1)) (point-at high (i + 1)) x) s in
-    ap (λ (x : Bool). refuse-if (not x) (refused 25 i j)) (sym (ap is-positive e) ∙ t)
-
-pub nodes-length : (row : List Float) (n : ℕ) → length (concat-tabulate (node-at row) 0 n) ≡ 3 * n
-nodes-length row n = length-concat (node-at row) 3 0 n (λ i h. refl) ∙ mul-comm n 3
-
-pub first-quads : (low high : List Float) (n j : ℕ) → j ≡ 0 → row-part Quads low high n j ≡ []
+first-quads : (low high : List Float) (n j : ℕ) → j ≡ 0 → row-part Quads low high n j ≡ []
 unfolding row-part
 first-quads low high n j z = ap (row-part Quads low high n) z
 
-pub later-quads : (low high : List Float) (n j : ℕ) → 0 < j → row-part Quads low high n j ≡ quads-between low high n
+later-quads : (low high : List Float) (n j : ℕ) → 0 < j → row-part Quads low high n j ≡ quads-between low high n
 unfolding row-part
 later-quads low high n zero h = absurd (omega arith)
 later-quads low high n (suc j) h = refl
 
-pub nodes-row : (layout : Layout) (low high : List Float) (n j : ℕ) → layout ≡ Nodes → row-part layout low high n j ≡ nodes-of high n
+nodes-row : (layout : Layout) (low high : List Float) (n j : ℕ) → layout ≡ Nodes → row-part layout low high n j ≡ nodes-of high n
 unfolding row-part
 nodes-row layout low high n j e = ap (λ (l : Layout). row-part l low high n j) e
 
-pub length-quads : (low high : List Float) (n : ℕ) → length (quads-between low high n) ≡ 8 * n
+length-quads : (low high : List Float) (n : ℕ) → length (quads-between low high n) ≡ 8 * n
 unfolding quads-between
 length-quads low high n = quads-length low high n
 
-pub length-nodes : (row : List Float) (n : ℕ) → length (nodes-of row n) ≡ 3 * (n + 1)
+length-nodes : (row : List Float) (n : ℕ) → length (nodes-of row n) ≡ 3 * (n + 1)
 unfolding nodes-of
 length-nodes row n = nodes-length row (n + 1)
 
@@ -156,6 +216,38 @@ unfolding below-test
 below-later low high n zero h = absurd (omega arith)
 below-later low high n (suc j) h = let e : j ≡ suc j - 1 = omega arith in ap (cells-test low high n) e
 
+-- ---- a row by its layout: what it asks and tells
+
+module _ {low high : List Float} {n j from : ℕ} {out : List Float} where
+  -- above the lowest row there are quads
+  pub quads-room : RowRoom Quads low high n j from out → 0 < j → QuadsRoom low high n from out
+  quads-room r h =
+      let e = ap length (later-quads low high n j h) ∙ length-quads low high n in
+      record { low-long = r .rows .low-long; high-long = r .rows .high-long; room = omega (arith, e, r .room) }
+
+  pub nodes-room : {layout : Layout} → RowRoom layout low high n j from out → layout ≡ Nodes → NodesRoom high n from out
+  nodes-room {layout} r e =
+      let l = ap length (nodes-row layout low high n j e) ∙ length-nodes high n in
+      record { long = r .rows .high-long; room = omega (arith, l, r .room) }
+
+  -- the lowest row adds no quads
+  pub nothing-laid : j ≡ 0 → RowLaid Quads low high n j from out out passed
+  nothing-laid e = record {
+    told = sym (below-first low high n j e);
+    written = splice-none out from ∙ ap (splice out from) (sym (first-quads low high n j e));
+  }
+
+  module _ {after : List Float} {v : Verdict} where
+    pub quads-laid : 0 < j → v ≡ cells-test low high n (j - 1) → after ≡ splice out from (quads-between low high n) → RowLaid Quads low high n j from out after v
+    quads-laid h e w = record {
+      told = e ∙ sym (below-later low high n j h);
+      written = w ∙ ap (splice out from) (sym (later-quads low high n j h));
+    }
+
+    pub nodes-laid : {layout : Layout} → layout ≡ Nodes → v ≡ below-test low high n j → after ≡ splice out from (nodes-of high n)
+        → RowLaid layout low high n j from out after v
+    nodes-laid {layout} l e w = record { told = e; written = w ∙ ap (splice out from) (sym (nodes-row layout low high n j l)) }
+
 -- ---- the whole grid
 
 pub length-row-points : (f : PointRow) (n : ℕ) → length (row-points f n) ≡ 2 * (n + 1)
@@ -166,8 +258,11 @@ pub length-grid : (layout : Layout) (f : Grid) (n m : ℕ) → length (grid-valu
 unfolding grid-values needed
 length-grid Quads f n m =
     ap (λ (k : ℕ). length (concat-tabulate (grid-part Quads f n) 0 k)) (add-one m)
-    ∙ length-concat (grid-part Quads f n) (8 * n) 1 m (λ j h. ap length (later-quads (row-points (f (j - 1)) n) (row-points (f j) n) n j h) ∙ length-quads (row-points (f (j - 1)) n) (row-points (f j) n) n)
-length-grid Nodes f n m = length-concat (grid-part Nodes f n) (3 * (n + 1)) 0 (m + 1) (λ j h. ap length (nodes-row Nodes (row-points (f (j - 1)) n) (row-points (f j) n) n j refl) ∙ length-nodes (row-points (f j) n) n)
+    ∙ length-concat (grid-part Quads f n) (8 * n) 1 m
+    (λ j h. ap length (later-quads (row-points (f (j - 1)) n) (row-points (f j) n) n j h)
+    ∙ length-quads (row-points (f (j - 1)) n) (row-points (f j) n) n)
+length-grid Nodes f n m = length-concat (grid-part Nodes f n) (3 * (n + 1)) 0 (m + 1)
+    (λ j h. ap length (nodes-row Nodes (row-points (f (j - 1)) n) (row-points (f j) n) n j refl) ∙ length-nodes (row-points (f j) n) n)
 
 pub quads-fit : (n m : ℕ) → n ≤ max-cells → m ≤ max-cells → m * (8 * n) ≤ 8388608
 quads-fit n m h k = let e : m * (8 * n) ≤ max-cells * (8 * n) = mul-le-mul-right (8 * n) k in omega arith
@@ -216,7 +311,8 @@ module _ (f : Grid) (n : ℕ) where
 
   pub all-cells : (m : ℕ) → first-of cells-below 0 (m + 1) ≡ quads-test f n m
   unfolding first-of below-test quads-test
-  all-cells m = ap (first-of cells-below 0) (add-one m) ∙ first-shifted cells-below (λ (j : ℕ). cells-test (row-points (f j) n) (row-points (f (suc j)) n) n j) cells-at 0 m
+  all-cells m = ap (first-of cells-below 0) (add-one m)
+      ∙ first-shifted cells-below (λ (j : ℕ). cells-test (row-points (f j) n) (row-points (f (suc j)) n) n j) cells-at 0 m
 
   pub cells-end : (m j : ℕ) (kept : Check) → outcome kept ≡ first-of cells-below 0 j → m < j → j ≤ m + 1 → outcome kept ≡ quads-test f n m
   cells-end m j kept o h k = let e : j ≡ m + 1 = omega arith in o ∙ ap (first-of cells-below 0) e ∙ all-cells m
@@ -225,7 +321,8 @@ module _ (f : Grid) (n : ℕ) where
 
   module _ (layout : Layout) where
     part-same : (j : ℕ) (low high : List Float) → RowBefore j low → high ≡ row-points (f j) n → row-part layout low high n j ≡ grid-part layout f n j
-    part-same zero low high b e = part-first layout low (row-points (f (0 - 1)) n) high n ∙ ap (λ (l : List Float). row-part layout (row-points (f (0 - 1)) n) l n 0) e
+    part-same zero low high b e = part-first layout low (row-points (f (0 - 1)) n) high n
+        ∙ ap (λ (l : List Float). row-part layout (row-points (f (0 - 1)) n) l n 0) e
     part-same (suc j) low high b e =
         ap (λ (l : List Float). row-part layout l high n (suc j)) (b (omega arith))
         ∙ ap (λ (l : List Float). row-part layout (row-points (f (suc j - 1)) n) l n (suc j)) e
@@ -275,4 +372,5 @@ module _ (f : Grid) (n : ℕ) where
     rows-cleared d out last m j o h r w =
         let z = length-tabulate (λ (i : ℕ). nought) 0 (needed layout n m) in
         let i = within m j h in
-        w ∙ ap (λ (l : List Float). splice l 0 (zeros (needed layout n m))) o ∙ splice-over d 0 (concat-tabulate (grid-part layout f n) 0 j) (zeros (needed layout n m)) (omega (arith, z, i)) (omega (arith, z, r))
+        w ∙ ap (λ (l : List Float). splice l 0 (zeros (needed layout n m))) o
+        ∙ splice-over d 0 (concat-tabulate (grid-part layout f n) 0 j) (zeros (needed layout n m)) (omega (arith, z, i)) (omega (arith, z, r))

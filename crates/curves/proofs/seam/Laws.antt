@@ -1,20 +1,21 @@
 -- The seam of a side edge by edge, and the tests of one seam by their outcomes. Assumes nothing.
-use mathlib.Core.Path.{_≡_, sym, ap, _∙_}
+use mathlib.Core.Path.{_≡_, refl, sym, ap, _∙_}
 use mathlib.Core.Bool.{Bool, true, false}
 use mathlib.Core.List.{List, [], _∷_, _++_}
 use Prim.Native.Nat.{ℕ, _+_, _-_, _<_, _≤_}
 use native.Mathlib.Numerals.{add-one}
 use native.Mathlib.Omega.{arith}
-use lib.ListN.{length, getD, drop, drop-of-length-le}
-use lib.Seq.{drop-cons}
+use lib.ListN.{length, getD, set, take, drop, drop-of-length-le}
+use lib.Seq.{drop-cons, take-length}
 use lib.Dec.{ltb}
 use lib.Ieee.{Float, nan}
 use borrow.Author.Tests.{lt-ltb, le-ltb}
 use Rattle.base.specs.declared.verdict.Verdict.{Verdict}
 use Rattle.base.specs.Refusal.{refused, then-test, refuse-if}
 use Rattle.base.specs.Tests.{first-of}
-use Rattle.curves.specs.Seam.{edge-value, edge-values, seam-from, value-test, seam-ends-test, seam-test}
-use Rattle.base.proofs.BufferLaws.{length-tabulate, part-fits}
+use Rattle.curves.specs.Seam.{edge-value, edge-values, seam-from, side-seam, value-test, seam-ends-test, seam-test}
+use Rattle.base.specs.Buffers.{splice}
+use Rattle.base.proofs.BufferLaws.{length-tabulate, part-fits, part-left, part-written, set-splice}
 
 -- ---- edge by edge
 
@@ -22,27 +23,65 @@ pub length-edge : (breaks : List Float) (i n : ℕ) → length (edge-values brea
 unfolding edge-values
 length-edge breaks i n = length-tabulate (edge-value breaks i n) 0 n
 
-pub seam-edge : (breaks : List Float) (counts : List ℕ) (i : ℕ) → i < length counts
+seam-edge : (breaks : List Float) (counts : List ℕ) (i : ℕ) → i < length counts
     → seam-from breaks i (drop i counts) ≡ edge-values breaks i (getD counts i 0) ++ seam-from breaks (i + 1) (drop (i + 1) counts)
 unfolding seam-from
 seam-edge breaks counts i h =
     ap (seam-from breaks i) (drop-cons counts i 0 h)
     ∙ ap (λ (k : ℕ). edge-values breaks i (getD counts i 0) ++ seam-from breaks k (drop k counts)) (sym (add-one i))
 
-pub seam-last : (breaks : List Float) (counts : List ℕ) (i : ℕ) → length counts ≤ i → seam-from breaks i (drop i counts) ≡ (getD breaks i nan ∷ []) ++ []
+seam-last : (breaks : List Float) (counts : List ℕ) (i : ℕ) → length counts ≤ i → seam-from breaks i (drop i counts) ≡ (getD breaks i nan ∷ []) ++ []
 unfolding seam-from
 seam-last breaks counts i h = ap (seam-from breaks i) (drop-of-length-le counts h)
 
--- the next edge's values, after k values of the seam s, are within it
-pub edge-fits : (breaks : List Float) (counts : List ℕ) (s : List Float) (i k : ℕ) → i < length counts → k ≤ length s → drop k s ≡ seam-from breaks i (drop i counts) → k + getD counts i 0 ≤ length s
-edge-fits breaks counts s i k h g e =
-    let f = part-fits s (edge-values breaks i (getD counts i 0)) (seam-from breaks (i + 1) (drop (i + 1) counts)) k g (e ∙ seam-edge breaks counts i h) in
-    omega (arith, f, length-edge breaks i (getD counts i 0))
+-- before the edge i: k values of the seam are written over d, and what is still to come is that of the edges from i on
+pub record SeamTo (breaks : List Float) (counts : List ℕ) (d : List Float) (i k : ℕ) (out : List Float) : Type 0 where
+  pub so-far : k ≤ length (side-seam breaks counts)
+  pub to-come : drop k (side-seam breaks counts) ≡ seam-from breaks i (drop i counts)
+  pub written : out ≡ splice d 0 (take k (side-seam breaks counts))
 
-pub last-fits : (breaks : List Float) (counts : List ℕ) (s : List Float) (i k : ℕ) → length counts ≤ i → k ≤ length s → drop k s ≡ seam-from breaks i (drop i counts) → k + 1 ≡ length s
-last-fits breaks counts s i k h g e =
-    let f : k + 1 + 0 ≡ length s = part-fits s (getD breaks i nan ∷ []) [] k g (e ∙ seam-last breaks counts i h) in
-    omega arith
+pub seam-begins : {breaks : List Float} {counts : List ℕ} {d : List Float} → SeamTo breaks counts d 0 0 d
+unfolding side-seam
+seam-begins = record { so-far = omega arith; to-come = refl; written = refl }
+
+module _ {breaks : List Float} {counts : List ℕ} {d : List Float} {i k : ℕ} {out : List Float} (s : SeamTo breaks counts d i k out) where
+  module _ (h : i < length counts) where
+    next : drop k (side-seam breaks counts) ≡ edge-values breaks i (getD counts i 0) ++ seam-from breaks (i + 1) (drop (i + 1) counts)
+    next = s .to-come ∙ seam-edge breaks counts i h
+
+    -- the next edge's values are within the seam
+    pub edge-fits : k + getD counts i 0 ≤ length (side-seam breaks counts)
+    edge-fits =
+        let f = part-fits (side-seam breaks counts) (edge-values breaks i (getD counts i 0)) (seam-from breaks (i + 1) (drop (i + 1) counts)) k (s .so-far) next in
+        omega (arith, f, length-edge breaks i (getD counts i 0))
+
+    pub next-edge : {after : List Float} → length (side-seam breaks counts) ≤ length d → after ≡ splice out k (edge-values breaks i (getD counts i 0))
+        → SeamTo breaks counts d (i + 1) (k + getD counts i 0) after
+    next-edge {after} r w =
+        let whole = side-seam breaks counts in
+        let values = edge-values breaks i (getD counts i 0) in
+        let rest = seam-from breaks (i + 1) (drop (i + 1) counts) in
+        let l = length-edge breaks i (getD counts i 0) in
+        record {
+          so-far = edge-fits;
+          to-come = ap (λ (x : ℕ). drop (k + x) whole) (sym l) ∙ part-left whole values rest k next;
+          written = part-written d out whole values rest k after (s .so-far) r next (s .written) w ∙ ap (λ (x : ℕ). splice d 0 (take (k + x) whole)) l;
+        }
+
+  module _ (h : length counts ≤ i) where
+    last : drop k (side-seam breaks counts) ≡ (getD breaks i nan ∷ []) ++ []
+    last = s .to-come ∙ seam-last breaks counts i h
+
+    -- one value is left
+    pub last-fits : k + 1 ≡ length (side-seam breaks counts)
+    last-fits = let f = part-fits (side-seam breaks counts) (getD breaks i nan ∷ []) [] k (s .so-far) last in omega (arith, f)
+
+    pub seam-done : length (side-seam breaks counts) ≤ length d → length out ≡ length d → set out k (getD breaks i nan) ≡ splice d 0 (side-seam breaks counts)
+    seam-done r l =
+        let whole = side-seam breaks counts in
+        part-written d out whole (getD breaks i nan ∷ []) [] k _ (s .so-far) r last (s .written) (set-splice out k (getD breaks i nan) (omega (arith, last-fits)))
+        ∙ ap (λ (x : ℕ). splice d 0 (take x whole)) last-fits
+        ∙ ap (splice d 0) (take-length whole)
 
 -- ---- the tests
 

@@ -9,6 +9,8 @@ use Rattle.curves.specs.Point.{point, values}
 use Rattle.curves.specs.Curve.{ArcCurve, curve-at}
 use Rattle.base.specs.Buffers.{concat-tabulate}
 use Rattle.curves.specs.Patch.{lerp2, combined}
+use Rattle.curves.specs.Limits.{max-seam, max-cells}
+use Rattle.curves.specs.inner.Segments.{Sampled}
 use Rattle.curves.specs.declared.point.Point.{Point}
 use Rattle.curves.specs.declared.boundary.Ends.{Ends}
 use Rattle.curves.specs.declared.patch.Column.{Column}
@@ -56,14 +58,32 @@ unfoldable pub seam-column : ArcCurve → ArcCurve → Ends → Ends → List Fl
 seam-column bottom top b t seam i = let u = clamp-unit (getD seam i nan) in column-values u (column-at bottom top b t u)
 
 -- a column stands from the index `from` on: the one of the parameter u, which stands first
-abbrev pub HoldsColumn : ArcCurve → ArcCurve → Ends → Ends → List Float → ℕ → Float → Type 0
-HoldsColumn bottom top b t table from u = (from + 9 ≤ length table) × (getD table from nan ≡ u) × (stored-column table from ≡ column-at bottom top b t u)
+pub record HoldsColumn (bottom top : ArcCurve) (b t : Ends) (table : List Float) (from : ℕ) (u : Float) : Type 0 where
+  pub there : from + 9 ≤ length table
+  pub parameter : getD table from nan ≡ u
+  pub column : stored-column table from ≡ column-at bottom top b t u
 
 -- n columns, of the first n values of a seam
-abbrev pub Table : ArcCurve → ArcCurve → Ends → Ends → List Float → ℕ → List Float → Type 0
-Table bottom top b t seam n table = (i : ℕ) → i < n → HoldsColumn bottom top b t table (9 * i) (clamp-unit (getD seam i nan))
+pub record Table (bottom top : ArcCurve) (b t : Ends) (seam : List Float) (n : ℕ) (table : List Float) : Type 0 where
+  pub holds : (i : ℕ) → i < n → HoldsColumn bottom top b t table (9 * i) (clamp-unit (getD seam i nan))
 
 -- the points of n + 1 columns on one row of the patch, of the parameter v
 unfoldable pub level-points : List Float → Row → Float → ℕ → List Float
 unfolding patch-point
-level-points table row v n = concat-tabulate (λ (i : ℕ). values (patch-point (stored-column table (9 * i)) row (getD table (9 * i) nan) v)) 0 (n + 1)
+level-points table row v n =
+    concat-tabulate (λ (i : ℕ). values (patch-point (stored-column table (9 * i)) row (getD table (9 * i) nan) v)) 0 (n + 1)
+
+-- ---- what the two loops over the table ask
+
+-- curves that can be asked for their points, and room for a column of each value of the seam
+pub record ColumnsGiven (bottom top : ArcCurve) (seam table : List Float) : Type 0 where
+  pub bottom-sampled : Sampled bottom
+  pub top-sampled : Sampled top
+  pub short : length seam ≤ max-seam
+  pub room : 9 * length seam ≤ length table
+
+-- n + 1 columns in the table, and room for a point of each
+pub record LevelRoom (n : ℕ) (table points : List Float) : Type 0 where
+  pub cells : n ≤ max-cells
+  pub columns : 9 * (n + 1) ≤ length table
+  pub room : 2 * (n + 1) ≤ length points

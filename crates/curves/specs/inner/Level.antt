@@ -1,4 +1,5 @@
--- Lines of the logical grid that are level or upright, so that they cross just where they begin. How the code goes fast, and no more: no public promise cites these. Assumes nothing.
+-- Lines of the logical grid that are level or upright, so that they cross just where they begin. How the code goes fast, and no more: no public
+-- promise cites these. Assumes nothing.
 use mathlib.Core.Path.{_≡_}
 use mathlib.Core.Bool.{true, false}
 use mathlib.Core.List.{List}

@@ -1,8 +1,9 @@
 -- The rows of a grid as the code goes over them, and what they leave in the output before a refusal clears it. No public promise cites these. Assumes nothing.
 use mathlib.Core.Path.{_≡_}
 use mathlib.Core.List.{List}
-use Prim.Native.Nat.{ℕ, zero, suc, _+_, _*_, _≤_}
+use Prim.Native.Nat.{ℕ, zero, suc, _+_, _*_, _<_, _≤_}
 use lib.Dec.{T}
+use lib.ListN.{length}
 use lib.Ieee.{Float}
 use Rattle.base.specs.declared.verdict.Verdict.{Verdict}
 use Rattle.base.specs.Refusal.{passed, is-passed}
@@ -11,7 +12,8 @@ use Rattle.curves.specs.Point.{values}
 use Rattle.curves.specs.Curve.{point-at}
 use Rattle.curves.specs.Boundary.{BoundaryCurves}
 use Rattle.curves.specs.Patch.{coons-point}
-use Rattle.curves.specs.Grid.{Grid, cells-test, grid-part}
+use Rattle.curves.specs.Grid.{PointRow, Grid, row-points, row-test, cells-test, below-test, grid-test, row-part, grid-part}
+use Rattle.curves.specs.Limits.{max-cells}
 use Rattle.curves.specs.declared.rows.Layout.{Layout}
 use Rattle.curves.specs.declared.rows.Layout.the-variants.{Quads, Nodes}
 
@@ -30,8 +32,52 @@ row-size Nodes n j = 3 * (n + 1)
 abbrev pub AllSound : List Float → List Float → ℕ → Type 0
 AllSound low high n = (j : ℕ) → cells-test low high n j ≡ passed
 
--- the parts of the lowest rows are written; of all of them, if the grid passes
+-- ---- what the functions of a row ask
+
+-- the cell i between two rows of points, as x, y in turn: its four corners are there
+pub record CellGiven (low high : List Float) (i : ℕ) : Type 0 where
+  pub index : i ≤ max-cells
+  pub low-long : 2 * i + 3 < length low
+  pub high-long : 2 * i + 3 < length high
+
+-- two rows of n + 1 points, of which the upper one is row j
+pub record TwoRows (low high : List Float) (n j : ℕ) : Type 0 where
+  pub cells : n ≤ max-cells
+  pub index : j ≤ max-cells
+  pub low-long : 2 * (n + 1) ≤ length low
+  pub high-long : 2 * (n + 1) ≤ length high
+
+-- room for the n quads between two rows, from an index on
+pub record QuadsRoom (low high : List Float) (n from : ℕ) (out : List Float) : Type 0 where
+  pub low-long : 2 * (n + 1) ≤ length low
+  pub high-long : 2 * (n + 1) ≤ length high
+  pub room : from + 8 * n ≤ length out
+
+-- room for the n + 1 points of a row, from an index on
+pub record NodesRoom (row : List Float) (n from : ℕ) (out : List Float) : Type 0 where
+  pub long : 2 * (n + 1) ≤ length row
+  pub room : from + 3 * (n + 1) ≤ length out
+
+-- two rows, and room for what the upper one adds
+pub record RowRoom (layout : Layout) (low high : List Float) (n j from : ℕ) (out : List Float) : Type 0 where
+  pub rows : TwoRows low high n j
+  pub room : from + length (row-part layout low high n j) ≤ length out
+
+-- ---- and what they tell
+
+-- the answer to the points of a row, and what is left in its buffer once none is refused
+pub record RowFilled (f : PointRow) (n : ℕ) (before after : List Float) (v : Verdict) : Type 0 where
+  pub told : v ≡ row-test f n
+  pub written : T (is-passed v) → after ≡ splice before 0 (row-points f n)
+
+-- the answer to the cells below row j, and what that row adds
+pub record RowLaid (layout : Layout) (low high : List Float) (n j from : ℕ) (before after : List Float) (v : Verdict) : Type 0 where
+  pub told : v ≡ below-test low high n j
+  pub written : after ≡ splice before from (row-part layout low high n j)
+
+-- the answer to a grid, and what its rows leave: the parts of the lowest ones are written; of all of them, if the grid passes
 pub record Laid (layout : Layout) (f : Grid) (n m : ℕ) (before after : List Float) (v : Verdict) : Type 0 where
+  pub told : v ≡ grid-test f n m
   pub rows : ℕ
   pub up-to : rows ≤ m + 1
   pub all : T (is-passed v) → rows ≡ m + 1

@@ -4,15 +4,8 @@ use borrow.Author.Needs.{needs}
 use Rattle.juplatsk.proofs.juplatsk_constraints_hold.Statement.{statement}
 use Rattle.juplatsk.proofs.juplatsk_constraints_hold.Tie as tie
 
-constraints-hold-requires : tie.Need-constraints-hold-requires
-constraints-hold-requires c κs = search needs
-
-store-hold-requires : tie.Need-store-hold-requires
-store-hold-requires c κs = search needs
-
 returns : tie.Need-returns
 returns c = hold-exported (c .before .before .constraints-hold .result) (c .store-hold .ensures) (c .before .before .constraints-hold .ensures)
 
 pub juplatsk-constraints-hold-spec : {M : Type 1} → statement M
-juplatsk-constraints-hold-spec =
-    tie.close (tie.spec constraints-hold-requires store-hold-requires returns)
+juplatsk-constraints-hold-spec = tie.close (tie.spec (λ c κs. search needs) (λ c κs. search needs) returns)

@@ -4,14 +4,8 @@ use borrow.Author.Needs.{needs}
 use Rattle.juplatsk.proofs.juplatsk_energy.Statement.{statement}
 use Rattle.juplatsk.proofs.juplatsk_energy.Tie as tie
 
-energy-requires : tie.Need-energy-requires
-energy-requires c κs = search needs
-
-store-energy-requires : tie.Need-store-energy-requires
-store-energy-requires c κs = search needs
-
 returns : tie.Need-returns
 returns c = energy-exported (c .before .before .before .energy .result) (c .store-energy .ensures) (c .before .before .before .energy .ensures)
 
 pub juplatsk-energy-spec : {M : Type 1} → statement M
-juplatsk-energy-spec = tie.close (tie.spec energy-requires store-energy-requires returns)
+juplatsk-energy-spec = tie.close (tie.spec (λ c κs. search needs) (λ c κs. search needs) returns)

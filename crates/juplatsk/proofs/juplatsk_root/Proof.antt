@@ -4,14 +4,8 @@ use borrow.Author.Needs.{needs}
 use Rattle.juplatsk.proofs.juplatsk_root.Statement.{statement}
 use Rattle.juplatsk.proofs.juplatsk_root.Tie as tie
 
-root-requires : tie.Need-root-requires
-root-requires c κs = search needs
-
-store-root-requires : tie.Need-store-root-requires
-store-root-requires c κs = search needs
-
 returns : tie.Need-returns
 returns c = root-exported (c .before .before .root .result) (c .store-root .ensures) (c .before .before .root .ensures)
 
 pub juplatsk-root-spec : {M : Type 1} → statement M
-juplatsk-root-spec = tie.close (tie.spec root-requires store-root-requires returns)
+juplatsk-root-spec = tie.close (tie.spec (λ c κs. search needs) (λ c κs. search needs) returns)

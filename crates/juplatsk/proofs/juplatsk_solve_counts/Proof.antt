@@ -8,13 +8,21 @@ use Rattle.juplatsk.proofs.Laws.{solve-exported}
 use Rattle.juplatsk.proofs.juplatsk_solve_counts.Statement.{statement}
 use Rattle.juplatsk.proofs.juplatsk_solve_counts.Tie as tie
 
+-- The places that needs look back to, and the ways from one to an earlier one; `search` goes by the types.
+abbrev entry-before-solve-counts : tie.After-solve-counts → tie.Start
+entry-before-solve-counts at-solve-counts = search
+
 returns : tie.Need-returns
 returns c =
-    let s = c .before .before .before .before .before .before .before .before .before .before .args in
-    let made = c .before .before .before .before .solve-counts in
+    let at-solve-counts : tie.After-solve-counts = search in
+    let entry = entry-before-solve-counts at-solve-counts in
+    let s = entry .args in
+    let made = at-solve-counts .solve-counts in
     solve-exported (made .result) (c .store-solve .ensures)
-    (made .ensures ∙ ap (λ (limit : SearchLimit). solve (s .regions .now) (by (s .ideals .now)) (s .counts .now) (expansions limit)) (c .before .before .before .before .before .before .search-limit .ensures))
+    (made .ensures ∙ ap (λ (limit : SearchLimit). solve (s .regions .now) (by (s .ideals .now)) (s .counts .now) (expansions limit)) (at-solve-counts .before .before .search-limit .ensures))
 
 pub juplatsk-solve-counts-spec : {M : Type 1} → statement M
 juplatsk-solve-counts-spec =
-    tie.close (tie.spec (λ c κs. search needs) (λ c κs. search needs) (λ c κs. search needs) (λ c. search needs) returns)
+    tie.close
+    (tie.spec
+    (λ c κs. search needs) (λ c κs. search needs) (λ c κs. search needs) (λ c. search needs) returns)

@@ -46,7 +46,8 @@ module _ (bottom right top left : List Float) (n m : ℕ) (points : List Float) 
   abbrev grid : List Float → Outcome
   grid = coons-nodes bottom right top left n m
 
-  tile-by : (b : Bool) → b ≡ leb (needed-cells n m) (length cells) → cond b (with-cells (grid points) n m cells) (without-cells (grid []) points cells) ≡ mesh-tile-curves bottom right top left n m points cells
+  tile-by : (b : Bool) → b ≡ leb (needed-cells n m) (length cells)
+      → cond b (with-cells (grid points) n m cells) (without-cells (grid []) points cells) ≡ mesh-tile-curves bottom right top left n m points cells
   unfolding mesh-tile-curves
   tile-by b e = ap (λ (x : Bool). cond x (with-cells (grid points) n m cells) (without-cells (grid []) points cells)) e
 
@@ -77,12 +78,14 @@ module _ (bottom right top left : List Float) (n m : ℕ) (points : List Float) 
         ∙ ap (λ (x : Outcome). with-cells x n m cells) (ap (λ (x : GridAnswer). outcome-of x after) (sym q) ∙ o)
         ∙ tile-by true (sym f ∙ e)
 
-    pub made-cells : (quads : ℕ) (rest : List ℕ) → made ≡ grid-answer.Made quads → rest ≡ splice cells 0 (mesh-cells n m) → mesh-of (grid-answer.Made quads) after rest ≡ mesh-tile-curves bottom right top left n m points cells
+    pub made-cells : (quads : ℕ) (rest : List ℕ) → made ≡ grid-answer.Made quads → rest ≡ splice cells 0 (mesh-cells n m)
+        → mesh-of (grid-answer.Made quads) after rest ≡ mesh-tile-curves bottom right top left n m points cells
     unfolding outcome-of
     made-cells quads rest q w = answered (grid-answer.Made quads) rest q (w ∙ left-by passed true false refl refl)
 
     module _ (cause : Refusal) (z : Bool) (q : made ≡ grid-answer.Refused cause) (d : z ≡ zeroes (verdict-of cause)) where
-      pub zeroed-cells : (rest : List ℕ) → z ≡ true → rest ≡ splice cells 0 (no-cells (needed-cells n m)) → mesh-of (grid-answer.Refused cause) after rest ≡ mesh-tile-curves bottom right top left n m points cells
+      pub zeroed-cells : (rest : List ℕ) → z ≡ true → rest ≡ splice cells 0 (no-cells (needed-cells n m))
+          → mesh-of (grid-answer.Refused cause) after rest ≡ mesh-tile-curves bottom right top left n m points cells
       unfolding outcome-of
       zeroed-cells rest h w = answered (grid-answer.Refused cause) rest q (w ∙ left-by (verdict-of cause) false true (refusal-number cause) (sym d ∙ h))
 
@@ -111,7 +114,8 @@ module _ (boundary : List Float) (n m : ℕ) where
   pub in-size : n ≤ max-cells → m ≤ max-cells → loop-test boundary ≡ tile-test boundary n m
   in-size h g = tile-test-by false false (le-ltb max-cells n h) (le-ltb max-cells m g)
 
-  pub mesh-refused : (points : List Float) (cells : List ℕ) (c : Check) (cause : Refusal) → c ≡ Refused cause → outcome c ≡ tile-test boundary n m → mesh-of (grid-answer.Refused cause) points cells ≡ mesh-tile boundary n m points cells
+  pub mesh-refused : (points : List Float) (cells : List ℕ) (c : Check) (cause : Refusal) → c ≡ Refused cause → outcome c ≡ tile-test boundary n m
+      → mesh-of (grid-answer.Refused cause) points cells ≡ mesh-tile boundary n m points cells
   unfolding outcome-of mesh-of mesh-tile
   mesh-refused points cells c cause e o = refuses _ (λ (v : Verdict). record { grid = refusal points v; cells = cells }) c cause (tile-test boundary n m) e o
 
@@ -120,7 +124,8 @@ module _ (boundary : List Float) (n m : ℕ) where
   unfolding mesh-tile
   mesh-follows points cells x c e o h = h ∙ follows _ (λ (v : Verdict). record { grid = refusal points v; cells = cells }) c (tile-test boundary n m) e o
 
-  pub quads-refused : (out : List Float) (c : Check) (cause : Refusal) → c ≡ Refused cause → outcome c ≡ tile-test boundary n m → outcome-of (grid-answer.Refused cause) out ≡ coons-checked boundary n m out
+  pub quads-refused : (out : List Float) (c : Check) (cause : Refusal) → c ≡ Refused cause → outcome c ≡ tile-test boundary n m
+      → outcome-of (grid-answer.Refused cause) out ≡ coons-checked boundary n m out
   unfolding outcome-of coons-checked
   quads-refused out c cause e o = refuses _ (refusal out) c cause (tile-test boundary n m) e o
 
@@ -131,7 +136,8 @@ module _ (boundary : List Float) (n m : ℕ) where
 
 -- ---- four curves in place of four
 
-pub in-four-curves : {A : Type 0} (f : List Float → List Float → List Float → List Float → A) (a a′ b b′ c c′ d d′ : List Float) → a ≡ a′ → b ≡ b′ → c ≡ c′ → d ≡ d′ → f a b c d ≡ f a′ b′ c′ d′
+pub in-four-curves : {A : Type 0} (f : List Float → List Float → List Float → List Float → A) (a a′ b b′ c c′ d d′ : List Float) → a ≡ a′ → b ≡ b′
+    → c ≡ c′ → d ≡ d′ → f a b c d ≡ f a′ b′ c′ d′
 in-four-curves f a a′ b b′ c c′ d d′ p q r s = ap (λ (x : List Float). f x b c d) p ∙ ap (λ (x : List Float). f a′ x c d) q ∙ ap (λ (x : List Float). f a′ b′ x d) r ∙ ap (f a′ b′ c′) s
 
 pub in-four-sides : {A : Type 0} (f : List Float → List Float → List Float → List Float → A) (g h : ℕ → List Float) → ((k : ℕ) → g k ≡ h k) → f (g 0) (g 1) (g 2) (g 3) ≡ f (h 0) (h 1) (h 2) (h 3)

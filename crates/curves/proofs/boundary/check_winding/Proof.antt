@@ -5,9 +5,6 @@ use borrow.Author.Needs.{needs}
 use Rattle.curves.proofs.boundary.check_winding.Statement.{statement}
 use Rattle.curves.proofs.boundary.check_winding.Tie as tie
 
-signed-area-requires : tie.Need-signed-area-requires
-signed-area-requires c κs = search needs
-
 returns : tie.Need-returns
 unfolding outcome verdict-of winding-test
 returns c = simp (← c .before .signed-area .ensures, c .if1 .taken)
@@ -17,4 +14,4 @@ unfolding outcome winding-test
 returns-2 c = simp (← c .before .signed-area .ensures, c .if1 .left)
 
 pub check-winding-spec : {M : Type 1} → statement M
-check-winding-spec = tie.close (tie.spec signed-area-requires returns returns-2)
+check-winding-spec = tie.close (tie.spec (λ c κs. search needs) returns returns-2)

@@ -4,15 +4,9 @@ use borrow.Author.Needs.{needs}
 use Rattle.curves.proofs.boundary.curve_ends.Statement.{statement}
 use Rattle.curves.proofs.boundary.curve_ends.Tie as tie
 
-curve-at-requires : tie.Need-curve-at-requires
-curve-at-requires c κs = search needs
-
-curve-at-requires-2 : tie.Need-curve-at-requires-2
-curve-at-requires-2 c κs = search needs
-
 returns : tie.Need-returns
 unfolding curve-ends
 returns c = simp (c .before .curve-at .ensures, c .curve-at2 .ensures)
 
 pub curve-ends-spec : {M : Type 1} → statement M
-curve-ends-spec = tie.close (tie.spec curve-at-requires curve-at-requires-2 returns)
+curve-ends-spec = tie.close (tie.spec (λ c κs. search needs) (λ c κs. search needs) returns)

@@ -9,18 +9,6 @@ float-from-bits-infinity : tie.Need-float-from-bits-infinity
 unfolding nanBits
 float-from-bits-infinity c = tt
 
-max-requires : tie.Need-max-requires
-max-requires c κs = search needs
-
-max-requires-2 : tie.Need-max-requires-2
-max-requires-2 c κs = search needs
-
-max-requires-3 : tie.Need-max-requires-3
-max-requires-3 c κs = search needs
-
-max-requires-4 : tie.Need-max-requires-4
-max-requires-4 c κs = search needs
-
 returns : tie.Need-returns
 unfolding highest
 returns c = simp (c .before .before .before .max .ensures, c .before .before .max2 .ensures, c .before .max3 .ensures, c .max4 .ensures)
@@ -29,9 +17,4 @@ pub highest-spec : {M : Type 1} → statement M
 highest-spec =
     tie.close
     (tie.spec
-    float-from-bits-infinity
-    max-requires
-    max-requires-2
-    max-requires-3
-    max-requires-4
-    returns)
+    float-from-bits-infinity (λ c κs. search needs) (λ c κs. search needs) (λ c κs. search needs) (λ c κs. search needs) returns)

@@ -9,18 +9,6 @@ float-from-bits-infinity : tie.Need-float-from-bits-infinity
 unfolding nanBits
 float-from-bits-infinity c = tt
 
-min-requires : tie.Need-min-requires
-min-requires c κs = search needs
-
-min-requires-2 : tie.Need-min-requires-2
-min-requires-2 c κs = search needs
-
-min-requires-3 : tie.Need-min-requires-3
-min-requires-3 c κs = search needs
-
-min-requires-4 : tie.Need-min-requires-4
-min-requires-4 c κs = search needs
-
 returns : tie.Need-returns
 unfolding lowest
 returns c = simp (c .before .before .before .min .ensures, c .before .before .min2 .ensures, c .before .min3 .ensures, c .min4 .ensures)
@@ -29,9 +17,4 @@ pub lowest-spec : {M : Type 1} → statement M
 lowest-spec =
     tie.close
     (tie.spec
-    float-from-bits-infinity
-    min-requires
-    min-requires-2
-    min-requires-3
-    min-requires-4
-    returns)
+    float-from-bits-infinity (λ c κs. search needs) (λ c κs. search needs) (λ c κs. search needs) (λ c κs. search needs) returns)

@@ -26,9 +26,4 @@ returns-3 c =
     simp (le-ltb max-curve (length l) (c .before .if1 .left), eq-eqb (length l % 2) 0 (c .if2 .left))
 
 pub check-curve-limit-spec : {M : Type 1} → statement M
-check-curve-limit-spec =
-    tie.close
-    (tie.spec
-    returns
-    returns-2
-    returns-3)
+check-curve-limit-spec = tie.close (tie.spec returns returns-2 returns-3)

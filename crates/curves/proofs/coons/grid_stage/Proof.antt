@@ -1,133 +1,123 @@
--- `coons::grid_stage` meets its contract. Assumes nothing.
+-- `coons::grid_stage` meets its contract: the seams are refused, or the room, or there is the grid. Assumes nothing.
+use Prim.Native.Nat.{_≤_}
 use native.Mathlib.Omega.{arith}
-use Prim.Native.Nat.{_-_}
 use denote.Ref.{now}
 use lib.ListN.{length}
-use Rattle.curves.specs.Curve.{curve}
-use Rattle.curves.specs.Boundary.{boundary}
-use Rattle.curves.specs.Grid.{seams, n-u, n-v, grid-of, needed}
-use Rattle.curves.proofs.coons.Laws.{seams-fine, cells-fit, bad-seams, no-room, to-the-grid, made, not-made}
+use Rattle.curves.specs.Boundary.{BoundaryCurves}
+use Rattle.curves.specs.Grid.{Seams, n-u, n-v, needed}
+use Rattle.curves.specs.inner.Curves.{lent-curves}
+use Rattle.curves.specs.inner.Grids.{lent-seams, PairedSeams}
+use Rattle.curves.proofs.coons.Laws.{seams-paired, cells-fit, bad-seams, no-room, grid-made, grid-refused}
 use borrow.Author.Needs.{needs}
 use Rattle.curves.proofs.coons.grid_stage.Statement.{statement}
 use Rattle.curves.proofs.coons.grid_stage.Tie as tie
 
-check-seams-requires : tie.Need-check-seams-requires
-check-seams-requires c κs = search needs
+-- ---- the places that needs look back to, and the ways from one to an earlier one; `search` goes by the types
 
-enum-known-cause : tie.Need-enum-known-cause
-enum-known-cause c = search needs
+abbrev entry-before-seams : tie.After-check-seams → tie.Start
+entry-before-seams c = search
+
+abbrev seams-before-passed : tie.After-enum-told → tie.After-check-seams
+seams-before-passed c = search
+
+abbrev room-before-grid : tie.After-coons-grid → tie.Else1
+room-before-grid c = search
+
+abbrev entry : tie.After-enum-told → tie.Start
+entry c = entry-before-seams (seams-before-passed c)
+
+-- the seams are let by where there is room
+abbrev passed : tie.Else1 → tie.After-enum-told
+passed c = c .before .before
+
+-- ---- what is known there
+
+abbrev curves : tie.Start → BoundaryCurves
+curves c = let a = c .args in lent-curves (a .bottom) (a .lengths0) (a .right) (a .lengths1) (a .top) (a .lengths2) (a .left) (a .lengths3)
+
+abbrev seams : tie.Start → Seams
+seams c = let a = c .args in lent-seams (a .bottom-u) (a .top-u) (a .left-v) (a .right-v)
+
+paired : (c : tie.After-enum-told) → PairedSeams (seams (entry c))
+paired c = seams-paired (entry c .pre .short) (c .enum-told .given .1) (seams-before-passed c .check-seams .ensures)
+
+room : (c : tie.Else1) → let start = entry (passed c) in needed (start .args .layout) (n-u (seams start)) (n-v (seams start)) ≤ length (now (start .args .out))
+room c = omega (arith, c .if1 .left, c .before .needed .ensures)
+
+-- ---- the seams are refused
 
 returns : tie.Need-returns
 returns c =
-    let a = c .before .before .before .before .before .before .before .before .before .before .before .before .before .before .before .before .before .before .before .before .args in
-    bad-seams (a .layout) (boundary (curve (now (a .bottom)) (now (a .lengths0))) (curve (now (a .right)) (now (a .lengths1))) (curve (now (a .top)) (now (a .lengths2))) (curve (now (a .left)) (now (a .lengths3)))) (seams (now (a .bottom-u)) (now (a .top-u)) (now (a .left-v)) (now (a .right-v))) (now (a .out)) _ _ (c .before .cause .given .1) (c .before .before .before .check-seams .ensures)
+    let at-seams = c .before .before .before in
+    let start = entry-before-seams at-seams in
+    bad-seams (start .args .layout) (curves start) (seams start) (now (start .args .out)) (c .before .cause .given .1) (at-seams .check-seams .ensures)
 
-enum-told : tie.Need-enum-told
-enum-told c = search needs
+-- ---- the room is
 
 sub-n-u : tie.Need-sub-n-u
-sub-n-u c =
-    let q = seams-fine _ _ _ _ _ (c .enum-told .given .1) (c .before .before .check-seams .ensures) in
-    omega (arith, q .0)
+sub-n-u c = omega (arith, paired c)
 
 sub-n-v : tie.Need-sub-n-v
-sub-n-v c =
-    let q = seams-fine _ _ _ _ _ (c .enum-told .given .1) (c .before .before .check-seams .ensures) in
-    omega (arith, q .2)
+sub-n-v c = omega (arith, paired c)
 
 needed-requires : tie.Need-needed-requires
-needed-requires c κs = search needs
+needed-requires c κs = omega (arith, paired c)
 
 returns-2 : tie.Need-returns-2
 returns-2 c =
-    let a = c .before .before .before .before .before .before .before .before .before .before .before .before .before .before .before .before .before .before .before .before .before .args in
-    no-room (a .layout) (boundary (curve (now (a .bottom)) (now (a .lengths0))) (curve (now (a .right)) (now (a .lengths1))) (curve (now (a .top)) (now (a .lengths2))) (curve (now (a .left)) (now (a .lengths3)))) (seams (now (a .bottom-u)) (now (a .top-u)) (now (a .left-v)) (now (a .right-v))) (now (a .out)) _ (c .before .before .enum-told .given .1) (c .before .before .before .before .check-seams .ensures) (omega (arith, c .if1 .taken, c .before .needed .ensures))
+    let told = c .before .before in
+    let start = entry told in
+    no-room (start .args .layout) (curves start) (seams start) (now (start .args .out)) (told .enum-told .given .1) (seams-before-passed told .check-seams .ensures)
+    (omega (arith, c .if1 .taken, c .before .needed .ensures))
+
+-- ---- the grid
 
 coons-grid-requires : tie.Need-coons-grid-requires
 coons-grid-requires c κs =
-    let p = c .before .before .before .before .before .before .before .before .before .before .before .before .before .before .before .before .before .before .before .before .before .before .before .before .before .pre in
-    let q = seams-fine _ _ _ _ _ (c .before .before .before .before .before .before .enum-told .given .1) (c .before .before .before .before .before .before .before .before .check-seams .ensures) in
-    let e = p .1 .1 .1 .0 in
-    (p .0, (p .1 .0, (p .1 .1 .0, ((q .0, e .0, q .1, q .2, e .2, q .3), (p .1 .1 .1 .1, omega (arith, c .before .before .before .before .if1 .left, c .before .before .before .before .before .needed .ensures))))))
-
-enum-known-made : tie.Need-enum-known-made
-enum-known-made c = search needs
-
-same-length : tie.Need-same-length
-same-length c = search needs
-
-same-length-2 : tie.Need-same-length-2
-same-length-2 c = search needs
-
-same-length-3 : tie.Need-same-length-3
-same-length-3 c = search needs
-
-same-length-4 : tie.Need-same-length-4
-same-length-4 c = search needs
+    let at-room : tie.Else1 = search in
+    let given = entry (passed at-room) .pre in
+    record { curves = given .curves; paired = paired (passed at-room); workspace = given .workspace; room = room at-room }
 
 returns-3 : tie.Need-returns-3
 returns-3 c =
-    let a = c .before .before .before .before .before .before .before .before .before .before .before .before .before .before .before .before .before .before .before .before .before .before .before .before .before .before .before .before .before .before .before .before .before .before .before .before .before .args in
-    to-the-grid (a .layout) (boundary (curve (now (a .bottom)) (now (a .lengths0))) (curve (now (a .right)) (now (a .lengths1))) (curve (now (a .top)) (now (a .lengths2))) (curve (now (a .left)) (now (a .lengths3)))) (seams (now (a .bottom-u)) (now (a .top-u)) (now (a .left-v)) (now (a .right-v))) (now (a .out)) _ _ (c .before .before .before .before .before .before .before .before .before .before .before .before .before .before .before .before .before .before .enum-told .given .1) (c .before .before .before .before .before .before .before .before .before .before .before .before .before .before .before .before .before .before .before .before .check-seams .ensures) (omega (arith, c .before .before .before .before .before .before .before .before .before .before .before .before .before .before .before .before .if1 .left, c .before .before .before .before .before .before .before .before .before .before .before .before .before .before .before .before .before .needed .ensures)) (not-made (a .layout) (grid-of (boundary (curve (now (a .bottom)) (now (a .lengths0))) (curve (now (a .right)) (now (a .lengths1))) (curve (now (a .top)) (now (a .lengths2))) (curve (now (a .left)) (now (a .lengths3)))) (seams (now (a .bottom-u)) (now (a .top-u)) (now (a .left-v)) (now (a .right-v)))) (n-u (seams (now (a .bottom-u)) (now (a .top-u)) (now (a .left-v)) (now (a .right-v)))) (n-v (seams (now (a .bottom-u)) (now (a .top-u)) (now (a .left-v)) (now (a .right-v)))) (now (a .out)) _ _ _ (c .before .made .given .1) (c .before .before .before .before .before .before .before .before .before .before .before .coons-grid .ensures .0) (c .before .before .before .before .before .before .before .before .before .before .before .coons-grid .ensures .1))
+    let at-grid : tie.After-coons-grid = search in
+    let at-room = room-before-grid at-grid in
+    let told = passed at-room in
+    let start = entry told in
+    grid-refused (start .args .layout) (curves start) (seams start) (now (start .args .out)) (told .enum-told .given .1)
+    (seams-before-passed told .check-seams .ensures) (room at-room) (at-grid .coons-grid .ensures) (c .before .made .given .1)
 
-enum-told-2 : tie.Need-enum-told-2
-enum-told-2 c = search needs
+-- the number of quads fits
 
 mul-quads : tie.Need-mul-quads
 mul-quads c =
-    let e = c .before .before .before .before .before .before .before .before .before .before .before .before .before .before .before .before .before .before .before .before .before .before .before .before .before .before .before .before .before .before .before .before .before .before .before .before .pre .1 .1 .1 .0 in
-    let a = c .before .before .before .before .before .before .before .before .before .before .before .before .before .before .before .before .before .before .before .before .before .before .before .before .before .before .before .before .before .before .before .before .before .before .before .before .args in
-    let f = cells-fit (length (now (a .bottom-u)) - 1) (length (now (a .left-v)) - 1) (omega (arith, e .0)) (omega (arith, e .2)) in
-    omega (arith, f)
+    let at-grid : tie.After-coons-grid = search in
+    let told = passed (room-before-grid at-grid) in
+    let s = seams (entry told) in
+    let few = cells-fit (n-u s) (n-v s) (omega (arith, paired told)) (omega (arith, paired told)) in
+    omega (arith, few)
 
 cast-t39 : tie.Need-cast-t39
 cast-t39 c =
-    let e = c .before .before .before .before .before .before .before .before .before .before .before .before .before .before .before .before .before .before .before .before .before .before .before .before .before .before .before .before .before .before .before .before .before .before .before .before .pre .1 .1 .1 .0 in
-    let a = c .before .before .before .before .before .before .before .before .before .before .before .before .before .before .before .before .before .before .before .before .before .before .before .before .before .before .before .before .before .before .before .before .before .before .before .before .args in
-    let f = cells-fit (length (now (a .bottom-u)) - 1) (length (now (a .left-v)) - 1) (omega (arith, e .0)) (omega (arith, e .2)) in
-    omega (arith, f)
-
-same-length-5 : tie.Need-same-length-5
-same-length-5 c = search needs
-
-same-length-6 : tie.Need-same-length-6
-same-length-6 c = search needs
-
-same-length-7 : tie.Need-same-length-7
-same-length-7 c = search needs
-
-same-length-8 : tie.Need-same-length-8
-same-length-8 c = search needs
+    let at-grid : tie.After-coons-grid = search in
+    let told = passed (room-before-grid at-grid) in
+    let s = seams (entry told) in
+    let few = cells-fit (n-u s) (n-v s) (omega (arith, paired told)) (omega (arith, paired told)) in
+    omega (arith, few)
 
 returns-4 : tie.Need-returns-4
 returns-4 c =
-    let a = c .before .before .before .before .before .before .before .before .before .before .before .before .before .before .before .before .before .before .before .before .before .before .before .before .before .before .before .before .before .before .before .before .before .before .before .before .args in
-    to-the-grid (a .layout) (boundary (curve (now (a .bottom)) (now (a .lengths0))) (curve (now (a .right)) (now (a .lengths1))) (curve (now (a .top)) (now (a .lengths2))) (curve (now (a .left)) (now (a .lengths3)))) (seams (now (a .bottom-u)) (now (a .top-u)) (now (a .left-v)) (now (a .right-v))) (now (a .out)) _ _ (c .before .before .before .before .before .before .before .before .before .before .before .before .before .before .before .before .before .enum-told .given .1) (c .before .before .before .before .before .before .before .before .before .before .before .before .before .before .before .before .before .before .before .check-seams .ensures) (omega (arith, c .before .before .before .before .before .before .before .before .before .before .before .before .before .before .before .if1 .left, c .before .before .before .before .before .before .before .before .before .before .before .before .before .before .before .before .needed .ensures)) (made (a .layout) (grid-of (boundary (curve (now (a .bottom)) (now (a .lengths0))) (curve (now (a .right)) (now (a .lengths1))) (curve (now (a .top)) (now (a .lengths2))) (curve (now (a .left)) (now (a .lengths3)))) (seams (now (a .bottom-u)) (now (a .top-u)) (now (a .left-v)) (now (a .right-v)))) (n-u (seams (now (a .bottom-u)) (now (a .top-u)) (now (a .left-v)) (now (a .right-v)))) (n-v (seams (now (a .bottom-u)) (now (a .top-u)) (now (a .left-v)) (now (a .right-v)))) (now (a .out)) _ _ (c .enum-told2 .given .1) (c .before .before .before .before .before .before .before .before .before .before .coons-grid .ensures .0) (c .before .before .before .before .before .before .before .before .before .before .coons-grid .ensures .1))
+    let at-grid : tie.After-coons-grid = search in
+    let at-room = room-before-grid at-grid in
+    let told = passed at-room in
+    let start = entry told in
+    grid-made (start .args .layout) (curves start) (seams start) (now (start .args .out)) (told .enum-told .given .1)
+    (seams-before-passed told .check-seams .ensures) (room at-room) (at-grid .coons-grid .ensures) (c .enum-told2 .given .1)
 
 pub grid-stage-spec : {M : Type 1} → statement M
 grid-stage-spec =
     tie.close
     (tie.spec
-    check-seams-requires
-    enum-known-cause
-    returns
-    enum-told
-    sub-n-u
-    sub-n-v
-    needed-requires
-    returns-2
-    coons-grid-requires
-    enum-known-made
-    same-length
-    same-length-2
-    same-length-3
-    same-length-4
-    returns-3
-    enum-told-2
-    mul-quads
-    cast-t39
-    same-length-5
-    same-length-6
-    same-length-7
-    same-length-8
-    returns-4)
+    (λ c κs. search needs) (λ c. search needs) returns (λ c. search needs) sub-n-u sub-n-v needed-requires returns-2 coons-grid-requires
+    (λ c. search needs) (λ c. search needs) (λ c. search needs) (λ c. search needs) (λ c. search needs) returns-3 (λ c. search needs)
+    mul-quads cast-t39 (λ c. search needs) (λ c. search needs) (λ c. search needs) (λ c. search needs) returns-4)

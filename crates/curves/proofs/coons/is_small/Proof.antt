@@ -16,8 +16,5 @@ returns-3 c = impossible
 returns-4 : tie.Need-returns-4
 returns-4 c = impossible
 
-returns-5 : tie.Need-returns-5
-returns-5 c = search needs
-
 pub is-small-spec : {M : Type 1} → statement M
-is-small-spec = tie.close (tie.spec returns returns-2 returns-3 returns-4 returns-5)
+is-small-spec = tie.close (tie.spec returns returns-2 returns-3 returns-4 (λ c. search needs))

@@ -1,154 +1,150 @@
--- `coons::patch_in` meets its contract: once the curves have passed, the front of each table is the definition's list. Assumes nothing.
+-- `coons::patch_in` meets its contract: the curves are refused, or they join, the front of each table is the definition's list, and the rest follows.
+-- Assumes nothing.
 use mathlib.Core.Path.{refl, sym, ap, _∙_}
-use native.Mathlib.Omega.{arith}
 use denote.Ref.{now}
-use lib.ListN.{length}
-use Rattle.base.specs.declared.refusal.Check.the-variants as check
-use Rattle.base.proofs.BoolLaws.{true-T}
-use Rattle.curves.specs.Boundary.{BoundaryCurves, boundary-ends, checked-curves, joined-of}
-use Rattle.curves.specs.Grid.{seams}
+use lib.Seq.{length-take-le}
+use Rattle.curves.specs.Boundary.{BoundaryCurves, joined-of}
 use Rattle.curves.specs.Coons.{patch, grid-stage}
-use Rattle.curves.specs.declared.boundary.BoundaryEnds.{BoundaryEnds}
-use Rattle.curves.proofs.curve.Laws.{length-cumulative, written}
-use Rattle.curves.proofs.boundary.Laws.{told-refused, told-joined, each-passed, same-boundary, part-sampled}
+use Rattle.curves.specs.inner.Curves.{Sides, lent, TablesFit}
+use Rattle.curves.specs.inner.Grids.{lent-seams}
+use Rattle.curves.proofs.boundary.Laws.{SameLengths, still-fit, checked-on, told-refused, JoinedCurves, joined, joined-patch, fronts-are}
 use Rattle.curves.proofs.coons.Laws.{turned-away, goes-on}
 use borrow.Author.Needs.{needs}
 use Rattle.curves.proofs.coons.patch_in.Statement.{statement}
 use Rattle.curves.proofs.coons.patch_in.Tie as tie
 
-checked-curves-requires : tie.Need-checked-curves-requires
-checked-curves-requires c κs = search needs
+-- ---- the places that needs look back to, and the ways from one to an earlier one; `search` goes by the types
 
-enum-known-joined : tie.Need-enum-known-joined
-enum-known-joined c = search needs
+abbrev Checked : Type 0
+Checked = tie.After-checked-curves
 
-enum-known-joined-2 : tie.Need-enum-known-joined-2
-enum-known-joined-2 c = search needs
+abbrev entry : Checked → tie.Start
+entry c = search
 
-slice-reshare-prefix-grid-stage : tie.Need-slice-reshare-prefix-grid-stage
-slice-reshare-prefix-grid-stage c = omega (arith, c .before .before .before .before .before .before .before .before .before .before .before .before .before .before .before .before .before .before .before .before .before .before .before .before .before .before .before .before .before .before .before .before .pre .0, c .before .before .before .before .before .before .before .before .before .before .before .checked-curves .kept .1 .0)
+abbrev checked : tie.After-joined2 → Checked
+checked c = search
 
-slice-aggregate-grid-stage : tie.Need-slice-aggregate-grid-stage
-slice-aggregate-grid-stage c =
-    let a = c .before .before .before .before .before .before .before .before .before .before .before .before .before .before .before .before .before .before .before .before .before .before .before .before .before .before .before .before .before .before .before .before .before .args in
-    let q = told-joined (now (a .bottom)) (now (a .right)) (now (a .top)) (now (a .left)) _ (ap joined-of (sym (c .before .before .joined2 .given .1)) ∙ c .before .before .before .before .before .before .before .before .before .before .before .before .checked-curves .ensures .0) in
-    sym (ap length (written _ _ _ (c .before .before .before .before .before .before .before .before .before .before .before .before .checked-curves .ensures .1 .0 (true-T _ (q .0)))) ∙ length-cumulative _)
+abbrev joined-before-grid : tie.After-grid-stage → tie.After-joined2
+joined-before-grid c = search
 
-slice-reshare-prefix-grid-stage-2 : tie.Need-slice-reshare-prefix-grid-stage-2
-slice-reshare-prefix-grid-stage-2 c = omega (arith, c .before .before .before .before .before .before .before .before .before .before .before .before .before .before .before .before .before .before .before .before .before .before .before .before .before .before .before .before .before .before .before .before .before .pre .0, c .before .before .before .before .before .before .before .before .before .before .before .before .checked-curves .kept .1 .1 .1 .0)
+-- ---- what is known once the curves are tested
 
-slice-aggregate-grid-stage-2 : tie.Need-slice-aggregate-grid-stage-2
-slice-aggregate-grid-stage-2 c =
-    let a = c .before .before .before .before .before .before .before .before .before .before .before .before .before .before .before .before .before .before .before .before .before .before .before .before .before .before .before .before .before .before .before .before .before .before .args in
-    let q = told-joined (now (a .bottom)) (now (a .right)) (now (a .top)) (now (a .left)) _ (ap joined-of (sym (c .before .before .before .joined2 .given .1)) ∙ c .before .before .before .before .before .before .before .before .before .before .before .before .before .checked-curves .ensures .0) in
-    sym (ap length (written _ _ _ (c .before .before .before .before .before .before .before .before .before .before .before .before .before .checked-curves .ensures .1 .1 .0 (true-T _ (q .0)))) ∙ length-cumulative _)
+abbrev points : Checked → Sides
+points c = let a = entry c .args in lent (a .bottom) (a .right) (a .top) (a .left)
 
-slice-reshare-prefix-grid-stage-3 : tie.Need-slice-reshare-prefix-grid-stage-3
-slice-reshare-prefix-grid-stage-3 c = omega (arith, c .before .before .before .before .before .before .before .before .before .before .before .before .before .before .before .before .before .before .before .before .before .before .before .before .before .before .before .before .before .before .before .before .before .before .pre .0, c .before .before .before .before .before .before .before .before .before .before .before .before .before .checked-curves .kept .1 .1 .1 .1 .1 .0)
+abbrev before : Checked → Sides
+before c = let a = entry c .args in lent (a .lengths0) (a .lengths1) (a .lengths2) (a .lengths3)
 
-slice-aggregate-grid-stage-3 : tie.Need-slice-aggregate-grid-stage-3
-slice-aggregate-grid-stage-3 c =
-    let a = c .before .before .before .before .before .before .before .before .before .before .before .before .before .before .before .before .before .before .before .before .before .before .before .before .before .before .before .before .before .before .before .before .before .before .before .args in
-    let q = told-joined (now (a .bottom)) (now (a .right)) (now (a .top)) (now (a .left)) _ (ap joined-of (sym (c .before .before .before .before .joined2 .given .1)) ∙ c .before .before .before .before .before .before .before .before .before .before .before .before .before .before .checked-curves .ensures .0) in
-    sym (ap length (written _ _ _ (c .before .before .before .before .before .before .before .before .before .before .before .before .before .before .checked-curves .ensures .1 .1 .1 .0 (true-T _ (q .0)))) ∙ length-cumulative _)
+abbrev after : Checked → Sides
+after c = let last = c .checked-curves .last in record {
+  bottom = last .1 .0;
+  right = last .1 .1 .1 .0;
+  top = last .1 .1 .1 .1 .1 .0;
+  left = last .1 .1 .1 .1 .1 .1 .1 .0;
+}
 
-slice-reshare-prefix-grid-stage-4 : tie.Need-slice-reshare-prefix-grid-stage-4
-slice-reshare-prefix-grid-stage-4 c = omega (arith, c .before .before .before .before .before .before .before .before .before .before .before .before .before .before .before .before .before .before .before .before .before .before .before .before .before .before .before .before .before .before .before .before .before .before .before .pre .0, c .before .before .before .before .before .before .before .before .before .before .before .before .before .before .checked-curves .kept .1 .1 .1 .1 .1 .1 .1 .0)
+same : (c : Checked) → SameLengths (before c) (after c)
+same c = let kept = c .checked-curves .kept in record {
+  bottom = kept .1 .0;
+  right = kept .1 .1 .1 .0;
+  top = kept .1 .1 .1 .1 .1 .0;
+  left = kept .1 .1 .1 .1 .1 .1 .1 .0;
+}
 
-slice-aggregate-grid-stage-4 : tie.Need-slice-aggregate-grid-stage-4
-slice-aggregate-grid-stage-4 c =
-    let a = c .before .before .before .before .before .before .before .before .before .before .before .before .before .before .before .before .before .before .before .before .before .before .before .before .before .before .before .before .before .before .before .before .before .before .before .before .args in
-    let q = told-joined (now (a .bottom)) (now (a .right)) (now (a .top)) (now (a .left)) _ (ap joined-of (sym (c .before .before .before .before .before .joined2 .given .1)) ∙ c .before .before .before .before .before .before .before .before .before .before .before .before .before .before .before .checked-curves .ensures .0) in
-    sym (ap length (written _ _ _ (c .before .before .before .before .before .before .before .before .before .before .before .before .before .before .before .checked-curves .ensures .1 .1 .1 .1 (true-T _ (q .0)))) ∙ length-cumulative _)
+fit : (c : Checked) → TablesFit (points c) (after c)
+fit c = still-fit (entry c .pre .tables-fit) (same c)
 
-grid-stage-requires : tie.Need-grid-stage-requires
-grid-stage-requires c κs =
-    let a = c .before .before .before .before .before .before .before .before .before .before .before .before .before .before .before .before .before .before .before .before .before .before .before .before .before .before .before .before .before .before .before .before .before .before .before .before .before .before .before .before .args in
-    let q = told-joined (now (a .bottom)) (now (a .right)) (now (a .top)) (now (a .left)) _ (ap joined-of (sym (c .before .before .before .before .before .before .before .before .before .joined2 .given .1)) ∙ c .before .before .before .before .before .before .before .before .before .before .before .before .before .before .before .before .before .before .before .checked-curves .ensures .0) in
-    let t = true-T _ (q .0) in
-    let e = each-passed (now (a .bottom)) (now (a .right)) (now (a .top)) (now (a .left)) t in
-    let ends = q .1 ∙ sym (ap boundary-ends (same-boundary (now (a .bottom)) (now (a .right)) (now (a .top)) (now (a .left)) _ _ _ _ (written _ _ _ (c .before .before .before .before .before .before .before .before .before .before .before .before .before .before .before .before .before .before .before .checked-curves .ensures .1 .0 t)) (written _ _ _ (c .before .before .before .before .before .before .before .before .before .before .before .before .before .before .before .before .before .before .before .checked-curves .ensures .1 .1 .0 t)) (written _ _ _ (c .before .before .before .before .before .before .before .before .before .before .before .before .before .before .before .before .before .before .before .checked-curves .ensures .1 .1 .1 .0 t)) (written _ _ _ (c .before .before .before .before .before .before .before .before .before .before .before .before .before .before .before .before .before .before .before .checked-curves .ensures .1 .1 .1 .1 t)))) in
-    ((part-sampled (now (a .bottom)) 0 _ _ refl (e .0) (written _ _ _ (c .before .before .before .before .before .before .before .before .before .before .before .before .before .before .before .before .before .before .before .checked-curves .ensures .1 .0 t)), part-sampled (now (a .top)) 2 _ _ refl (e .2) (written _ _ _ (c .before .before .before .before .before .before .before .before .before .before .before .before .before .before .before .before .before .before .before .checked-curves .ensures .1 .1 .1 .0 t))), ((part-sampled (now (a .right)) 1 _ _ refl (e .1) (written _ _ _ (c .before .before .before .before .before .before .before .before .before .before .before .before .before .before .before .before .before .before .before .checked-curves .ensures .1 .1 .0 t)), part-sampled (now (a .left)) 3 _ _ refl (e .3) (written _ _ _ (c .before .before .before .before .before .before .before .before .before .before .before .before .before .before .before .before .before .before .before .checked-curves .ensures .1 .1 .1 .1 t))), ((ap (λ (x : BoundaryEnds). x .bottom) ends, ap (λ (x : BoundaryEnds). x .top) ends), c .before .before .before .before .before .before .before .before .before .before .before .before .before .before .before .before .before .before .before .before .before .before .before .before .before .before .before .before .before .before .before .before .before .before .before .before .before .before .before .before .pre .1)))
+curves-joined : (c : tie.After-joined2) → JoinedCurves (points (checked c)) (before (checked c)) (after (checked c)) (c .joined2 .given .0 .0)
+curves-joined c = joined (checked c .checked-curves .ensures) (ap joined-of (c .joined2 .given .1))
 
-same-length : tie.Need-same-length
-same-length c = search needs
-
-same-length-2 : tie.Need-same-length-2
-same-length-2 c = search needs
-
-same-length-3 : tie.Need-same-length-3
-same-length-3 c = search needs
-
-same-length-4 : tie.Need-same-length-4
-same-length-4 c = search needs
+-- ---- the curves are refused
 
 returns : tie.Need-returns
 unfolding patch
 returns c =
-    let a = c .before .before .before .before .before .before .before .before .before .before .before .before .before .before .before .before .before .before .before .before .before .before .before .before .before .before .before .before .before .before .before .before .args in
-    turned-away (now (a .out)) _ (check.Refused (c .before .joined .given .0 .0)) _ (checked-curves (now (a .bottom)) (now (a .right)) (now (a .top)) (now (a .left))) refl (told-refused (now (a .bottom)) (now (a .right)) (now (a .top)) (now (a .left)) _ (ap joined-of (sym (c .before .joined .given .1)) ∙ c .before .before .before .before .before .before .before .before .before .before .before .checked-curves .ensures .0))
+    let here : Checked = search in
+    let cause = c .before .joined in
+    turned-away (now (entry here .args .out)) _ refl (told-refused (here .checked-curves .ensures) (cause .given .0 .0) (ap joined-of (cause .given .1)))
+
+-- ---- they join: the tables are lent on
+
+slice-reshare-prefix-grid-stage : tie.Need-slice-reshare-prefix-grid-stage
+slice-reshare-prefix-grid-stage c =
+    let here : Checked = search in
+    fit here .bottom
+
+slice-aggregate-grid-stage : tie.Need-slice-aggregate-grid-stage
+slice-aggregate-grid-stage c =
+    let here : Checked = search in
+    sym (length-take-le _ _ (fit here .bottom))
+
+slice-reshare-prefix-grid-stage-2 : tie.Need-slice-reshare-prefix-grid-stage-2
+slice-reshare-prefix-grid-stage-2 c =
+    let here : Checked = search in
+    fit here .right
+
+slice-aggregate-grid-stage-2 : tie.Need-slice-aggregate-grid-stage-2
+slice-aggregate-grid-stage-2 c =
+    let here : Checked = search in
+    sym (length-take-le _ _ (fit here .right))
+
+slice-reshare-prefix-grid-stage-3 : tie.Need-slice-reshare-prefix-grid-stage-3
+slice-reshare-prefix-grid-stage-3 c =
+    let here : Checked = search in
+    fit here .top
+
+slice-aggregate-grid-stage-3 : tie.Need-slice-aggregate-grid-stage-3
+slice-aggregate-grid-stage-3 c =
+    let here : Checked = search in
+    sym (length-take-le _ _ (fit here .top))
+
+slice-reshare-prefix-grid-stage-4 : tie.Need-slice-reshare-prefix-grid-stage-4
+slice-reshare-prefix-grid-stage-4 c =
+    let here : Checked = search in
+    fit here .left
+
+slice-aggregate-grid-stage-4 : tie.Need-slice-aggregate-grid-stage-4
+slice-aggregate-grid-stage-4 c =
+    let here : Checked = search in
+    sym (length-take-le _ _ (fit here .left))
+
+grid-stage-requires : tie.Need-grid-stage-requires
+grid-stage-requires c κs =
+    let at-joined : tie.After-joined2 = search in
+    let given = entry (checked at-joined) .pre in
+    record { curves = joined-patch (curves-joined at-joined); short = given .short; workspace = given .workspace }
+
+-- ---- the grid
 
 same-length-5 : tie.Need-same-length-5
-same-length-5 c = c .before .before .before .before .before .before .before .before .before .before .before .before .before .before .before .before .before .before .before .before .before .before .before .before .before .before .before .before .checked-curves .kept .1 .0
+same-length-5 c =
+    let at-grid : tie.After-grid-stage = search in
+    same (checked (joined-before-grid at-grid)) .bottom
 
 same-length-6 : tie.Need-same-length-6
-same-length-6 c = c .before .before .before .before .before .before .before .before .before .before .before .before .before .before .before .before .before .before .before .before .before .before .before .before .before .before .before .before .checked-curves .kept .1 .1 .1 .0
-
-same-length-7 : tie.Need-same-length-7
-same-length-7 c = search needs
-
-same-length-8 : tie.Need-same-length-8
-same-length-8 c = search needs
-
-same-length-9 : tie.Need-same-length-9
-same-length-9 c = search needs
-
-same-length-10 : tie.Need-same-length-10
-same-length-10 c = search needs
-
-same-length-11 : tie.Need-same-length-11
-same-length-11 c = search needs
-
-same-length-12 : tie.Need-same-length-12
-same-length-12 c = search needs
+same-length-6 c =
+    let at-grid : tie.After-grid-stage = search in
+    same (checked (joined-before-grid at-grid)) .right
 
 returns-2 : tie.Need-returns-2
 unfolding patch
 returns-2 c =
-    let a = c .before .before .before .before .before .before .before .before .before .before .before .before .before .before .before .before .before .before .before .before .before .before .before .before .before .before .before .before .before .before .before .before .before .before .before .before .before .before .before .before .before .before .before .before .before .before .before .before .before .args in
-    let q = told-joined (now (a .bottom)) (now (a .right)) (now (a .top)) (now (a .left)) _ (ap joined-of (sym (c .before .before .before .before .before .before .before .before .before .before .before .before .before .before .before .before .before .before .joined2 .given .1)) ∙ c .before .before .before .before .before .before .before .before .before .before .before .before .before .before .before .before .before .before .before .before .before .before .before .before .before .before .before .before .checked-curves .ensures .0) in
-    let t = true-T _ (q .0) in
-    c .before .before .before .before .before .before .before .before .grid-stage .ensures
-    ∙ ap (λ (x : BoundaryCurves). grid-stage (a .layout) x (seams (now (a .bottom-u)) (now (a .top-u)) (now (a .left-v)) (now (a .right-v))) (now (a .out))) (same-boundary (now (a .bottom)) (now (a .right)) (now (a .top)) (now (a .left)) _ _ _ _ (written _ _ _ (c .before .before .before .before .before .before .before .before .before .before .before .before .before .before .before .before .before .before .before .before .before .before .before .before .before .before .before .before .checked-curves .ensures .1 .0 t)) (written _ _ _ (c .before .before .before .before .before .before .before .before .before .before .before .before .before .before .before .before .before .before .before .before .before .before .before .before .before .before .before .before .checked-curves .ensures .1 .1 .0 t)) (written _ _ _ (c .before .before .before .before .before .before .before .before .before .before .before .before .before .before .before .before .before .before .before .before .before .before .before .before .before .before .before .before .checked-curves .ensures .1 .1 .1 .0 t)) (written _ _ _ (c .before .before .before .before .before .before .before .before .before .before .before .before .before .before .before .before .before .before .before .before .before .before .before .before .before .before .before .before .checked-curves .ensures .1 .1 .1 .1 t)))
-    ∙ goes-on (now (a .out)) _ (checked-curves (now (a .bottom)) (now (a .right)) (now (a .top)) (now (a .left))) (q .0)
+    let at-grid : tie.After-grid-stage = search in
+    let at-joined = joined-before-grid at-grid in
+    let here = checked at-joined in
+    let a = entry here .args in
+    let s = lent-seams (a .bottom-u) (a .top-u) (a .left-v) (a .right-v) in
+    let j = curves-joined at-joined in
+    at-grid .grid-stage .ensures
+    ∙ ap (λ (x : BoundaryCurves). grid-stage (a .layout) x s (now (a .out))) (fronts-are (j .tables))
+    ∙ goes-on (now (a .out)) _ (checked-on (points here)) (j .passed)
 
 pub patch-in-spec : {M : Type 1} → statement M
 patch-in-spec =
     tie.close
     (tie.spec
-    checked-curves-requires
-    enum-known-joined
-    enum-known-joined-2
-    slice-reshare-prefix-grid-stage
-    slice-aggregate-grid-stage
-    slice-reshare-prefix-grid-stage-2
-    slice-aggregate-grid-stage-2
-    slice-reshare-prefix-grid-stage-3
-    slice-aggregate-grid-stage-3
-    slice-reshare-prefix-grid-stage-4
-    slice-aggregate-grid-stage-4
-    grid-stage-requires
-    same-length
-    same-length-2
-    same-length-3
-    same-length-4
-    returns
-    same-length-5
-    same-length-6
-    same-length-7
-    same-length-8
-    same-length-9
-    same-length-10
-    same-length-11
-    same-length-12
-    returns-2)
+    (λ c κs. search needs) (λ c. search needs) (λ c. search needs) slice-reshare-prefix-grid-stage slice-aggregate-grid-stage
+    slice-reshare-prefix-grid-stage-2 slice-aggregate-grid-stage-2 slice-reshare-prefix-grid-stage-3 slice-aggregate-grid-stage-3
+    slice-reshare-prefix-grid-stage-4 slice-aggregate-grid-stage-4 grid-stage-requires (λ c. search needs) (λ c. search needs)
+    (λ c. search needs) (λ c. search needs) returns same-length-5 same-length-6 (λ c. search needs) (λ c. search needs) (λ c. search needs)
+    (λ c. search needs) (λ c. search needs) (λ c. search needs) returns-2)

@@ -10,26 +10,12 @@ use Rattle.curves.proofs.crossing.Laws.{parallel, not-parallel, inside,
 use Rattle.curves.proofs.crossing.logical_intersection.Statement.{statement}
 use Rattle.curves.proofs.crossing.logical_intersection.Tie as tie
 
-abs-requires : tie.Need-abs-requires
-abs-requires c κs = search needs
-
 returns : tie.Need-returns
 unfolding point-of
 returns c = parallel _ _ _ _ _ _ (ap (λ (x : Float). lt x e-12) (sym (c .before .abs .ensures)) ∙ c .if1 .taken)
 
-in-unit-requires : tie.Need-in-unit-requires
-in-unit-requires c κs = search needs
-
-in-unit-requires-2 : tie.Need-in-unit-requires-2
-in-unit-requires-2 c κs = search needs
-
-clamp-unit-requires : tie.Need-clamp-unit-requires
-clamp-unit-requires c κs = search needs
-
-clamp-unit-requires-2 : tie.Need-clamp-unit-requires-2
-clamp-unit-requires-2 c κs = search needs
-
-crossed : (c : tie.Else1) → lt (float-abs (denominator (c .before .before .args .a) (c .before .before .args .b) (c .before .before .args .c) (c .before .before .args .d))) e-12 ≡ false
+-- the lines are not parallel
+crossed : (c : tie.Else1) → let a = c .before .before .args in lt (float-abs (denominator (a .a) (a .b) (a .c) (a .d))) e-12 ≡ false
 crossed c = ap (λ (x : Float). lt x e-12) (sym (c .before .abs .ensures)) ∙ c .if1 .left
 
 returns-2 : tie.Need-returns-2
@@ -37,7 +23,8 @@ unfolding point-of
 returns-2 c =
     let second = c .before .before .before in
     let first = second .before .before in
-    inside _ _ _ _ _ _ (c .before .clamp-unit .ensures) (c .clamp-unit2 .ensures) (sym (first .in-unit .ensures) ∙ second .before .if2 .taken) (sym (second .in-unit2 .ensures) ∙ c .before .before .if3 .taken)
+    inside _ _ _ _ (c .before .clamp-unit .ensures) (c .clamp-unit2 .ensures) (sym (first .in-unit .ensures) ∙ second .before .if2 .taken)
+    (sym (second .in-unit2 .ensures) ∙ c .before .before .if3 .taken)
     ∙ not-parallel _ _ _ _ _ _ (crossed (first .before))
 
 returns-3 : tie.Need-returns-3
@@ -45,7 +32,8 @@ unfolding point-of
 returns-3 c =
     let second = c .before in
     let first = second .before .before in
-    v-outside _ _ _ _ (sym (first .in-unit .ensures) ∙ second .before .if2 .taken) (sym (second .in-unit2 .ensures) ∙ c .if3 .left) ∙ not-parallel _ _ _ _ _ _ (crossed (first .before))
+    v-outside _ _ _ _ (sym (first .in-unit .ensures) ∙ second .before .if2 .taken) (sym (second .in-unit2 .ensures) ∙ c .if3 .left)
+    ∙ not-parallel _ _ _ _ _ _ (crossed (first .before))
 
 returns-4 : tie.Need-returns-4
 unfolding point-of
@@ -54,4 +42,8 @@ returns-4 c =
     u-outside _ _ _ _ (sym (first .in-unit .ensures) ∙ c .if2 .left) ∙ not-parallel _ _ _ _ _ _ (crossed (first .before))
 
 pub logical-intersection-spec : {M : Type 1} → statement M
-logical-intersection-spec = tie.close (tie.spec abs-requires returns in-unit-requires in-unit-requires-2 clamp-unit-requires clamp-unit-requires-2 returns-2 returns-3 returns-4)
+logical-intersection-spec =
+    tie.close
+    (tie.spec
+    (λ c κs. search needs) returns (λ c κs. search needs) (λ c κs. search needs) (λ c κs. search needs) (λ c κs. search needs) returns-2
+    returns-3 returns-4)

@@ -16,29 +16,19 @@ Inv-loop values i₀ i = all-finite values ≡ all-finite (drop i values)
 abbrev μ-loop : tie.MeasureT-loop
 μ-loop values i₀ i = length values - i
 
-loop-holds : tie.Need-loop-holds Inv-loop μ-loop
-loop-holds c = refl
-
-mul-value : tie.Need-mul-value Inv-loop μ-loop
-mul-value c = omega arith
-
-shared-slice-read-value : tie.Need-shared-slice-read-value Inv-loop μ-loop
-shared-slice-read-value c = omega arith
-
-is-finite-requires : tie.Need-is-finite-requires Inv-loop μ-loop
-is-finite-requires c κs = search needs
+-- the places that needs look back to; `search` goes by the types
+abbrev Turn : Type 0
+Turn = tie.At-loop Inv-loop μ-loop
 
 returns : tie.Need-returns Inv-loop μ-loop
-returns c = sym (c .before .before .before .before .loop .inv ∙ finite-not _ _ (c .before .before .before .loop-test .taken) (sym (c .before .is-finite .ensures) ∙ not-true _ (c .if1 .taken)))
-
-add-i : tie.Need-add-i Inv-loop μ-loop
-add-i c = omega arith
-
-loop-less : tie.Need-loop-less Inv-loop μ-loop
-loop-less c = omega arith
+returns c =
+    let turn : Turn = search in
+    sym (turn .loop .inv ∙ finite-not _ _ (c .before .before .before .loop-test .taken) (sym (c .before .is-finite .ensures) ∙ not-true _ (c .if1 .taken)))
 
 loop-again : tie.Need-loop-again Inv-loop μ-loop
-loop-again c = c .before .before .before .before .loop .inv ∙ finite-next _ _ (c .before .before .before .loop-test .taken) (sym (c .before .is-finite .ensures) ∙ not-false _ (c .if1 .left))
+loop-again c =
+    let turn : Turn = search in
+    turn .loop .inv ∙ finite-next _ _ (c .before .before .before .loop-test .taken) (sym (c .before .is-finite .ensures) ∙ not-false _ (c .if1 .left))
 
 returns-2 : tie.Need-returns-2 Inv-loop μ-loop
 returns-2 c = sym (c .before .loop .inv ∙ finite-end _ _ (c .loop-test .left))
@@ -47,14 +37,5 @@ pub all-finite-spec : {M : Type 1} → statement M
 all-finite-spec =
     tie.close
     (tie.spec
-    Inv-loop
-    μ-loop
-    loop-holds
-    mul-value
-    shared-slice-read-value
-    is-finite-requires
-    returns
-    add-i
-    loop-less
-    loop-again
-    returns-2)
+    Inv-loop μ-loop (λ c. refl) (λ c. omega arith) (λ c. omega arith) (λ c κs. search needs) returns (λ c. omega arith) (λ c. omega arith)
+    loop-again returns-2)

@@ -5,9 +5,6 @@ use borrow.Author.Needs.{needs}
 use Rattle.curves.proofs.curve.check_total.Statement.{statement}
 use Rattle.curves.proofs.curve.check_total.Tie as tie
 
-is-positive-requires : tie.Need-is-positive-requires
-is-positive-requires c κs = search needs
-
 returns : tie.Need-returns
 unfolding outcome total-test
 returns c = simp (← c .before .is-positive .ensures, c .if1 .taken)
@@ -17,4 +14,4 @@ unfolding outcome verdict-of total-test
 returns-2 c = simp (← c .before .is-positive .ensures, c .if1 .left)
 
 pub check-total-spec : {M : Type 1} → statement M
-check-total-spec = tie.close (tie.spec is-positive-requires returns returns-2)
+check-total-spec = tie.close (tie.spec (λ c κs. search needs) returns returns-2)

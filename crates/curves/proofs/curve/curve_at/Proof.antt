@@ -6,8 +6,5 @@ use Rattle.curves.proofs.curve.curve_at.Tie as tie
 curve-near-requires : tie.Need-curve-near-requires
 curve-near-requires c κs = c .before .before .pre
 
-returns : tie.Need-returns
-returns c = search needs
-
 pub curve-at-spec : {M : Type 1} → statement M
-curve-at-spec = tie.close (tie.spec curve-near-requires returns)
+curve-at-spec = tie.close (tie.spec curve-near-requires (λ c. search needs))

@@ -4,12 +4,9 @@ use borrow.Author.Needs.{needs}
 use Rattle.curves.proofs.curve.distance.Statement.{statement}
 use Rattle.curves.proofs.curve.distance.Tie as tie
 
-sqrt-requires : tie.Need-sqrt-requires
-sqrt-requires c κs = search needs
-
 returns : tie.Need-returns
 unfolding distance
 returns c = c .sqrt .ensures
 
 pub distance-spec : {M : Type 1} → statement M
-distance-spec = tie.close (tie.spec sqrt-requires returns)
+distance-spec = tie.close (tie.spec (λ c κs. search needs) returns)

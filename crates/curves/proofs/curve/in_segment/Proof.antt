@@ -5,26 +5,8 @@ use borrow.Author.Needs.{needs}
 use Rattle.curves.proofs.curve.in_segment.Statement.{statement}
 use Rattle.curves.proofs.curve.in_segment.Tie as tie
 
-sub-last : tie.Need-sub-last
-sub-last c = search needs
-
-mul-if2 : tie.Need-mul-if2
-mul-if2 c = search needs
-
-shared-slice-read-if2 : tie.Need-shared-slice-read-if2
-shared-slice-read-if2 c = search needs
-
-add-if3 : tie.Need-add-if3
-add-if3 c = search needs
-
-mul-if3 : tie.Need-mul-if3
-mul-if3 c = search needs
-
-shared-slice-read-if3 : tie.Need-shared-slice-read-if3
-shared-slice-read-if3 c = search needs
-
 returns : tie.Need-returns
-returns c = λ e. (omega arith, c .before .before .if2 .taken, c .if3 .taken)
+returns c = λ e. record { has-end = omega arith; from-start = c .before .before .if2 .taken; below-end = c .if3 .taken }
 
 returns-2 : tie.Need-returns-2
 returns-2 c = impossible
@@ -39,13 +21,5 @@ pub in-segment-spec : {M : Type 1} → statement M
 in-segment-spec =
     tie.close
     (tie.spec
-    sub-last
-    mul-if2
-    shared-slice-read-if2
-    add-if3
-    mul-if3
-    shared-slice-read-if3
-    returns
-    returns-2
-    returns-3
-    returns-4)
+    (λ c. search needs) (λ c. search needs) (λ c. search needs) (λ c. search needs) (λ c. search needs) (λ c. search needs) returns
+    returns-2 returns-3 returns-4)

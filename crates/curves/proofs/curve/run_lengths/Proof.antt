@@ -1,8 +1,10 @@
 -- `curve::run_lengths` meets its contract. Before each turn k lengths are written, and `total` is the length run up to the point k. Assumes nothing.
 use mathlib.Core.Path.{_≡_, refl, ap, _∙_}
+use mathlib.Core.List.{List}
 use Prim.Native.Nat.{ℕ, _+_, _-_, _/_, _<_}
 use native.Mathlib.Omega.{arith}
 use lib.ListN.{length, length-set}
+use lib.Ieee.{Float}
 use denote.Ref.{now}
 use Rattle.base.specs.Buffers.{tabulate, splice}
 use Rattle.curves.specs.Curve.{length-to, cumulative-of}
@@ -12,92 +14,68 @@ use borrow.Author.Needs.{needs}
 use Rattle.curves.proofs.curve.run_lengths.Statement.{statement}
 use Rattle.curves.proofs.curve.run_lengths.Tie as tie
 
+record RunTo (points cumulative₀ : List Float) (n : ℕ) (cumulative : List Float) (k : ℕ) (total : Float) : Type 0 where
+  pub below : k < n
+  pub same-length : length cumulative ≡ length cumulative₀
+  pub run : total ≡ length-to points k
+  pub written : cumulative ≡ splice cumulative₀ 0 (tabulate (length-to points) 0 k)
+
 abbrev Inv-loop : tie.InvT-loop
-Inv-loop points cumulative₀ n k₀ total₀ cumulative k total = (k < n) × (length cumulative ≡ length cumulative₀) × (total ≡ length-to points k) × (cumulative ≡ splice cumulative₀ 0 (tabulate (length-to points) 0 k))
+Inv-loop points cumulative₀ n k₀ total₀ cumulative k total = RunTo points cumulative₀ n cumulative k total
 
 abbrev μ-loop : tie.MeasureT-loop
 μ-loop points cumulative₀ n k₀ total₀ cumulative k total = n - k
 
+-- ---- the places that needs look back to, and the ways from one to an earlier one; `search` goes by the types
+
+abbrev Entry : Type 0
+Entry = tie.Start Inv-loop μ-loop
+
+abbrev Turn : Type 0
+Turn = tie.At-loop Inv-loop μ-loop
+
+abbrev entry-before-turn : Turn → Entry
+entry-before-turn turn = turn .before .before .before
+
 loop-holds : tie.Need-loop-holds Inv-loop μ-loop
 unfolding length-to
-loop-holds c = (omega arith, refl, refl, refl)
-
-add-loop : tie.Need-add-loop Inv-loop μ-loop
-add-loop c = omega arith
-
-mul-cumulative : tie.Need-mul-cumulative Inv-loop μ-loop
-mul-cumulative c = omega arith
-
-slice-write-cumulative : tie.Need-slice-write-cumulative Inv-loop μ-loop
-slice-write-cumulative c = omega arith
-
-point-at-requires : tie.Need-point-at-requires Inv-loop μ-loop
-point-at-requires c κs = search needs
-
-add-point-at : tie.Need-add-point-at Inv-loop μ-loop
-add-point-at c = omega arith
-
-point-at-requires-2 : tie.Need-point-at-requires-2 Inv-loop μ-loop
-point-at-requires-2 c κs = search needs
-
-distance-requires : tie.Need-distance-requires Inv-loop μ-loop
-distance-requires c κs = search needs
-
-add-k : tie.Need-add-k Inv-loop μ-loop
-add-k c = omega arith
-
-loop-less : tie.Need-loop-less Inv-loop μ-loop
-loop-less c = omega arith
+loop-holds c = record { below = omega arith; same-length = refl; run = refl; written = refl }
 
 loop-again : tie.Need-loop-again Inv-loop μ-loop
 loop-again c =
-    let l = c .before .before .before .before .loop in
-    let a = c .before .before .before .before .before .before .before .args in (
-      omega arith,
-      simp length-set (omega arith),
-      length-more (now (a .points)) _ _ _ _ _ (l .inv .2) (c .before .before .point-at .ensures) (c .before .point-at2 .ensures) (c .distance .ensures),
-      fill-step (now (a .cumulative)) 0 (length-to (now (a .points))) (l .cumulative) (l .k) (l .k) (l .total) (l .inv .3) (omega arith) (omega arith) (l .inv .2),
-    )
-
-mul-cumulative-2 : tie.Need-mul-cumulative-2 Inv-loop μ-loop
-mul-cumulative-2 c = omega arith
-
-slice-write-cumulative-2 : tie.Need-slice-write-cumulative-2 Inv-loop μ-loop
-slice-write-cumulative-2 c = omega arith
+    let turn : Turn = search in
+    let entry = entry-before-turn turn in
+    let l = turn .loop in
+    let a = entry .args in
+    record {
+      below = omega arith;
+      same-length = simp length-set (omega arith);
+      run = length-more (now (a .points)) _ (l .inv .run) (c .before .before .point-at .ensures) (c .before .point-at2 .ensures) (c .distance .ensures);
+      written = fill-step (now (a .cumulative)) 0 (length-to (now (a .points))) (l .cumulative) (l .k) (l .k) (l .total) (l .inv .written)
+          (omega arith) (omega arith) (l .inv .run);
+    }
 
 same-length : tie.Need-same-length Inv-loop μ-loop
-same-length c = simp length-set (c .before .loop .inv .1)
+same-length c = simp length-set (c .before .loop .inv .same-length)
 
 returns : tie.Need-returns Inv-loop μ-loop
 unfolding cumulative-of
 returns c =
+    let entry : Entry = search in
     let l = c .before .loop in
-    let a = c .before .before .before .before .args in
+    let a = entry .args in
     let f = length-to (now (a .points)) in
     let e : l .k ≡ length (now (a .points)) / 2 - 1 = omega arith in
     let e' : l .k + 1 ≡ length (now (a .points)) / 2 = omega arith in (
-      l .inv .2 ∙ ap f e,
-      fill-step (now (a .cumulative)) 0 f (l .cumulative) (l .k) (l .k) (l .total) (l .inv .3) (omega arith) (omega arith) (l .inv .2) ∙ ap (λ (k : ℕ). splice (now (a .cumulative)) 0 (tabulate f 0 k)) e',
+      l .inv .run ∙ ap f e,
+      fill-step (now (a .cumulative)) 0 f (l .cumulative) (l .k) (l .k) (l .total) (l .inv .written) (omega arith) (omega arith) (l .inv .run)
+          ∙ ap (λ (k : ℕ). splice (now (a .cumulative)) 0 (tabulate f 0 k)) e',
     )
 
 pub run-lengths-spec : {M : Type 1} → statement M
 run-lengths-spec =
     tie.close
     (tie.spec
-    Inv-loop
-    μ-loop
-    loop-holds
-    add-loop
-    mul-cumulative
-    slice-write-cumulative
-    point-at-requires
-    add-point-at
-    point-at-requires-2
-    distance-requires
-    add-k
-    loop-less
-    loop-again
-    mul-cumulative-2
-    slice-write-cumulative-2
-    same-length
-    returns)
+    Inv-loop μ-loop loop-holds (λ c. omega arith) (λ c. omega arith) (λ c. omega arith) (λ c κs. search needs) (λ c. omega arith)
+    (λ c κs. search needs) (λ c κs. search needs) (λ c. omega arith) (λ c. omega arith) loop-again (λ c. omega arith) (λ c. omega arith)
+    same-length returns)

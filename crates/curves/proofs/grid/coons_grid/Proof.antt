@@ -1,70 +1,69 @@
 -- `grid::coons_grid` meets its contract. Assumes nothing.
-use Prim.Native.Nat.{_-_}
 use native.Mathlib.Omega.{arith}
-use denote.Ref.{now}
-use lib.ListN.{length}
-use Rattle.curves.specs.Curve.{curve}
-use Rattle.curves.specs.Boundary.{boundary}
-use Rattle.curves.specs.Grid.{Grid, seams, grid-of}
-use Rattle.curves.proofs.grid.Filled.{laid-filled}
+use Rattle.curves.proofs.grid.Filled.{gridded}
 use borrow.Author.Needs.{needs}
 use Rattle.curves.proofs.grid.coons_grid.Statement.{statement}
 use Rattle.curves.proofs.grid.coons_grid.Tie as tie
 
-are-upright-requires : tie.Need-are-upright-requires
-are-upright-requires c κs = search needs
+-- ---- the places that needs look back to, and the ways from one to an earlier one; `search` goes by the types
+
+abbrev columns-before-rows : tie.After-grid-rows → tie.After-fill-columns
+columns-before-rows c = search
+
+abbrev entry-before-columns : tie.After-fill-columns → tie.Start
+entry-before-columns c = search
+
+abbrev entry : tie.After-grid-rows → tie.Start
+entry c = entry-before-columns (columns-before-rows c)
 
 fill-columns-requires : tie.Need-fill-columns-requires
-fill-columns-requires c κs = (c .before .before .before .before .before .before .before .before .before .before .before .before .before .before .before .before .before .before .before .pre .0, (omega (arith, c .before .before .before .before .before .before .before .before .before .before .before .before .before .before .before .before .before .before .before .pre .1 .1 .1 .0), c .before .before .before .before .before .before .before .before .before .before .before .before .before .before .before .before .before .before .before .pre .1 .1 .1 .1 .0 .0))
+fill-columns-requires c κs =
+    let start : tie.Start = search in
+    let given = start .pre in
+    record {
+      bottom-sampled = given .curves .curves .bottom;
+      top-sampled = given .curves .curves .top;
+      short = given .paired .u .short;
+      room = given .workspace .columns;
+    }
 
 grid-rows-requires : tie.Need-grid-rows-requires
 grid-rows-requires c κs =
-    let p = c .before .before .before .before .before .before .before .before .before .before .before .before .before .before .before .before .before .before .before .before .before .before .before .before .before .before .before .pre in
-    (p .0, (p .1 .0, (c .before .before .before .before .before .before .before .fill-columns .ensures, (c .before .before .before .before .before .before .before .before .before .before .are-upright .ensures, (p .1 .1 .0, (p .1 .1 .1 .0, ((p .1 .1 .1 .1 .0 .1, p .1 .1 .1 .1 .0 .2), p .1 .1 .1 .1 .1)))))))
+    let at-columns : tie.After-fill-columns = search in
+    let given = entry-before-columns at-columns .pre in
+    record {
+      curves = given .curves;
+      level = record { columns = at-columns .fill-columns .ensures; lines = at-columns .before .before .before .are-upright .ensures };
+      paired = given .paired;
+      rows = given .workspace .rows;
+      room = given .room;
+    }
 
 sub-n : tie.Need-sub-n
-sub-n c = omega (arith, c .before .before .before .before .before .before .before .before .before .before .before .before .before .before .before .before .before .before .before .before .before .before .before .before .before .before .before .before .before .before .before .before .before .before .pre .1 .1 .1 .0)
+sub-n c =
+    let at-rows : tie.After-grid-rows = search in
+    omega (arith, entry at-rows .pre .paired)
 
 sub-m : tie.Need-sub-m
-sub-m c = omega (arith, c .before .before .before .before .before .before .before .before .before .before .before .before .before .before .before .before .before .before .before .before .before .before .before .before .before .before .before .before .before .before .before .before .before .before .pre .1 .1 .1 .0)
+sub-m c =
+    let at-rows : tie.After-grid-rows = search in
+    omega (arith, entry at-rows .pre .paired)
 
 clear-refused-requires : tie.Need-clear-refused-requires
 clear-refused-requires c κs =
-    let p = c .before .before .before .before .before .before .before .before .before .before .before .before .before .before .before .before .before .before .before .before .before .before .before .before .before .before .before .before .before .before .before .before .before .before .before .pre in
-    (omega (arith, p .1 .1 .1 .0), omega (arith, p .1 .1 .1 .0), omega (arith, p .1 .1 .1 .1 .1, c .before .before .before .before .before .before .before .grid-rows .kept .1 .1 .1 .1 .1 .1 .1 .1 .1 .1 .1 .1 .1 .1 .1 .1 .1 .1 .1 .1 .0))
-
-same-length : tie.Need-same-length
-same-length c = search needs
-
-same-length-2 : tie.Need-same-length-2
-same-length-2 c = search needs
-
-same-length-3 : tie.Need-same-length-3
-same-length-3 c = search needs
-
-same-length-4 : tie.Need-same-length-4
-same-length-4 c = search needs
+    let at-rows : tie.After-grid-rows = search in
+    let given = entry at-rows .pre in
+    let same-out = at-rows .grid-rows .kept .1 .1 .1 .1 .1 .1 .1 .1 .1 .1 .1 .1 .1 .1 .1 .1 .1 .1 .1 .1 .0 in
+    record { columns = omega (arith, given .paired); rows = omega (arith, given .paired); room = omega (arith, given .room, same-out) }
 
 returns : tie.Need-returns
 returns c =
-    let s = (c .before .before .before .before .before .before .before .before .before .before .before .before .before .before .before .before .before .before .before .before .before .before .before .before .before .before .before .before .before .before .before .before .before .before .before .before .before .before) in
-    let a = s .args in
-    let f : Grid = grid-of (boundary (curve (now (a .bottom)) (now (a .lengths0))) (curve (now (a .right)) (now (a .lengths1))) (curve (now (a .top)) (now (a .lengths2))) (curve (now (a .left)) (now (a .lengths3)))) (seams (now (a .bottom-u)) (now (a .top-u)) (now (a .left-v)) (now (a .right-v))) in
-    let g = c .before .before .before .before .before .before .before .before .before .before .grid-rows .ensures in
-    (g .0, laid-filled f (length (now (a .bottom-u)) - 1) (length (now (a .left-v)) - 1) (a .layout) (now (a .out)) _ _ _ (g .0) (g .1) (s .pre .1 .1 .1 .1 .1) (c .before .before .clear-refused .ensures))
+    let at-rows : tie.After-grid-rows = search in
+    gridded _ (at-rows .grid-rows .ensures) (entry at-rows .pre .room) (c .before .before .clear-refused .ensures)
 
 pub coons-grid-spec : {M : Type 1} → statement M
 coons-grid-spec =
     tie.close
     (tie.spec
-    are-upright-requires
-    fill-columns-requires
-    grid-rows-requires
-    sub-n
-    sub-m
-    clear-refused-requires
-    same-length
-    same-length-2
-    same-length-3
-    same-length-4
-    returns)
+    (λ c κs. search needs) fill-columns-requires grid-rows-requires sub-n sub-m clear-refused-requires (λ c. search needs)
+    (λ c. search needs) (λ c. search needs) (λ c. search needs) returns)

@@ -12,31 +12,23 @@ use Rattle.curves.proofs.lay.Laws.{breaks-by}
 use Rattle.curves.proofs.lay.check_breaks.Statement.{statement}
 use Rattle.curves.proofs.lay.check_breaks.Tie as tie
 
-side-requires : tie.Need-side-requires
-side-requires c κs = search needs
-
-add-if1 : tie.Need-add-if1
-add-if1 c = search needs
-
 returns : tie.Need-returns
 unfolding outcome verdict-of
 returns c =
-    let a = c .before .before .before .before .args in
-    let es = now (c .before .side .result) in
-    breaks-by (now (a .region)) (now (a .breaks)) (a .k) es false (c .before .side .ensures) (ne-eqb (length (now (a .breaks))) (suc (length es)) (λ e. c .if1 .taken (e ∙ sym (add-one (length es)))))
+    let entry : tie.Start = search in
+    let a = entry .args in
+    let edges = length (now (c .before .side .result)) in
+    let other = ne-eqb (length (now (a .breaks))) (suc edges) (λ e. c .if1 .taken (e ∙ sym (add-one edges))) in
+    breaks-by (now (a .region)) (now (a .breaks)) (a .k) false (c .before .side .ensures) other
 
 returns-2 : tie.Need-returns-2
 unfolding outcome
 returns-2 c =
-    let a = c .before .before .before .before .args in
-    let es = now (c .before .side .result) in
-    breaks-by (now (a .region)) (now (a .breaks)) (a .k) es true (c .before .side .ensures) (eq-eqb (length (now (a .breaks))) (suc (length es)) (c .if1 .left ∙ add-one (length es)))
+    let entry : tie.Start = search in
+    let a = entry .args in
+    let edges = length (now (c .before .side .result)) in
+    let same = eq-eqb (length (now (a .breaks))) (suc edges) (c .if1 .left ∙ add-one edges) in
+    breaks-by (now (a .region)) (now (a .breaks)) (a .k) true (c .before .side .ensures) same
 
 pub check-breaks-spec : {M : Type 1} → statement M
-check-breaks-spec =
-    tie.close
-    (tie.spec
-    side-requires
-    add-if1
-    returns
-    returns-2)
+check-breaks-spec = tie.close (tie.spec (λ c κs. search needs) (λ c. search needs) returns returns-2)

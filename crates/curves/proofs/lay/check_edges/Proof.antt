@@ -1,6 +1,7 @@
--- `lay::check_edges` meets its contract. The loop's invariant: the edges passed are in range. Assumes nothing.
+-- `lay::check_edges` meets its contract. Before each turn the test of all edges is that of the edges from i on. Assumes nothing.
 use mathlib.Core.Path.{_≡_, refl, _∙_}
 use mathlib.Core.Bool.{true, false}
+use mathlib.Core.List.{List}
 use Prim.Native.Nat.{ℕ, _-_}
 use native.Mathlib.Omega.{arith}
 use denote.Ref.{now}
@@ -21,17 +22,19 @@ Inv-loop region n k edges i₀ i = all (λ (e : ℕ). ltb e n) edges ≡ all (λ
 abbrev μ-loop : tie.MeasureT-loop
 μ-loop region n k edges i₀ i = length edges - i
 
-side-requires : tie.Need-side-requires Inv-loop μ-loop
-side-requires c κs = search needs
+-- ---- the place before each turn, and those before it
 
-loop-holds : tie.Need-loop-holds Inv-loop μ-loop
-loop-holds c = refl
+abbrev Turn : Type 0
+Turn = tie.At-loop Inv-loop μ-loop
 
-mul-e : tie.Need-mul-e Inv-loop μ-loop
-mul-e c = omega arith
+abbrev at-side : Turn → tie.After-side Inv-loop μ-loop
+at-side c = c .before
 
-shared-slice-read-e : tie.Need-shared-slice-read-e Inv-loop μ-loop
-shared-slice-read-e c = omega arith
+abbrev entry : Turn → tie.Start Inv-loop μ-loop
+entry c = at-side c .before .before
+
+abbrev edges : Turn → List ℕ
+edges c = now (at-side c .side .result)
 
 cast-e : tie.Need-cast-e Inv-loop μ-loop
 cast-e c = omega (arith, c .shared-slice-known2 .given (c .before .before .loop .i))
@@ -39,44 +42,31 @@ cast-e c = omega (arith, c .shared-slice-known2 .given (c .before .before .loop 
 returns : tie.Need-returns Inv-loop μ-loop
 unfolding outcome verdict-of
 returns c =
-    let a = c .before .before .before .before .before .before .args in
-    let es = now (c .before .before .before .before .side .result) in
-    let i = c .before .before .before .loop .i in
-    edges-by (now (a .region)) (a .n) (a .k) es false (c .before .before .before .before .side .ensures) (c .before .before .before .loop .inv ∙ all-here es 0 i (λ (e : ℕ). ltb e (a .n)) (c .before .before .loop-test .taken) (le-ltb (getD es i 0) (a .n) (c .if1 .taken)))
-
-add-i : tie.Need-add-i Inv-loop μ-loop
-add-i c = omega arith
-
-loop-less : tie.Need-loop-less Inv-loop μ-loop
-loop-less c = omega arith
+    let turn = c .before .before .before in
+    let a = entry turn .args in
+    let i = turn .loop .i in
+    let large = le-ltb (getD (edges turn) i 0) (a .n) (c .if1 .taken) in
+    edges-by (now (a .region)) (a .n) (a .k) false (at-side turn .side .ensures)
+    (turn .loop .inv ∙ all-here (edges turn) 0 i (λ (e : ℕ). ltb e (a .n)) (c .before .before .loop-test .taken) large)
 
 loop-again : tie.Need-loop-again Inv-loop μ-loop
 loop-again c =
-    let a = c .before .before .before .before .before .before .args in
-    let es = now (c .before .before .before .before .side .result) in
-    let i = c .before .before .before .loop .i in
-    c .before .before .before .loop .inv ∙ all-next es 0 i (λ (e : ℕ). ltb e (a .n)) (c .before .before .loop-test .taken) (lt-ltb (getD es i 0) (a .n) (c .if1 .left))
+    let turn = c .before .before .before in
+    let n = entry turn .args .n in
+    let i = turn .loop .i in
+    turn .loop .inv ∙ all-next (edges turn) 0 i (λ (e : ℕ). ltb e n) (c .before .before .loop-test .taken) (lt-ltb (getD (edges turn) i 0) n (c .if1 .left))
 
 returns-2 : tie.Need-returns-2 Inv-loop μ-loop
 unfolding outcome
 returns-2 c =
-    let a = c .before .before .before .before .args in
-    let es = now (c .before .before .side .result) in
-    edges-by (now (a .region)) (a .n) (a .k) es true (c .before .before .side .ensures) (c .before .loop .inv ∙ all-end es 0 (c .before .loop .i) (λ (e : ℕ). ltb e (a .n)) (c .loop-test .left))
+    let turn = c .before in
+    let a = entry turn .args in
+    edges-by (now (a .region)) (a .n) (a .k) true (at-side turn .side .ensures)
+    (turn .loop .inv ∙ all-end (edges turn) 0 (turn .loop .i) (λ (e : ℕ). ltb e (a .n)) (c .loop-test .left))
 
 pub check-edges-spec : {M : Type 1} → statement M
 check-edges-spec =
     tie.close
     (tie.spec
-    Inv-loop
-    μ-loop
-    side-requires
-    loop-holds
-    mul-e
-    shared-slice-read-e
-    cast-e
-    returns
-    add-i
-    loop-less
-    loop-again
-    returns-2)
+    Inv-loop μ-loop (λ c κs. search needs) (λ c. refl) (λ c. omega arith) (λ c. omega arith) cast-e returns (λ c. omega arith)
+    (λ c. omega arith) loop-again returns-2)

@@ -17,18 +17,10 @@ returns c =
     let l = now (c .before .before .args .region) in
     record-by l (c .before .before .args .n) false (ne-eqb (length l) (record-size places) (c .if1 .taken))
 
-check-limits-requires : tie.Need-check-limits-requires
-check-limits-requires c κs = search needs
-
 returns-2 : tie.Need-returns-2
 returns-2 c =
     let l = now (c .before .before .before .args .region) in
     c .check-limits .ensures ∙ record-by l (c .before .before .before .args .n) true (eq-eqb (length l) (record-size places) (c .before .if1 .left))
 
 pub check-record-spec : {M : Type 1} → statement M
-check-record-spec =
-    tie.close
-    (tie.spec
-    returns
-    check-limits-requires
-    returns-2)
+check-record-spec = tie.close (tie.spec returns (λ c κs. search needs) returns-2)

@@ -1,10 +1,11 @@
 -- `lay::lay_side` meets its contract: a seam has one value more than its side adds up to. Assumes nothing.
 use mathlib.Core.Path.{_≡_, sym, ap, subst, _∙_}
 use mathlib.Core.List.{List}
-use Prim.Native.Nat.{ℕ, _≤_}
+use Prim.Native.Nat.{ℕ, suc, _≤_}
 use native.Mathlib.Omega.{arith}
 use denote.Ref.{now}
 use lib.Dec.{T, ltb}
+use lib.Ieee.{Float}
 use lib.ListN.{length, take}
 use lib.Seq.{length-take-le}
 use borrow.Author.Needs.{needs}
@@ -12,83 +13,120 @@ use Rattle.base.specs.Lists.{all}
 use Rattle.regions.specs.Region.{places, side, side-sum}
 use Rattle.base.specs.Buffers.{splice}
 use Rattle.curves.specs.Seam.{side-seam}
-use Rattle.curves.specs.Lay.{counts-along}
+use Rattle.curves.specs.Lay.{counts-along, seam-of}
 use Rattle.base.proofs.BufferLaws.{take-splice}
-use Rattle.curves.proofs.lay.Laws.{length-seam, seam-is, length-along, along-part, edges-known, breaks-known}
+use Rattle.curves.proofs.lay.Laws.{length-seam, seam-is, length-along, along-front, edges-known, breaks-known}
 use Rattle.curves.proofs.lay.lay_side.Statement.{statement}
 use Rattle.curves.proofs.lay.lay_side.Tie as tie
 
-side-requires : tie.Need-side-requires
-side-requires c κs = search needs
+-- ---- the places that needs look back to: the counts are written, and before that the side is read
 
-slice-aggregate-counts-along : tie.Need-slice-aggregate-counts-along
-slice-aggregate-counts-along c = search needs
+abbrev Counts : Type 0
+Counts = tie.After-counts-along
+
+abbrev at-side : Counts → tie.After-side
+at-side c = c .before .before
+
+abbrev entry : tie.After-side → tie.Start
+entry c = search
+
+-- ---- what is known of the side
+
+abbrev edges : tie.After-side → List ℕ
+edges c = now (c .side .result)
+
+-- its edges by the definition, and its seam
+abbrev side-edges : tie.Start → List ℕ
+side-edges c = side places (now (c .args .region)) (c .args .k)
+
+abbrev seam : tie.Start → List Float
+seam c = seam-of (now (c .args .region)) (now (c .args .counts)) (c .args .k) (now (c .args .breaks))
+
+few : (c : tie.After-side) → length (edges c) ≤ places
+few c = subst (λ (l : List ℕ). length l ≤ places) (sym (c .side .ensures)) (entry c .pre .passed .few)
+
+-- ---- and of its counts
+
+abbrev counts : Counts → List ℕ
+counts c = now (entry (at-side c) .args .counts)
+
+total-is : (c : Counts) → suc (c .counts-along .result) ≡ length (seam (entry (at-side c)))
+total-is c =
+    let a = entry (at-side c) .args in
+    ap suc (c .counts-along .ensures .sum ∙ ap (side-sum (counts c)) (at-side c .side .ensures))
+    ∙ sym (length-seam (now (a .region)) (counts c) (a .k) (now (a .breaks)))
+
+-- those that are lent on, from the front of their buffer
+abbrev counts-lent : Counts → List ℕ
+counts-lent c = take (length (edges (at-side c))) (c .counts-along .last .1 .1 .0)
+
+along : (c : Counts) → counts-lent c ≡ counts-along (counts c) (side-edges (entry (at-side c)))
+along c = along-front (c .counts-along .ensures) ∙ ap (counts-along (counts c)) (at-side c .side .ensures)
+
+room : (c : Counts) → length (edges (at-side c)) ≤ length (c .counts-along .last .1 .1 .0)
+room c = omega (arith, c .counts-along .kept .1 .1 .0, few (at-side c))
+
+seam-by : (c : Counts) → side-seam (now (entry (at-side c) .args .breaks)) (counts-lent c) ≡ seam (entry (at-side c))
+seam-by c = let a = entry (at-side c) .args in seam-is (now (a .region)) (counts c) (a .k) (now (a .breaks)) (along c)
+
+-- ---- the counts
 
 counts-along-requires : tie.Need-counts-along-requires
 counts-along-requires c κs =
-    let s = (c .before .before .before .before .before .before) in
-    let e = sym (c .before .side .ensures) in
-    let short = subst (λ (l : List ℕ). length l ≤ places) e (s .pre .0) in
-    (short, (short, subst (λ (l : List ℕ). T (all (λ (x : ℕ). ltb x (length (now (s .args .counts)))) l)) e (edges-known (now (s .args .region)) (length (now (s .args .counts))) (s .args .k) (s .pre .1 .0))))
+    let here = c .before in
+    let start = entry here in
+    let a = start .args in
+    let known = edges-known (now (a .region)) (length (now (a .counts))) (a .k) (start .pre .passed .edges-known) in
+    record {
+      few = few here;
+      counted = subst (λ (l : List ℕ). T (all (λ (x : ℕ). ltb x (length (now (a .counts)))) l)) (sym (here .side .ensures)) known;
+      room = few here;
+    }
+
+-- ---- the seam is too long
 
 add-result : tie.Need-add-result
-add-result c = omega (arith, c .before .before .counts-along .ensures .1 .0)
+add-result c = omega (arith, c .before .before .counts-along .ensures .small)
 
 returns : tie.Need-returns
 returns c =
-    let a = c .before .before .before .before .before .before .before .before .before .args in
-    let q = length-seam (now (a .region)) (now (a .counts)) (a .k) (now (a .breaks)) in
-    let w : c .before .before .counts-along .result ≡ side-sum (now (a .counts)) (side places (now (a .region)) (a .k)) = c .before .before .counts-along .ensures .0 ∙ ap (side-sum (now (a .counts))) (c .before .before .before .before .side .ensures) in
-    (omega (arith, q, w), λ h. absurd (omega (arith, c .if1 .taken, h)))
+    let e = total-is (c .before .before) in
+    record { long = omega (arith, e); written = λ h. absurd (omega (arith, c .if1 .taken, h)) }
+
+-- ---- it is written
 
 array-share-prefix-along : tie.Need-array-share-prefix-along
-array-share-prefix-along c =
-    let s = (c .before .before .before .before .before .before .before .before .before) in
-    let short = subst (λ (l : List ℕ). length l ≤ places) (sym (c .before .before .before .before .side .ensures)) (s .pre .0) in
-    omega (arith, c .before .before .counts-along .kept .1 .1 .0, short)
+array-share-prefix-along c = room (c .before .before)
 
 slice-aggregate-side-seam : tie.Need-slice-aggregate-side-seam
-slice-aggregate-side-seam c =
-    let s = (c .before .before .before .before .before .before .before .before .before .before) in
-    let short = subst (λ (l : List ℕ). length l ≤ places) (sym (c .before .before .before .before .before .side .ensures)) (s .pre .0) in
-    sym (length-take-le (length (now (c .before .before .before .before .before .side .result))) (c .before .before .before .counts-along .last .1 .1 .0) (omega (arith, c .before .before .before .counts-along .kept .1 .1 .0, short)))
+slice-aggregate-side-seam c = sym (length-take-le _ _ (room (c .before .before .before)))
 
 side-seam-requires : tie.Need-side-seam-requires
 side-seam-requires c κs =
-    let s = (c .before .before .before .before .before .before .before .before .before .before .before) in
-    let ns = now (s .args .counts) in
-    let e = c .before .before .before .before .before .before .side .ensures in
-    let p : take (length (now (c .before .before .before .before .before .before .side .result))) (c .before .before .before .before .counts-along .last .1 .1 .0) ≡ counts-along ns (side places (now (s .args .region)) (s .args .k)) = along-part ns (now (c .before .before .before .before .before .before .side .result)) _ _ (c .before .before .before .before .counts-along .ensures .1 .1) ∙ ap (counts-along ns) e in
-    let n = ap length p ∙ length-along ns (side places (now (s .args .region)) (s .args .k)) in
-    let b = breaks-known (now (s .args .region)) (now (s .args .breaks)) (s .args .k) (s .pre .1 .1 .0) in
-    let q = length-seam (now (s .args .region)) ns (s .args .k) (now (s .args .breaks)) in
-    let w : c .before .before .before .before .counts-along .result ≡ side-sum ns (side places (now (s .args .region)) (s .args .k)) = c .before .before .before .before .counts-along .ensures .0 ∙ ap (side-sum ns) e in
-    let z = ap length (seam-is (now (s .args .region)) ns (s .args .k) (now (s .args .breaks)) _ p) in
-    (omega (arith, n, b), omega (arith, z, q, w, s .pre .1 .1 .1, c .before .before .if1 .left))
-
-same-length : tie.Need-same-length
-same-length c = search needs
+    let here : Counts = search in
+    let start = entry (at-side here) in
+    let given = start .pre in
+    let a = start .args in
+    let few-counts = ap length (along here) ∙ length-along (counts here) (side-edges start) in
+    let breaks = breaks-known (now (a .region)) (now (a .breaks)) (a .k) (given .passed .breaks-fit) in
+    let long = ap length (seam-by here) in
+    record { breaks-more = omega (arith, few-counts, breaks); room = omega (arith, long, total-is here, given .room, c .before .before .if1 .left) }
 
 returns-2 : tie.Need-returns-2
 returns-2 c =
-    let s = (c .before .before .before .before .before .before .before .before .before .before .before .before .before .before) in
-    let ns = now (s .args .counts) in
-    let p : take (length (now (c .before .before .before .before .before .before .before .before .before .side .result))) (c .before .before .before .before .before .before .before .counts-along .last .1 .1 .0) ≡ counts-along ns (side places (now (s .args .region)) (s .args .k)) = along-part ns (now (c .before .before .before .before .before .before .before .before .before .side .result)) _ _ (c .before .before .before .before .before .before .before .counts-along .ensures .1 .1) ∙ ap (counts-along ns) (c .before .before .before .before .before .before .before .before .before .side .ensures) in
-    let z = seam-is (now (s .args .region)) ns (s .args .k) (now (s .args .breaks)) _ p in
-    let n = c .before .before .side-seam .ensures .0 ∙ ap length z in
-    (n, λ h. ap (take (c .before .before .side-seam .result)) (c .before .before .side-seam .ensures .1 ∙ ap (splice (now (s .args .out)) 0) z) ∙ take-splice (now (s .args .out)) _ (c .before .before .side-seam .result) (sym n))
+    let made = c .before .before .side-seam in
+    let here : Counts = search in
+    let start = entry (at-side here) in
+    let long = made .ensures .0 ∙ ap length (seam-by here) in
+    record {
+      long = long;
+      written = λ h. ap (take (made .result)) (made .ensures .1 ∙ ap (splice (now (start .args .out)) 0) (seam-by here))
+          ∙ take-splice (now (start .args .out)) _ (made .result) (sym long);
+    }
 
 pub lay-side-spec : {M : Type 1} → statement M
 lay-side-spec =
     tie.close
     (tie.spec
-    side-requires
-    slice-aggregate-counts-along
-    counts-along-requires
-    add-result
-    returns
-    array-share-prefix-along
-    slice-aggregate-side-seam
-    side-seam-requires
-    same-length
-    returns-2)
+    (λ c κs. search needs) (λ c. search needs) counts-along-requires add-result returns array-share-prefix-along slice-aggregate-side-seam
+    side-seam-requires (λ c. search needs) returns-2)

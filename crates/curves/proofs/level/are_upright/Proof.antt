@@ -15,38 +15,35 @@ Inv-loop bottom top i₀ i = (i ≤ length bottom) × UprightTo bottom top i
 abbrev μ-loop : tie.MeasureT-loop
 μ-loop bottom top i₀ i = length bottom - i
 
+-- ---- the places that needs look back to, and the ways from one to an earlier one; `search` goes by the types
+
+abbrev Entry : Type 0
+Entry = tie.Start Inv-loop μ-loop
+
+abbrev Turn : Type 0
+Turn = tie.At-loop Inv-loop μ-loop
+
+abbrev entry-before-turn : Turn → Entry
+entry-before-turn turn = turn .before .before .before
+
 loop-holds : tie.Need-loop-holds Inv-loop μ-loop
 loop-holds c = (omega arith, upright-none (c .before .before .args .bottom .now) (c .before .before .args .top .now))
 
-mul-a : tie.Need-mul-a Inv-loop μ-loop
-mul-a c = omega arith
-
-shared-slice-read-a : tie.Need-shared-slice-read-a Inv-loop μ-loop
-shared-slice-read-a c = omega arith
-
-mul-b : tie.Need-mul-b Inv-loop μ-loop
-mul-b c = omega arith
-
 shared-slice-read-b : tie.Need-shared-slice-read-b Inv-loop μ-loop
-shared-slice-read-b c = omega (arith, c .before .before .before .before .before .before .pre)
-
-is-straight-requires : tie.Need-is-straight-requires Inv-loop μ-loop
-is-straight-requires c κs = search needs
+shared-slice-read-b c =
+    let entry : Entry = search in
+    omega (arith, entry .pre)
 
 returns : tie.Need-returns Inv-loop μ-loop
 returns c = impossible
 
-add-i : tie.Need-add-i Inv-loop μ-loop
-add-i c = omega arith
-
-loop-less : tie.Need-loop-less Inv-loop μ-loop
-loop-less c = omega arith
-
 loop-again : tie.Need-loop-again Inv-loop μ-loop
-loop-again c = (
-  omega arith,
-  upright-more (c .before .before .before .before .before .before .before .before .args .bottom .now) (c .before .before .before .before .before .before .before .before .args .top .now) _ (c .before .before .before .before .before .loop .inv .1) (c .before .is-straight .ensures (not-false _ (c .if1 .left))),
-)
+loop-again c =
+    let turn : Turn = search in
+    let entry = entry-before-turn turn in (
+      omega arith,
+      upright-more (entry .args .bottom .now) (entry .args .top .now) _ (turn .loop .inv .1) (c .before .is-straight .ensures (not-false _ (c .if1 .left))),
+    )
 
 returns-2 : tie.Need-returns-2 Inv-loop μ-loop
 returns-2 c = λ e i h. c .before .loop .inv .1 i (omega (arith, c .loop-test .left, h))
@@ -55,16 +52,5 @@ pub are-upright-spec : {M : Type 1} → statement M
 are-upright-spec =
     tie.close
     (tie.spec
-    Inv-loop
-    μ-loop
-    loop-holds
-    mul-a
-    shared-slice-read-a
-    mul-b
-    shared-slice-read-b
-    is-straight-requires
-    returns
-    add-i
-    loop-less
-    loop-again
-    returns-2)
+    Inv-loop μ-loop loop-holds (λ c. omega arith) (λ c. omega arith) (λ c. omega arith) shared-slice-read-b (λ c κs. search needs) returns
+    (λ c. omega arith) (λ c. omega arith) loop-again returns-2)

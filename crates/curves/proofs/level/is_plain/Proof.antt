@@ -7,23 +7,18 @@ use borrow.Author.Needs.{needs}
 use Rattle.curves.proofs.level.is_plain.Statement.{statement}
 use Rattle.curves.proofs.level.is_plain.Tie as tie
 
-in-unit-requires : tie.Need-in-unit-requires
-in-unit-requires c κs = search needs
-
-clamp-unit-requires : tie.Need-clamp-unit-requires
-clamp-unit-requires c κs = search needs
-
-same-bits-requires : tie.Need-same-bits-requires
-same-bits-requires c κs = search needs
-
 float-to-bits-result : tie.Need-float-to-bits-result
-float-to-bits-result c = known _ (sym (c .before .before .before .before .in-unit .ensures) ∙ c .before .before .before .if1 .taken)
+float-to-bits-result c =
+    let at-in-unit : tie.After-in-unit = search in
+    known _ (sym (at-in-unit .in-unit .ensures) ∙ c .before .before .before .if1 .taken)
 
 returns : tie.Need-returns
 returns c =
-    plain-by (c .before .before .before .before .before .args .x)
-    (passes _ (c .before .before .before .before .before .good .0 .1))
-    (sym (c .before .before .before .before .in-unit .ensures) ∙ c .before .before .before .if1 .taken)
+    let at-in-unit : tie.After-in-unit = search in
+    let entry = at-in-unit .before in
+    plain-by (entry .args .x)
+    (passes _ (entry .good .0 .1))
+    (sym (at-in-unit .in-unit .ensures) ∙ c .before .before .before .if1 .taken)
     (sym (c .before .before .clamp-unit .ensures) ∙ c .before .same-bits .ensures (c .if2 .taken))
 
 returns-2 : tie.Need-returns-2
@@ -36,10 +31,4 @@ pub is-plain-spec : {M : Type 1} → statement M
 is-plain-spec =
     tie.close
     (tie.spec
-    in-unit-requires
-    clamp-unit-requires
-    same-bits-requires
-    float-to-bits-result
-    returns
-    returns-2
-    returns-3)
+    (λ c κs. search needs) (λ c κs. search needs) (λ c κs. search needs) float-to-bits-result returns returns-2 returns-3)

@@ -4,12 +4,6 @@ use borrow.Author.Needs.{needs}
 use Rattle.curves.proofs.level.is_straight.Statement.{statement}
 use Rattle.curves.proofs.level.is_straight.Tie as tie
 
-same-bits-requires : tie.Need-same-bits-requires
-same-bits-requires c κs = search needs
-
-is-plain-requires : tie.Need-is-plain-requires
-is-plain-requires c κs = search needs
-
 returns : tie.Need-returns
 returns c = λ h. (c .before .before .same-bits .ensures (c .before .if1 .taken), c .is-plain .ensures h)
 
@@ -17,4 +11,4 @@ returns-2 : tie.Need-returns-2
 returns-2 c = impossible
 
 pub is-straight-spec : {M : Type 1} → statement M
-is-straight-spec = tie.close (tie.spec same-bits-requires is-plain-requires returns returns-2)
+is-straight-spec = tie.close (tie.spec (λ c κs. search needs) (λ c κs. search needs) returns returns-2)

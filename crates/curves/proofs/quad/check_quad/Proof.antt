@@ -5,9 +5,6 @@ use borrow.Author.Needs.{needs}
 use Rattle.curves.proofs.quad.check_quad.Statement.{statement}
 use Rattle.curves.proofs.quad.check_quad.Tie as tie
 
-has-area-requires : tie.Need-has-area-requires
-has-area-requires c κs = search needs
-
 returns : tie.Need-returns
 unfolding outcome quad-test
 returns c = simp (← c .before .has-area .ensures, c .if1 .taken)
@@ -17,4 +14,4 @@ unfolding outcome verdict-of quad-test
 returns-2 c = simp (← c .before .has-area .ensures, c .if1 .left)
 
 pub check-quad-spec : {M : Type 1} → statement M
-check-quad-spec = tie.close (tie.spec has-area-requires returns returns-2)
+check-quad-spec = tie.close (tie.spec (λ c κs. search needs) returns returns-2)

@@ -16,33 +16,33 @@ Inv-loop low high n j row i₀ i = first-of (cell-test low high j) 0 n ≡ first
 abbrev μ-loop : tie.MeasureT-loop
 μ-loop low high n j row i₀ i = n - i
 
-cast-row : tie.Need-cast-row Inv-loop μ-loop
-cast-row c = omega arith
+-- the places that needs look back to; `search` goes by the types
+abbrev Turn : Type 0
+Turn = tie.At-loop Inv-loop μ-loop
+
+abbrev In-loop : Type 0
+In-loop = tie.In-loop Inv-loop μ-loop
+
+abbrev turn-before-in-loop : In-loop → Turn
+turn-before-in-loop in-loop = in-loop .before
 
 loop-holds : tie.Need-loop-holds Inv-loop μ-loop
 loop-holds c = first-start _ _
 
-check-cell-requires : tie.Need-check-cell-requires Inv-loop μ-loop
-check-cell-requires c κs = omega arith
-
-enum-known-cause : tie.Need-enum-known-cause Inv-loop μ-loop
-enum-known-cause c = search needs
-
 returns : tie.Need-returns Inv-loop μ-loop
 unfolding cells-test
-returns c = first-stops _ _ _ _ _ (c .before .before .before .before .loop-test .taken) (c .before .cause .given .1) (c .before .before .before .check-cell .ensures) ∙ sym (c .before .before .before .before .before .loop .inv)
+returns c =
+    let in-loop : In-loop = search in
+    let turn = turn-before-in-loop in-loop in
+    first-stops _ _ _ _ _ (in-loop .loop-test .taken) (c .before .cause .given .1) (c .before .before .before .check-cell .ensures) ∙ sym (turn .loop .inv)
 
 enum-told : tie.Need-enum-told Inv-loop μ-loop
 enum-told c = search needs
 
-add-i : tie.Need-add-i Inv-loop μ-loop
-add-i c = omega arith
-
-loop-less : tie.Need-loop-less Inv-loop μ-loop
-loop-less c = omega arith
-
 loop-again : tie.Need-loop-again Inv-loop μ-loop
-loop-again c = c .before .before .before .before .loop .inv ∙ first-next _ _ _ _ (c .before .before .before .loop-test .taken) (c .enum-told .given .1) (c .before .before .check-cell .ensures)
+loop-again c =
+    let turn : Turn = search in
+    turn .loop .inv ∙ first-next _ _ _ _ (c .before .before .before .loop-test .taken) (c .enum-told .given .1) (c .before .before .check-cell .ensures)
 
 returns-2 : tie.Need-returns-2 Inv-loop μ-loop
 unfolding outcome cells-test
@@ -52,15 +52,5 @@ pub check-cells-spec : {M : Type 1} → statement M
 check-cells-spec =
     tie.close
     (tie.spec
-    Inv-loop
-    μ-loop
-    cast-row
-    loop-holds
-    check-cell-requires
-    enum-known-cause
-    returns
-    enum-told
-    add-i
-    loop-less
-    loop-again
-    returns-2)
+    Inv-loop μ-loop (λ c. omega arith) loop-holds (λ c κs. omega arith) (λ c. search needs) returns enum-told (λ c. omega arith)
+    (λ c. omega arith) loop-again returns-2)

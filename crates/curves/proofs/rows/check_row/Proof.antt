@@ -11,14 +11,10 @@ returns : tie.Need-returns
 unfolding outcome
 returns c = let a = c .before .before .before .args in sym (below-first (now (a .low)) (now (a .high)) (a .n) (a .j) (omega arith))
 
-sub-check-cells : tie.Need-sub-check-cells
-sub-check-cells c = omega arith
-
-check-cells-requires : tie.Need-check-cells-requires
-check-cells-requires c κs = omega arith
-
 returns-2 : tie.Need-returns-2
-returns-2 c = let a = c .before .before .before .before .args in c .check-cells .ensures ∙ sym (below-later (now (a .low)) (now (a .high)) (a .n) (a .j) (omega arith))
+returns-2 c =
+    let entry : tie.Start = search in
+    let a = entry .args in c .check-cells .ensures ∙ sym (below-later (now (a .low)) (now (a .high)) (a .n) (a .j) (omega arith))
 
 pub check-row-spec : {M : Type 1} → statement M
-check-row-spec = tie.close (tie.spec returns sub-check-cells check-cells-requires returns-2)
+check-row-spec = tie.close (tie.spec returns (λ c. omega arith) (λ c κs. omega arith) returns-2)

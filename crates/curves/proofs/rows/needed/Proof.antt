@@ -9,23 +9,8 @@ use Rattle.curves.proofs.rows.needed.Tie as tie
 enum-told : tie.Need-enum-told
 enum-told c = search needs
 
-mul-result : tie.Need-mul-result
-mul-result c = search needs
-
 mul-result-2 : tie.Need-mul-result-2
 mul-result-2 c = let f = quads-fit (c .before .before .args .n) (c .before .before .args .m) (omega arith) (omega arith) in omega (arith, f)
-
-enum-told-2 : tie.Need-enum-told-2
-enum-told-2 c = search needs
-
-add-result : tie.Need-add-result
-add-result c = search needs
-
-add-result-2 : tie.Need-add-result-2
-add-result-2 c = search needs
-
-mul-result-3 : tie.Need-mul-result-3
-mul-result-3 c = search needs
 
 mul-result-4 : tie.Need-mul-result-4
 mul-result-4 c = let f = nodes-fit (c .before .before .args .n) (c .before .before .args .m) (omega arith) (omega arith) in omega (arith, f)
@@ -42,13 +27,5 @@ pub needed-spec : {M : Type 1} → statement M
 needed-spec =
     tie.close
     (tie.spec
-    enum-told
-    mul-result
-    mul-result-2
-    enum-told-2
-    add-result
-    add-result-2
-    mul-result-3
-    mul-result-4
-    returns
-    returns-2)
+    enum-told (λ c. search needs) mul-result-2 (λ c. search needs) (λ c. search needs) (λ c. search needs) (λ c. search needs) mul-result-4
+    returns returns-2)

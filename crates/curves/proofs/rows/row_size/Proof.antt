@@ -11,18 +11,6 @@ enum-told c = search needs
 returns : tie.Need-returns
 returns c = let a = c .before .before .before .args in first-size (a .layout) (a .n) (a .j) (c .before .enum-told .given .1) (omega arith)
 
-mul-result : tie.Need-mul-result
-mul-result c = search needs
-
-enum-told-2 : tie.Need-enum-told-2
-enum-told-2 c = search needs
-
-add-result : tie.Need-add-result
-add-result c = search needs
-
-mul-result-2 : tie.Need-mul-result-2
-mul-result-2 c = search needs
-
 returns-2 : tie.Need-returns-2
 returns-2 c = let a = c .before .before .before .args in quads-size (a .layout) (a .n) (a .j) (c .before .enum-told .given .1) (omega arith)
 
@@ -32,4 +20,5 @@ returns-3 c = let a = c .before .before .args in nodes-size (a .layout) (a .n) (
 pub row-size-spec : {M : Type 1} → statement M
 row-size-spec =
     tie.close
-    (tie.spec enum-told returns mul-result enum-told-2 add-result mul-result-2 returns-2 returns-3)
+    (tie.spec
+    enum-told returns (λ c. search needs) (λ c. search needs) (λ c. search needs) (λ c. search needs) returns-2 returns-3)

@@ -5,15 +5,9 @@ use borrow.Author.Needs.{needs}
 use Rattle.curves.proofs.seam.check_seam_ends.Statement.{statement}
 use Rattle.curves.proofs.seam.check_seam_ends.Tie as tie
 
-abs-requires : tie.Need-abs-requires
-abs-requires c κs = search needs
-
 returns : tie.Need-returns
 unfolding outcome verdict-of seam-ends-test
 returns c = simp (← c .before .abs .ensures, c .if1 .taken)
-
-abs-requires-2 : tie.Need-abs-requires-2
-abs-requires-2 c κs = search needs
 
 returns-2 : tie.Need-returns-2
 unfolding outcome verdict-of seam-ends-test
@@ -24,4 +18,4 @@ unfolding outcome seam-ends-test
 returns-3 c = simp (← c .before .before .before .abs .ensures, c .before .before .if1 .left, ← c .before .abs2 .ensures, c .if2 .left)
 
 pub check-seam-ends-spec : {M : Type 1} → statement M
-check-seam-ends-spec = tie.close (tie.spec abs-requires returns abs-requires-2 returns-2 returns-3)
+check-seam-ends-spec = tie.close (tie.spec (λ c κs. search needs) returns (λ c κs. search needs) returns-2 returns-3)

@@ -17,29 +17,32 @@ Inv-loop values seam i₀ i = first-of (value-test values seam) 0 (length values
 abbrev μ-loop : tie.MeasureT-loop
 μ-loop values seam i₀ i = length values - i
 
+-- the places that needs look back to; `search` goes by the types
+abbrev Turn : Type 0
+Turn = tie.At-loop Inv-loop μ-loop
+
+abbrev In-loop : Type 0
+In-loop = tie.In-loop Inv-loop μ-loop
+
+abbrev turn-before-in-loop : In-loop → Turn
+turn-before-in-loop in-loop = in-loop .before
+
 loop-holds : tie.Need-loop-holds Inv-loop μ-loop
 loop-holds c = first-start _ _
 
-check-value-requires : tie.Need-check-value-requires Inv-loop μ-loop
-check-value-requires c κs = search needs
-
-enum-known-cause : tie.Need-enum-known-cause Inv-loop μ-loop
-enum-known-cause c = search needs
-
 returns : tie.Need-returns Inv-loop μ-loop
-returns c = first-stops _ _ _ _ _ (c .before .before .before .before .loop-test .taken) (c .before .cause .given .1) (c .before .before .before .check-value .ensures) ∙ sym (c .before .before .before .before .before .loop .inv)
+returns c =
+    let in-loop : In-loop = search in
+    let turn = turn-before-in-loop in-loop in
+    first-stops _ _ _ _ _ (in-loop .loop-test .taken) (c .before .cause .given .1) (c .before .before .before .check-value .ensures) ∙ sym (turn .loop .inv)
 
 enum-told : tie.Need-enum-told Inv-loop μ-loop
 enum-told c = search needs
 
-add-i : tie.Need-add-i Inv-loop μ-loop
-add-i c = omega arith
-
-loop-less : tie.Need-loop-less Inv-loop μ-loop
-loop-less c = omega arith
-
 loop-again : tie.Need-loop-again Inv-loop μ-loop
-loop-again c = c .before .before .before .before .loop .inv ∙ first-next _ _ _ _ (c .before .before .before .loop-test .taken) (c .enum-told .given .1) (c .before .before .check-value .ensures)
+loop-again c =
+    let turn : Turn = search in
+    turn .loop .inv ∙ first-next _ _ _ _ (c .before .before .before .loop-test .taken) (c .enum-told .given .1) (c .before .before .check-value .ensures)
 
 returns-2 : tie.Need-returns-2 Inv-loop μ-loop
 unfolding outcome
@@ -49,14 +52,5 @@ pub check-values-spec : {M : Type 1} → statement M
 check-values-spec =
     tie.close
     (tie.spec
-    Inv-loop
-    μ-loop
-    loop-holds
-    check-value-requires
-    enum-known-cause
-    returns
-    enum-told
-    add-i
-    loop-less
-    loop-again
+    Inv-loop μ-loop loop-holds (λ c κs. search needs) (λ c. search needs) returns enum-told (λ c. omega arith) (λ c. omega arith) loop-again
     returns-2)

@@ -4,15 +4,6 @@ use borrow.Author.Needs.{needs}
 use Rattle.juplatsk.proofs.answers.store_root.Statement.{statement}
 use Rattle.juplatsk.proofs.answers.store_root.Tie as tie
 
-enum-known-taken : tie.Need-enum-known-taken
-enum-known-taken c = search needs
-
-enum-known-taken-2 : tie.Need-enum-known-taken-2
-enum-known-taken-2 c = search needs
-
-verdict-of-requires : tie.Need-verdict-of-requires
-verdict-of-requires c κs = search needs
-
 returns : tie.Need-returns
 returns c = root-accepted (c .before .before .taken .given .1)
 
@@ -20,5 +11,4 @@ returns-2 : tie.Need-returns-2
 returns-2 c = root-refused (c .before .before .before .taken2 .given .1) (c .verdict-of .ensures)
 
 pub store-root-spec : {M : Type 1} → statement M
-store-root-spec =
-    tie.close (tie.spec enum-known-taken enum-known-taken-2 verdict-of-requires returns returns-2)
+store-root-spec = tie.close (tie.spec (λ c. search needs) (λ c. search needs) (λ c κs. search needs) returns returns-2)

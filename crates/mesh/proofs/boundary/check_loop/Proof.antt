@@ -15,15 +15,8 @@ returns-2 : tie.Need-returns-2
 unfolding outcome verdict-of
 returns-2 c = odd-values _ (c .before .if1 .left) (c .if2 .taken)
 
-points-used-requires : tie.Need-points-used-requires
-points-used-requires c κs = search needs
-
-check-fours-requires : tie.Need-check-fours-requires
-check-fours-requires c κs = search needs
-
 returns-3 : tie.Need-returns-3
 returns-3 c = c .check-fours .ensures ∙ ap fours-test (c .before .points-used .ensures) ∙ whole-points _ (c .before .before .before .if1 .left) (c .before .before .if2 .left)
 
 pub check-loop-spec : {M : Type 1} → statement M
-check-loop-spec =
-    tie.close (tie.spec returns returns-2 points-used-requires check-fours-requires returns-3)
+check-loop-spec = tie.close (tie.spec returns returns-2 (λ c κs. search needs) (λ c κs. search needs) returns-3)

@@ -7,9 +7,6 @@ use borrow.Author.Needs.{needs}
 use Rattle.mesh.proofs.boundary.points_used.Statement.{statement}
 use Rattle.mesh.proofs.boundary.points_used.Tie as tie
 
-closes-requires : tie.Need-closes-requires
-closes-requires c κs = search needs
-
 sub-result : tie.Need-sub-result
 sub-result c = let h = closes-many _ (sym (c .before .closes .ensures) ∙ c .if1 .taken) in omega (arith, h)
 
@@ -20,4 +17,4 @@ returns-2 : tie.Need-returns-2
 returns-2 c = used-by _ _ false (c .before .closes .ensures) (c .if1 .left)
 
 pub points-used-spec : {M : Type 1} → statement M
-points-used-spec = tie.close (tie.spec closes-requires sub-result returns returns-2)
+points-used-spec = tie.close (tie.spec (λ c κs. search needs) sub-result returns returns-2)

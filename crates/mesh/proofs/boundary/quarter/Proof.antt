@@ -12,20 +12,11 @@ mul-start c = let q = quarter-fits (now (c .args .points)) _ _ (c .pre .0) (c .p
 mul-start-2 : tie.Need-mul-start-2
 mul-start-2 c = let q = quarter-fits (now (c .args .points)) _ _ (c .pre .0) (c .pre .1) in omega (arith, q)
 
-mul-end : tie.Need-mul-end
-mul-end c = search needs
-
 add-end : tie.Need-add-end
 add-end c = let q = quarter-fits (now (c .args .points)) _ _ (c .pre .0) (c .pre .1) in omega (arith, q)
 
 mul-result : tie.Need-mul-result
 mul-result c = let q = quarter-fits (now (c .args .points)) _ _ (c .pre .0) (c .pre .1) in omega (arith, q)
-
-sub-result : tie.Need-sub-result
-sub-result c = search needs
-
-part-result-start : tie.Need-part-result-start
-part-result-start c = search needs
 
 part-result-end : tie.Need-part-result-end
 part-result-end c = let q = quarter-fits (now (c .args .points)) _ _ (c .pre .0) (c .pre .1) in omega (arith, q)
@@ -37,12 +28,4 @@ pub quarter-spec : {M : Type 1} → statement M
 quarter-spec =
     tie.close
     (tie.spec
-    mul-start
-    mul-start-2
-    mul-end
-    add-end
-    mul-result
-    sub-result
-    part-result-start
-    part-result-end
-    returns)
+    mul-start mul-start-2 (λ c. search needs) add-end mul-result (λ c. search needs) (λ c. search needs) part-result-end returns)

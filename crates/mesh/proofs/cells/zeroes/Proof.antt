@@ -7,15 +7,6 @@ use borrow.Author.Needs.{needs}
 use Rattle.mesh.proofs.cells.zeroes.Statement.{statement}
 use Rattle.mesh.proofs.cells.zeroes.Tie as tie
 
-enum-told : tie.Need-enum-told
-enum-told c = search needs
-
-enum-told-2 : tie.Need-enum-told-2
-enum-told-2 c = search needs
-
-enum-told-3 : tie.Need-enum-told-3
-enum-told-3 c = search needs
-
 returns : tie.Need-returns
 returns c = zeroes-by-tags true 22 [] (c .before .before .args .cause) tt (c .before .match .keys1)
 
@@ -33,5 +24,4 @@ returns-4 : tie.Need-returns-4
 returns-4 c = zeroes-by-tags false 0 others (c .before .args .cause) tt (c .match .keys4)
 
 pub zeroes-spec : {M : Type 1} → statement M
-zeroes-spec =
-    tie.close (tie.spec enum-told enum-told-2 enum-told-3 returns returns-2 returns-3 returns-4)
+zeroes-spec = tie.close (tie.spec (λ c. search needs) (λ c. search needs) (λ c. search needs) returns returns-2 returns-3 returns-4)

@@ -14,11 +14,8 @@ returns-2 : tie.Need-returns-2
 unfolding outcome
 returns-2 c = too-high _ _ _ (c .before .if1 .left) (c .if2 .taken)
 
-check-loop-requires : tie.Need-check-loop-requires
-check-loop-requires c κs = search needs
-
 returns-3 : tie.Need-returns-3
 returns-3 c = c .check-loop .ensures ∙ in-size _ _ _ (c .before .before .if1 .left) (c .before .if2 .left)
 
 pub check-tile-spec : {M : Type 1} → statement M
-check-tile-spec = tie.close (tie.spec returns returns-2 check-loop-requires returns-3)
+check-tile-spec = tie.close (tie.spec returns returns-2 (λ c κs. search needs) returns-3)

@@ -12,59 +12,56 @@ use borrow.Author.Needs.{needs}
 use Rattle.mesh.proofs.tile.coons_checked.Statement.{statement}
 use Rattle.mesh.proofs.tile.coons_checked.Tie as tie
 
-check-tile-requires : tie.Need-check-tile-requires
-check-tile-requires c κs = search needs
+-- The places that needs look back to, and the ways from one to an earlier one; `search` goes by the types.
+abbrev check-tile-before-else1 : tie.Else1 → tie.After-check-tile
+check-tile-before-else1 else1 = search
 
-enum-known-cause : tie.Need-enum-known-cause
-enum-known-cause c = search needs
+abbrev check-tile-before-then1 : tie.Then1 → tie.After-check-tile
+check-tile-before-then1 then1 = search
+
+abbrev entry-before-check-tile : tie.After-check-tile → tie.Start
+entry-before-check-tile at-check-tile = at-check-tile .before .before .before
 
 returns : tie.Need-returns
-returns c = quads-refused _ _ _ (now (c .before .before .before .before .before .before .args .out)) _ _ (c .before .cause .given .1) (c .before .before .before .check-tile .ensures)
+returns c =
+    let entry : tie.Start = search in
+    quads-refused _ _ _ (now (entry .args .out)) _ _ (c .before .cause .given .1) (c .before .before .before .check-tile .ensures)
 
 enum-told : tie.Need-enum-told
 enum-told c = search needs
 
-points-used-requires : tie.Need-points-used-requires
-points-used-requires c κs = search needs
-
 quads-of-corners-requires : tie.Need-quads-of-corners-requires
 quads-of-corners-requires c κs = let u = used-few _ _ (c .before .before .points-used .ensures) in omega (arith, u, c .before .if1 .taken)
 
-same-length : tie.Need-same-length
-same-length c = search needs
-
 returns-2 : tie.Need-returns-2
 returns-2 c =
-    let a = c .before .before .before .before .before .before .before .before .before .before .before .args in
+    let then1 : tie.Then1 = search in
+    let at-check-tile = check-tile-before-then1 then1 in
+    let entry = entry-before-check-tile at-check-tile in
+    let a = entry .args in
     let loop = now (a .boundary) in
-    quads-follow _ _ _ _ _ _ (c .before .before .before .before .before .before .enum-told .given .1) (c .before .before .before .before .before .before .before .before .check-tile .ensures)
-    (c .before .before .quads-of-corners .ensures ∙ in-four-sides (λ (b r t l : List Float). coons-quads b r t l (a .n-u) (a .n-v) (now (a .out))) (corner-pair loop) (piece loop) (corner-piece loop _ (c .before .before .before .before .before .points-used .ensures) (c .before .before .before .before .if1 .taken)))
+    quads-follow _ _ _ _ _ _ (then1 .before .before .enum-told .given .1) (at-check-tile .check-tile .ensures)
+    (c .before .before .quads-of-corners .ensures ∙ in-four-sides (λ (b r t l : List Float). coons-quads b r t l (a .n-u) (a .n-v) (now (a .out)))
+    (corner-pair loop) (piece loop) (corner-piece loop _ (then1 .before .points-used .ensures) (then1 .if1 .taken)))
 
 quads-of-quarters-requires : tie.Need-quads-of-quarters-requires
 quads-of-quarters-requires c κs = used-few _ _ (c .before .before .points-used .ensures)
 
-same-length-2 : tie.Need-same-length-2
-same-length-2 c = search needs
-
 returns-3 : tie.Need-returns-3
 returns-3 c =
-    let a = c .before .before .before .before .before .before .before .before .before .before .before .args in
+    let else1 : tie.Else1 = search in
+    let at-check-tile = check-tile-before-else1 else1 in
+    let entry = entry-before-check-tile at-check-tile in
+    let a = entry .args in
     let loop = now (a .boundary) in
-    quads-follow _ _ _ _ _ _ (c .before .before .before .before .before .before .enum-told .given .1) (c .before .before .before .before .before .before .before .before .check-tile .ensures)
-    (c .before .before .quads-of-quarters .ensures ∙ in-four-sides (λ (b r t l : List Float). coons-quads b r t l (a .n-u) (a .n-v) (now (a .out))) (quarter loop (c .before .before .before .before .before .points-used .result)) (piece loop) (quarter-piece loop _ (c .before .before .before .before .before .points-used .ensures) (c .before .before .before .before .if1 .left)))
+    quads-follow _ _ _ _ _ _ (else1 .before .before .enum-told .given .1) (at-check-tile .check-tile .ensures)
+    (c .before .before .quads-of-quarters .ensures ∙ in-four-sides (λ (b r t l : List Float). coons-quads b r t l (a .n-u) (a .n-v) (now (a .out)))
+    (quarter loop (else1 .before .points-used .result)) (piece loop)
+    (quarter-piece loop _ (else1 .before .points-used .ensures) (else1 .if1 .left)))
 
 pub coons-checked-spec : {M : Type 1} → statement M
 coons-checked-spec =
     tie.close
     (tie.spec
-    check-tile-requires
-    enum-known-cause
-    returns
-    enum-told
-    points-used-requires
-    quads-of-corners-requires
-    same-length
-    returns-2
-    quads-of-quarters-requires
-    same-length-2
-    returns-3)
+    (λ c κs. search needs) (λ c. search needs) returns enum-told (λ c κs. search needs) quads-of-corners-requires (λ c. search needs)
+    returns-2 quads-of-quarters-requires (λ c. search needs) returns-3)

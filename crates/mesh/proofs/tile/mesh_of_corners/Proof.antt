@@ -12,75 +12,29 @@ use borrow.Author.Needs.{needs}
 use Rattle.mesh.proofs.tile.mesh_of_corners.Statement.{statement}
 use Rattle.mesh.proofs.tile.mesh_of_corners.Tie as tie
 
-shared-slice-read-t8 : tie.Need-shared-slice-read-t8
-shared-slice-read-t8 c = search needs
-
-shared-slice-read-t10 : tie.Need-shared-slice-read-t10
-shared-slice-read-t10 c = search needs
-
-shared-slice-read-t12 : tie.Need-shared-slice-read-t12
-shared-slice-read-t12 c = search needs
-
-shared-slice-read-t14 : tie.Need-shared-slice-read-t14
-shared-slice-read-t14 c = search needs
+-- The places that needs look back to, and the ways from one to an earlier one; `search` goes by the types.
+abbrev entry-before-mesh-tile-curves : tie.After-mesh-tile-curves → tie.Start
+entry-before-mesh-tile-curves at-mesh-tile-curves = search
 
 slice-aggregate-mesh-tile-curves : tie.Need-slice-aggregate-mesh-tile-curves
-slice-aggregate-mesh-tile-curves c = sym (length-take-le 4 (now (c .before .before .before .before .before .before .before .before .args .boundary)) (omega (arith, c .before .before .before .before .before .before .before .before .pre)))
-
-sub-mesh-tile-curves : tie.Need-sub-mesh-tile-curves
-sub-mesh-tile-curves c = search needs
-
-part-mesh-tile-curves-start : tie.Need-part-mesh-tile-curves-start
-part-mesh-tile-curves-start c = search needs
-
-part-mesh-tile-curves-end : tie.Need-part-mesh-tile-curves-end
-part-mesh-tile-curves-end c = search needs
-
-sub-mesh-tile-curves-2 : tie.Need-sub-mesh-tile-curves-2
-sub-mesh-tile-curves-2 c = search needs
-
-part-mesh-tile-curves-start-2 : tie.Need-part-mesh-tile-curves-start-2
-part-mesh-tile-curves-start-2 c = search needs
-
-part-mesh-tile-curves-end-2 : tie.Need-part-mesh-tile-curves-end-2
-part-mesh-tile-curves-end-2 c = search needs
-
-slice-aggregate-mesh-tile-curves-2 : tie.Need-slice-aggregate-mesh-tile-curves-2
-slice-aggregate-mesh-tile-curves-2 c = search needs
-
-mesh-tile-curves-requires : tie.Need-mesh-tile-curves-requires
-mesh-tile-curves-requires c κs = search needs
-
-same-length : tie.Need-same-length
-same-length c = search needs
-
-same-length-2 : tie.Need-same-length-2
-same-length-2 c = search needs
+slice-aggregate-mesh-tile-curves c =
+    let entry : tie.Start = search in
+    sym (length-take-le 4 (now (entry .args .boundary)) (omega (arith, entry .pre)))
 
 returns : tie.Need-returns
 returns c =
-    let a = c .before .before .before .before .before .before .before .before .before .before .before .before .before .before .before .before .before .before .args in
+    let at-mesh-tile-curves : tie.After-mesh-tile-curves = search in
+    let entry = entry-before-mesh-tile-curves at-mesh-tile-curves in
+    let a = entry .args in
     let loop = now (a .boundary) in
-    c .before .before .before .before .mesh-tile-curves .ensures
-    ∙ in-four-curves (λ (b r t l : List Float). mesh-tile-curves b r t l (a .n-u) (a .n-v) (now (a .points)) (now (a .cells))) _ _ _ _ _ _ _ _ (side-0 loop) (side-1 loop) (side-2 loop) (side-3 loop (c .before .before .before .before .before .before .before .before .before .before .before .before .before .before .before .before .before .before .pre))
+    at-mesh-tile-curves .mesh-tile-curves .ensures
+    ∙ in-four-curves (λ (b r t l : List Float). mesh-tile-curves b r t l (a .n-u) (a .n-v) (now (a .points)) (now (a .cells))) _ _ _ _ _ _ _ _
+    (side-0 loop) (side-1 loop) (side-2 loop) (side-3 loop (entry .pre))
 
 pub mesh-of-corners-spec : {M : Type 1} → statement M
 mesh-of-corners-spec =
     tie.close
     (tie.spec
-    shared-slice-read-t8
-    shared-slice-read-t10
-    shared-slice-read-t12
-    shared-slice-read-t14
-    slice-aggregate-mesh-tile-curves
-    sub-mesh-tile-curves
-    part-mesh-tile-curves-start
-    part-mesh-tile-curves-end
-    sub-mesh-tile-curves-2
-    part-mesh-tile-curves-start-2
-    part-mesh-tile-curves-end-2
-    slice-aggregate-mesh-tile-curves-2
-    mesh-tile-curves-requires
-    same-length
-    same-length-2
-    returns)
+    (λ c. search needs) (λ c. search needs) (λ c. search needs) (λ c. search needs) slice-aggregate-mesh-tile-curves (λ c. search needs)
+    (λ c. search needs) (λ c. search needs) (λ c. search needs) (λ c. search needs) (λ c. search needs) (λ c. search needs)
+    (λ c κs. search needs) (λ c. search needs) (λ c. search needs) returns)

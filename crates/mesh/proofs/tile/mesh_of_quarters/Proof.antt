@@ -9,42 +9,27 @@ use borrow.Author.Needs.{needs}
 use Rattle.mesh.proofs.tile.mesh_of_quarters.Statement.{statement}
 use Rattle.mesh.proofs.tile.mesh_of_quarters.Tie as tie
 
-quarter-requires : tie.Need-quarter-requires
-quarter-requires c κs = search needs
+-- The places that needs look back to, and the ways from one to an earlier one; `search` goes by the types.
+abbrev quarter3-before-mesh-tile-curves : tie.After-mesh-tile-curves → tie.After-quarter3
+quarter3-before-mesh-tile-curves at-mesh-tile-curves = search
 
-quarter-requires-2 : tie.Need-quarter-requires-2
-quarter-requires-2 c κs = search needs
-
-quarter-requires-3 : tie.Need-quarter-requires-3
-quarter-requires-3 c κs = search needs
-
-quarter-requires-4 : tie.Need-quarter-requires-4
-quarter-requires-4 c κs = search needs
-
-mesh-tile-curves-requires : tie.Need-mesh-tile-curves-requires
-mesh-tile-curves-requires c κs = search needs
-
-same-length : tie.Need-same-length
-same-length c = search needs
-
-same-length-2 : tie.Need-same-length-2
-same-length-2 c = search needs
+abbrev entry-before-quarter3 : tie.After-quarter3 → tie.Start
+entry-before-quarter3 at-quarter3 = search
 
 returns : tie.Need-returns
 returns c =
-    let a = c .before .before .before .before .before .before .before .before .before .before .before .before .before .before .args in
-    c .before .before .before .before .mesh-tile-curves .ensures
-    ∙ in-four-curves (λ (b r t l : List Float). mesh-tile-curves b r t l (a .n-u) (a .n-v) (now (a .points)) (now (a .cells))) _ _ _ _ _ _ _ _ (c .before .before .before .before .before .before .before .before .before .before .quarter .ensures) (c .before .before .before .before .before .before .before .before .before .quarter2 .ensures) (c .before .before .before .before .before .before .before .before .quarter3 .ensures) (c .before .before .before .before .before .before .before .quarter4 .ensures)
+    let at-mesh-tile-curves : tie.After-mesh-tile-curves = search in
+    let at-quarter3 = quarter3-before-mesh-tile-curves at-mesh-tile-curves in
+    let entry = entry-before-quarter3 at-quarter3 in
+    let a = entry .args in
+    at-mesh-tile-curves .mesh-tile-curves .ensures
+    ∙ in-four-curves (λ (b r t l : List Float). mesh-tile-curves b r t l (a .n-u) (a .n-v) (now (a .points)) (now (a .cells))) _ _ _ _ _ _ _ _
+    (at-quarter3 .before .before .quarter .ensures) (at-quarter3 .before .quarter2 .ensures) (at-quarter3 .quarter3 .ensures)
+    (at-mesh-tile-curves .before .before .before .quarter4 .ensures)
 
 pub mesh-of-quarters-spec : {M : Type 1} → statement M
 mesh-of-quarters-spec =
     tie.close
     (tie.spec
-    quarter-requires
-    quarter-requires-2
-    quarter-requires-3
-    quarter-requires-4
-    mesh-tile-curves-requires
-    same-length
-    same-length-2
-    returns)
+    (λ c κs. search needs) (λ c κs. search needs) (λ c κs. search needs) (λ c κs. search needs) (λ c κs. search needs) (λ c. search needs)
+    (λ c. search needs) returns)

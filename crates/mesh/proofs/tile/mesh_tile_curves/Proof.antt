@@ -1,120 +1,106 @@
 -- `tile::mesh_tile_curves` meets its contract. Assumes nothing.
 use mathlib.Core.Path.{refl}
+use Prim.Native.Nat.{_≤_}
 use native.Mathlib.Omega.{arith}
 use denote.Ref.{now}
+use lib.ListN.{length}
 use borrow.Author.Tests.{not-true, not-false}
+use Rattle.mesh.specs.Mesh.{needed-cells}
 use Rattle.mesh.proofs.tile.Laws.{product-fits, no-room, room, made-cells, zeroed-cells, same-cells, few-cells}
 use borrow.Author.Needs.{needs}
 use Rattle.mesh.proofs.tile.mesh_tile_curves.Statement.{statement}
 use Rattle.mesh.proofs.tile.mesh_tile_curves.Tie as tie
 
-fits-requires : tie.Need-fits-requires
-fits-requires c κs = search needs
+-- The places that needs look back to, and the ways from one to an earlier one; `search` goes by the types.
+abbrev coons-nodes2-before-then2 : tie.Then2 → tie.After-coons-nodes2
+coons-nodes2-before-then2 then2 = search
 
-slice-aggregate-coons-nodes : tie.Need-slice-aggregate-coons-nodes
-slice-aggregate-coons-nodes c = search needs
+abbrev coons-nodes2-before-made : tie.After-made → tie.After-coons-nodes2
+coons-nodes2-before-made at-made = search
 
-coons-nodes-requires : tie.Need-coons-nodes-requires
-coons-nodes-requires c κs = search needs
+abbrev fits2-before-coons-nodes2 : tie.After-coons-nodes2 → tie.After-fits2
+fits2-before-coons-nodes2 at-coons-nodes2 = at-coons-nodes2 .before .before .before
 
-same-length : tie.Need-same-length
-same-length c = search needs
+abbrev entry-before-fits2 : tie.After-fits2 → tie.Start
+entry-before-fits2 at-fits2 = search
 
 returns : tie.Need-returns
 returns c =
-    let a = c .before .before .before .before .before .before .before .before .before .before .before .before .args in
-    no-room (now (a .bottom)) (now (a .right)) (now (a .top)) (now (a .left)) (a .n-u) (a .n-v) (now (a .points)) (now (a .cells)) _ _ _ _ (c .before .before .before .before .fits2 .ensures) (not-true _ (c .before .before .before .if1 .taken)) refl (c .before .coons-nodes .ensures)
+    let at-fits2 : tie.After-fits2 = search in
+    let entry = entry-before-fits2 at-fits2 in
+    let a = entry .args in
+    no-room (now (a .bottom)) (now (a .right)) (now (a .top)) (now (a .left)) (a .n-u) (a .n-v) (now (a .points)) (now (a .cells)) _ _ _ _
+    (at-fits2 .fits2 .ensures) (not-true _ (c .before .before .before .if1 .taken)) refl (c .before .coons-nodes .ensures)
 
-coons-nodes-requires-2 : tie.Need-coons-nodes-requires-2
-coons-nodes-requires-2 c κs = search needs
-
-enum-known-made : tie.Need-enum-known-made
-enum-known-made c = search needs
+-- the room that the grid's own test leaves for the indices
+room-at : (c : tie.After-coons-nodes2) → let a = entry-before-fits2 (fits2-before-coons-nodes2 c) .args in
+    needed-cells (a .n-u) (a .n-v) ≤ length (now (a .cells))
+room-at c =
+    let at-fits2 = fits2-before-coons-nodes2 c in
+    let a = entry-before-fits2 at-fits2 .args in
+    room (now (a .bottom)) (now (a .right)) (now (a .top)) (now (a .left)) (a .n-u) (a .n-v) (now (a .points)) (now (a .cells)) _ _ _
+    (at-fits2 .fits2 .ensures) (not-false _ (c .before .before .if1 .left)) (c .coons-nodes2 .ensures)
 
 write-cells-requires : tie.Need-write-cells-requires
 write-cells-requires c κs =
-    let a = c .before .before .before .before .before .before .before .before .before .before .before .before .before .before .before .before .before .args in
-    let few = few-cells (now (a .bottom)) (now (a .right)) (now (a .top)) (now (a .left)) (a .n-u) (a .n-v) (now (a .points)) (now (a .cells)) _ _ _ (c .before .before .before .before .before .before .before .before .before .fits2 .ensures) (not-false _ (c .before .before .before .before .before .before .before .before .if1 .left)) (c .before .before .before .before .before .before .coons-nodes2 .ensures) _ (c .before .before .made .given .1) in (few .0, few .1, room (now (a .bottom)) (now (a .right)) (now (a .top)) (now (a .left)) (a .n-u) (a .n-v) (now (a .points)) (now (a .cells)) _ _ _ (c .before .before .before .before .before .before .before .before .before .fits2 .ensures) (not-false _ (c .before .before .before .before .before .before .before .before .if1 .left)) (c .before .before .before .before .before .before .coons-nodes2 .ensures))
-
-enum-known-made-2 : tie.Need-enum-known-made-2
-enum-known-made-2 c = search needs
-
-zeroes-requires : tie.Need-zeroes-requires
-zeroes-requires c κs = search needs
+    let at-coons-nodes2 : tie.After-coons-nodes2 = search in
+    let at-fits2 = fits2-before-coons-nodes2 at-coons-nodes2 in
+    let entry = entry-before-fits2 at-fits2 in
+    let a = entry .args in
+    let few = few-cells (now (a .bottom)) (now (a .right)) (now (a .top)) (now (a .left)) (a .n-u) (a .n-v) (now (a .points)) (now (a .cells)) _ _ _
+    (at-fits2 .fits2 .ensures) (not-false _ (at-coons-nodes2 .before .before .if1 .left)) (at-coons-nodes2 .coons-nodes2 .ensures) _
+    (c .before .before .made .given .1) in
+    record { few = few .0; rows = few .1; room = room-at at-coons-nodes2 }
 
 mul-quads : tie.Need-mul-quads
 mul-quads c =
-    let a = c .before .before .before .before .before .before .before .before .before .before .before .before .before .before .before .before .before .before .args in
+    let entry : tie.Start = search in
+    let a = entry .args in
     let p = product-fits (a .n-v) (a .n-u) (omega arith) (omega arith) in
     omega (arith, p)
 
 mul-clear : tie.Need-mul-clear
-mul-clear c =
-    let a = c .before .before .before .before .before .before .before .before .before .before .before .before .before .before .before .before .before .before .args in
-    let r = room (now (a .bottom)) (now (a .right)) (now (a .top)) (now (a .left)) (a .n-u) (a .n-v) (now (a .points)) (now (a .cells)) _ _ _ (c .before .before .before .before .before .before .before .before .before .before .fits2 .ensures) (not-false _ (c .before .before .before .before .before .before .before .before .before .if1 .left)) (c .before .before .before .before .before .before .before .coons-nodes2 .ensures) in
-    omega (arith, r)
+mul-clear c = omega (arith, room-at (search))
 
 clear-requires : tie.Need-clear-requires
-clear-requires c κs =
-    let a = c .before .before .before .before .before .before .before .before .before .before .before .before .before .before .before .before .before .before .before .args in
-    room (now (a .bottom)) (now (a .right)) (now (a .top)) (now (a .left)) (a .n-u) (a .n-v) (now (a .points)) (now (a .cells)) _ _ _ (c .before .before .before .before .before .before .before .before .before .before .before .fits2 .ensures) (not-false _ (c .before .before .before .before .before .before .before .before .before .before .if1 .left)) (c .before .before .before .before .before .before .before .before .coons-nodes2 .ensures)
-
-same-length-2 : tie.Need-same-length-2
-same-length-2 c = search needs
-
-same-length-3 : tie.Need-same-length-3
-same-length-3 c = search needs
+clear-requires c κs = room-at (search)
 
 returns-2 : tie.Need-returns-2
 returns-2 c =
-    let a = c .before .before .before .before .before .before .before .before .before .before .before .before .before .before .before .before .before .before .before .before .args in
-    made-cells (now (a .bottom)) (now (a .right)) (now (a .top)) (now (a .left)) (a .n-u) (a .n-v) (now (a .points)) (now (a .cells)) _ _ _ (c .before .before .before .before .before .before .before .before .before .before .before .before .fits2 .ensures) (not-false _ (c .before .before .before .before .before .before .before .before .before .before .before .if1 .left)) (c .before .before .before .before .before .before .before .before .before .coons-nodes2 .ensures) _ _ (c .before .before .before .before .before .made .given .1) (c .before .before .write-cells .ensures)
-
-same-length-4 : tie.Need-same-length-4
-same-length-4 c = search needs
-
-same-length-5 : tie.Need-same-length-5
-same-length-5 c = search needs
+    let at-made : tie.After-made = search in
+    let at-coons-nodes2 = coons-nodes2-before-made at-made in
+    let at-fits2 = fits2-before-coons-nodes2 at-coons-nodes2 in
+    let entry = entry-before-fits2 at-fits2 in
+    let a = entry .args in
+    made-cells (now (a .bottom)) (now (a .right)) (now (a .top)) (now (a .left)) (a .n-u) (a .n-v) (now (a .points)) (now (a .cells)) _ _ _
+    (at-fits2 .fits2 .ensures) (not-false _ (at-coons-nodes2 .before .before .if1 .left)) (at-coons-nodes2 .coons-nodes2 .ensures) _ _
+    (at-made .made .given .1) (c .before .before .write-cells .ensures)
 
 returns-3 : tie.Need-returns-3
 returns-3 c =
-    let a = c .before .before .before .before .before .before .before .before .before .before .before .before .before .before .before .before .before .before .before .before .before .before .args in
-    zeroed-cells (now (a .bottom)) (now (a .right)) (now (a .top)) (now (a .left)) (a .n-u) (a .n-v) (now (a .points)) (now (a .cells)) _ _ _ (c .before .before .before .before .before .before .before .before .before .before .before .before .before .before .fits2 .ensures) (not-false _ (c .before .before .before .before .before .before .before .before .before .before .before .before .before .if1 .left)) (c .before .before .before .before .before .before .before .before .before .before .before .coons-nodes2 .ensures) _ _ (c .before .before .before .before .before .before .before .made2 .given .1) (c .before .before .before .before .before .zeroes .ensures) _ (c .before .before .before .before .if2 .taken) (c .before .before .clear .ensures)
-
-same-length-6 : tie.Need-same-length-6
-same-length-6 c = search needs
-
-same-length-7 : tie.Need-same-length-7
-same-length-7 c = search needs
+    let then2 : tie.Then2 = search in
+    let at-coons-nodes2 = coons-nodes2-before-then2 then2 in
+    let at-fits2 = fits2-before-coons-nodes2 at-coons-nodes2 in
+    let entry = entry-before-fits2 at-fits2 in
+    let a = entry .args in
+    zeroed-cells (now (a .bottom)) (now (a .right)) (now (a .top)) (now (a .left)) (a .n-u) (a .n-v) (now (a .points)) (now (a .cells)) _ _ _
+    (at-fits2 .fits2 .ensures) (not-false _ (at-coons-nodes2 .before .before .if1 .left)) (at-coons-nodes2 .coons-nodes2 .ensures) _ _
+    (then2 .before .before .before .made2 .given .1) (then2 .before .zeroes .ensures) _ (then2 .if2 .taken) (c .before .before .clear .ensures)
 
 returns-4 : tie.Need-returns-4
 returns-4 c =
-    let a = c .before .before .before .before .before .before .before .before .before .before .before .before .before .before .before .before .before .before .args in
-    same-cells (now (a .bottom)) (now (a .right)) (now (a .top)) (now (a .left)) (a .n-u) (a .n-v) (now (a .points)) (now (a .cells)) _ _ _ (c .before .before .before .before .before .before .before .before .before .before .fits2 .ensures) (not-false _ (c .before .before .before .before .before .before .before .before .before .if1 .left)) (c .before .before .before .before .before .before .before .coons-nodes2 .ensures) _ _ (c .before .before .before .made2 .given .1) (c .before .zeroes .ensures) (c .if2 .left)
+    let at-coons-nodes2 : tie.After-coons-nodes2 = search in
+    let at-fits2 = fits2-before-coons-nodes2 at-coons-nodes2 in
+    let entry = entry-before-fits2 at-fits2 in
+    let a = entry .args in
+    same-cells (now (a .bottom)) (now (a .right)) (now (a .top)) (now (a .left)) (a .n-u) (a .n-v) (now (a .points)) (now (a .cells)) _ _ _
+    (at-fits2 .fits2 .ensures) (not-false _ (at-coons-nodes2 .before .before .if1 .left)) (at-coons-nodes2 .coons-nodes2 .ensures) _ _
+    (c .before .before .before .made2 .given .1) (c .before .zeroes .ensures) (c .if2 .left)
 
 pub mesh-tile-curves-spec : {M : Type 1} → statement M
 mesh-tile-curves-spec =
     tie.close
     (tie.spec
-    fits-requires
-    slice-aggregate-coons-nodes
-    coons-nodes-requires
-    same-length
-    returns
-    coons-nodes-requires-2
-    enum-known-made
-    write-cells-requires
-    enum-known-made-2
-    zeroes-requires
-    mul-quads
-    mul-clear
-    clear-requires
-    same-length-2
-    same-length-3
-    returns-2
-    same-length-4
-    same-length-5
-    returns-3
-    same-length-6
-    same-length-7
-    returns-4)
+    (λ c κs. search needs) (λ c. search needs) (λ c κs. search needs) (λ c. search needs) returns (λ c κs. search needs) (λ c. search needs)
+    write-cells-requires (λ c. search needs) (λ c κs. search needs) mul-quads mul-clear clear-requires (λ c. search needs)
+    (λ c. search needs) returns-2 (λ c. search needs) (λ c. search needs) returns-3 (λ c. search needs) (λ c. search needs) returns-4)

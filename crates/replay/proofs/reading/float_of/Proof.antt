@@ -9,14 +9,8 @@ use lib.Ieee.{binary64}
 use Rattle.replay.proofs.reading.float_of.Statement.{statement}
 use Rattle.replay.proofs.reading.float_of.Tie as tie
 
-returns : tie.Need-returns
-returns c = search needs
-
 float-from-bits-result : tie.Need-float-from-bits-result
 float-from-bits-result c = subst (λ (b : Bool). T (not b)) (sym (nanBits-above binary64 (c .before .args .pattern))) (le→nltb _ _ (c .if1 .left))
 
-returns-2 : tie.Need-returns-2
-returns-2 c = search needs
-
 pub float-of-spec : {M : Type 1} → statement M
-float-of-spec = tie.close (tie.spec returns float-from-bits-result returns-2)
+float-of-spec = tie.close (tie.spec (λ c. search needs) float-from-bits-result (λ c. search needs))

@@ -13,35 +13,8 @@ Inv-loop case at out₀ n from₀ i₀ out from i = (i ≤ n) × (n ≤ length o
 abbrev μ-loop : tie.MeasureT-loop
 μ-loop case at out₀ n from₀ i₀ out from i = n - i
 
-list-length-requires : tie.Need-list-length-requires Inv-loop μ-loop
-list-length-requires c κs = tt
-
-least-requires : tie.Need-least-requires Inv-loop μ-loop
-least-requires c κs = tt
-
-past-number-requires : tie.Need-past-number-requires Inv-loop μ-loop
-past-number-requires c κs = tt
-
 loop-holds : tie.Need-loop-holds Inv-loop μ-loop
 loop-holds c = (omega arith, omega arith, refl)
-
-number-requires : tie.Need-number-requires Inv-loop μ-loop
-number-requires c κs = tt
-
-mul-out : tie.Need-mul-out Inv-loop μ-loop
-mul-out c = omega arith
-
-slice-write-out : tie.Need-slice-write-out Inv-loop μ-loop
-slice-write-out c = omega arith
-
-past-number-requires-2 : tie.Need-past-number-requires-2 Inv-loop μ-loop
-past-number-requires-2 c κs = tt
-
-add-i : tie.Need-add-i Inv-loop μ-loop
-add-i c = omega arith
-
-loop-less : tie.Need-loop-less Inv-loop μ-loop
-loop-less c = omega arith
 
 loop-again : tie.Need-loop-again Inv-loop μ-loop
 loop-again c = let p = c .before .before .before .loop in (omega arith, fits-after-set _ (p .out) (p .i) _ (p .inv .1), length-set (p .out) (p .i) _ ∙ p .inv .2)
@@ -56,18 +29,5 @@ pub numbers-spec : {M : Type 1} → statement M
 numbers-spec =
     tie.close
     (tie.spec
-    Inv-loop
-    μ-loop
-    list-length-requires
-    least-requires
-    past-number-requires
-    loop-holds
-    number-requires
-    mul-out
-    slice-write-out
-    past-number-requires-2
-    add-i
-    loop-less
-    loop-again
-    same-length
-    returns)
+    Inv-loop μ-loop (λ c κs. tt) (λ c κs. tt) (λ c κs. tt) loop-holds (λ c κs. tt) (λ c. omega arith) (λ c. omega arith) (λ c κs. tt)
+    (λ c. omega arith) (λ c. omega arith) loop-again same-length returns)

@@ -4,15 +4,9 @@ use borrow.Author.Needs.{needs}
 use Rattle.curves.proofs.curve.Segment.blend.Statement.{statement}
 use Rattle.curves.proofs.curve.Segment.blend.Tie as tie
 
-fraction-requires : tie.Need-fraction-requires
-fraction-requires c κs = search needs
-
-toward-requires : tie.Need-toward-requires
-toward-requires c κs = search needs
-
 returns : tie.Need-returns
 unfolding blend
 returns c = simp (c .toward .ensures, c .before .fraction .ensures)
 
 pub blend-spec : {M : Type 1} → statement M
-blend-spec = tie.close (tie.spec fraction-requires toward-requires returns)
+blend-spec = tie.close (tie.spec (λ c κs. search needs) (λ c κs. search needs) returns)

@@ -4,9 +4,6 @@ use borrow.Author.Needs.{needs}
 use Rattle.curves.proofs.curve.Segment.fraction.Statement.{statement}
 use Rattle.curves.proofs.curve.Segment.fraction.Tie as tie
 
-span-requires : tie.Need-span-requires
-span-requires c κs = search needs
-
 returns : tie.Need-returns
 unfolding fraction
 returns c = simp (← c .before .before .span .ensures, c .before .if1 .taken)
@@ -16,4 +13,4 @@ unfolding fraction
 returns-2 c = simp (← c .before .span .ensures, c .if1 .left)
 
 pub fraction-spec : {M : Type 1} → statement M
-fraction-spec = tie.close (tie.spec span-requires returns returns-2)
+fraction-spec = tie.close (tie.spec (λ c κs. search needs) returns returns-2)
