@@ -4,7 +4,7 @@
 -- numbers rise by one at each that stays, so that no two which hold an edge get the same, the incidences of an edge are renumbered and else
 -- stay as they are, and the very constraint stands under its new number. So the two graphs are alike (search/Alike), which says all of moves
 -- and solves. An empty constraint balances: both its sides add up to 0. Assumes nothing.
-use mathlib.Core.Path.{_≡_, refl, sym, ap}
+use mathlib.Core.Path.{_≡_, refl, sym, ap, _∙_}
 use mathlib.Core.Bool.{Bool, true, false, _&&_, cond}
 use mathlib.Core.List.{List, [], _∷_, map, map-map}
 use Prim.Native.Nat.{ℕ, zero, suc}
@@ -12,11 +12,16 @@ use native.Mathlib.Omega.{arith}
 use lib.ListN.{length, length-map}
 use lib.Dec.{T}
 use Rattle.base.specs.Lists.{all}
+use Rattle.base.specs.declared.verdict.Verdict.{Verdict}
+use Rattle.base.specs.Refusal.{passed, then-test, is-passed}
 use Rattle.regions.specs.Region.{Constraint, constraint, no-sides, holds, incidence, incidence-from, is-empty, without-empty}
-use Rattle.regions.specs.Accept.{overused-test}
-use Rattle.counts.specs.Cost.{CostModel}
-use Rattle.counts.specs.Round.{find-move, solve-zeros}
-use Rattle.counts.specs.Solver.{constraint-holds}
+use Rattle.regions.specs.Region.{places, graph, region-count}
+use Rattle.regions.specs.Accept.{limits-test, pairs-test, overused-test, regions-test}
+use Rattle.counts.specs.Cost.{CostModel, Spacing, costs-of, edges-of}
+use Rattle.counts.specs.Round.{Found, find-move, Solved, solve-zeros}
+use Rattle.counts.specs.Solver.{Round, round, round-with, round-test, round-order, round-by, round-refused}
+use Rattle.counts.specs.Solver.{Solve, solve, solve-with, solve-test, solve-order, solve-part, solve-refused, with-rest}
+use Rattle.counts.specs.Solver.{Hold, constraint-holds, constraints-hold}
 use Rattle.base.proofs.BoolLaws.{by-truth, true-T}
 use Rattle.counts.proofs.search.Alike.{AlikeGraphs, alike-itself, every-edge, find-move-alike, solve-zeros-alike}
 
@@ -116,3 +121,69 @@ empties-skipped g =
       as-many = as-many g;
       overused = overused g;
     }
+
+-- ---- and so is every answer of the public functions
+
+-- what they answer, from what is tested of the regions, the move that is found, the solve and whether all constraints balance: the definitions of
+-- specs/Solver with these left open
+module _ (regions : List ℕ) (spacing : Spacing) (limit : ℕ) where
+  abbrev pub round-by-parts : List ℕ → Verdict → Found → Round
+  round-by-parts counts tested found =
+      let verdict = round-order places regions spacing counts limit tested in
+      elim (is-passed verdict) [ true ↦ round-by found counts | false ↦ round-refused verdict counts ]
+
+  abbrev pub solve-by-parts : List ℕ → Verdict → Solved → Solve
+  solve-by-parts lent tested solved =
+      let verdict = solve-order places regions spacing (length lent) limit tested in
+      elim (is-passed verdict) [ true ↦ with-rest (edges-of spacing) (solve-part (edges-of spacing) solved) lent | false ↦ solve-refused verdict lent ]
+
+abbrev pub hold-by-parts : List ℕ → List ℕ → Bool → Hold
+hold-by-parts regions counts holds =
+    cond (is-passed (limits-test places (length counts) regions)) (record { verdict = passed; holds = holds })
+    (record { verdict = limits-test places (length counts) regions; holds = false })
+
+-- and these parts, if the constraints of the regions are g
+module _ (g : List Constraint) (regions : List ℕ) where
+  abbrev pub regions-test-on : ℕ → Verdict
+  regions-test-on n = then-test (pairs-test places n 0 (region-count places regions) regions) (overused-test g 0 n)
+
+  abbrev pub round-on : Spacing → List ℕ → ℕ → Round
+  round-on spacing counts limit =
+      round-by-parts regions spacing limit counts (regions-test-on (edges-of spacing)) (find-move g (costs-of spacing) counts limit)
+
+  abbrev pub solve-on : Spacing → List ℕ → ℕ → Solve
+  solve-on spacing lent limit =
+      solve-by-parts regions spacing limit lent (regions-test-on (edges-of spacing)) (solve-zeros g (costs-of spacing) limit (edges-of spacing))
+
+  abbrev pub hold-on : List ℕ → Hold
+  hold-on counts = hold-by-parts regions counts (all (constraint-holds counts) g)
+
+-- without the constraints that have no edges they are what they are, refused calls included; `energy` reads no constraints
+pub record AnswersSkipped (regions : List ℕ) : Type 0 where
+  pub round-is : (spacing : Spacing) (counts : List ℕ) (limit : ℕ)
+      → round-on (without-empty (graph places regions)) regions spacing counts limit ≡ round regions spacing counts limit
+  pub solve-is : (spacing : Spacing) (lent : List ℕ) (limit : ℕ)
+      → solve-on (without-empty (graph places regions)) regions spacing lent limit ≡ solve regions spacing lent limit
+  pub hold-is : (counts : List ℕ) → hold-on (without-empty (graph places regions)) regions counts ≡ constraints-hold regions counts
+
+pub answers-skipped : (regions : List ℕ) → AnswersSkipped regions
+unfolding round round-with round-test solve solve-with solve-test regions-test constraints-hold
+answers-skipped regions =
+    record {
+      round-is = λ spacing counts limit.
+          ap (λ (v : Verdict). round-by-parts regions spacing limit counts v (find-move (without-empty g) (costs-of spacing) counts limit)) (test-is (edges-of spacing))
+          ∙ ap (round-by-parts regions spacing limit counts (regions-test-on g regions (edges-of spacing))) (same .found (costs-of spacing) counts limit);
+      solve-is = λ spacing lent limit.
+          ap (λ (v : Verdict). solve-by-parts regions spacing limit lent v (solve-zeros (without-empty g) (costs-of spacing) limit (edges-of spacing))) (test-is (edges-of spacing))
+          ∙ ap (solve-by-parts regions spacing limit lent (regions-test-on g regions (edges-of spacing))) (same .solved (costs-of spacing) limit (edges-of spacing));
+      hold-is = λ counts. ap (hold-by-parts regions counts) (same .hold counts);
+    }
+  where
+    g : List Constraint
+    g = graph places regions
+
+    same : Skipped g
+    same = empties-skipped g
+
+    test-is : (n : ℕ) → regions-test-on (without-empty g) regions n ≡ regions-test-on g regions n
+    test-is n = ap (then-test (pairs-test places n 0 (region-count places regions) regions)) (same .overused 0 n)
