@@ -1,6 +1,6 @@
 -- Tests as facts: a Boolean that passes or fails, numbers told apart, and proofs by cases of a test (`by-cases`, `by-truth`, `by-contradiction`). Assumes nothing.
 use mathlib.Core.Logic.{_≢_, _⊎_, inl, inr}
-use mathlib.Core.Path.{_≡_, refl}
+use mathlib.Core.Path.{_≡_, refl, sym}
 use mathlib.Core.Bool.{Bool, true, false, not, _||_, cond}
 use Prim.Native.Nat.{ℕ}
 use lib.Dec.{T, eqb, eqb→eq, eqb-refl}
@@ -72,6 +72,16 @@ ne→eqb x y n = not-T-false (eqb x y) (λ t. n (eqb→eq x y t))
 
 pub same→eqb : (x : ℕ) → eqb x x ≡ true
 same→eqb x = T-true (eqb x x) (eqb-refl x)
+
+-- two tests that pass alike
+pub same-truth : (b c : Bool) → (T b → T c) → (T c → T b) → b ≡ c
+same-truth true true f g = refl
+same-truth true false f g = absurd (f tt)
+same-truth false true f g = absurd (g tt)
+same-truth false false f g = refl
+
+pub eqb-comm : (m n : ℕ) → eqb m n ≡ eqb n m
+eqb-comm m n = same-truth (eqb m n) (eqb n m) (λ t. eq→eqb n m (sym (eqb→eq m n t))) (λ t. eq→eqb m n (sym (eqb→eq n m t)))
 
 -- ---- a test made in the course of a proof: what follows if it passes, and what if it fails
 pub by-cases : {P : Type 0} (b : Bool) → (T b → P) → (T (not b) → P) → P

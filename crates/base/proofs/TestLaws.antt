@@ -1,6 +1,6 @@
 -- Tests made one after the other: what a refusal and a passed test say, and that a chain passes just where each test does. Assumes nothing.
 use mathlib.Core.Path.{_≡_, refl, sym, ap, _∙_, subst}
-use mathlib.Core.Bool.{Bool, true, false, not}
+use mathlib.Core.Bool.{Bool, true, false, not, _&&_}
 use Prim.Native.Nat.{ℕ, suc, zero, _+_, _-_, _<_, _≤_}
 use native.Mathlib.Omega.{arith}
 use lib.Dec.{T, T-not, eqb→eq}
@@ -23,6 +23,9 @@ then-right v w t = rw (T-true (is-passed v) (then-left v w t)) at t
 
 pub then-both : (v w : Verdict) → T (is-passed v) → T (is-passed w) → T (is-passed (then-test v w))
 then-both v w t u = rw (T-true (is-passed v) t) u
+
+pub then-is : (v w : Verdict) → is-passed (then-test v w) ≡ is-passed v && is-passed w
+then-is v w = by-truth (is-passed v) (λ e. rw e) (λ e. rw e e)
 
 pub not-refused : (b : Bool) (n p q : ℕ) → T (is-passed (refuse-if b (refused (suc n) p q))) → T (not b)
 not-refused true n p q t = let e = eqb→eq (suc n) 0 t in absurd (omega arith)

@@ -24,3 +24,6 @@ pub mod Solving
 pub mod EqualEnds
 -- constraints with both sides empty
 pub mod Skipped
+-- places past a side's number; opposite sides exchanged
+pub mod NeverRead
+pub mod Turned

@@ -11,7 +11,7 @@ use lib.Ieee.{Float, binary64, ofBits}
 use Rattle.base.specs.Lists.{all}
 use Rattle.regions.specs.Region.{Constraint, places, from-region, side, constraints, graph, side-sum, side-size}
 use Rattle.base.specs.declared.verdict.Verdict.{Verdict}
-use Rattle.base.specs.Refusal.{refused, outcome, is-passed, then-test, refuse-if}
+use Rattle.base.specs.Refusal.{passed, refused, outcome, is-passed, then-test, refuse-if}
 use Rattle.counts.specs.Cost.{Spacing, by, within, edges-of, energy-from}
 use Rattle.regions.specs.Accept.{limits-test, overused-test, regions-test}
 use Rattle.counts.specs.Values.{counts-test, limit-test, spacing-limits, lengths-test, spacing-lengths, spacing-test, values-test}
@@ -57,6 +57,33 @@ pub solve-limits-first : (p : ℕ) (regions : List ℕ) (spacing : Spacing) (roo
     ≡ solve-order p regions spacing room limit last
 unfolding solve-order
 solve-limits-first p regions spacing room limit last = then-test-assoc (spacing-limits p spacing regions) (limit-test limit) _
+
+-- the tests before those of the regions read the records by 1 alone
+module _ (p : ℕ) (regions regions' : List ℕ) (limits : (n : ℕ) → limits-test p n regions ≡ limits-test p n regions') where
+  spacing-limits-same : (spacing : Spacing) → spacing-limits p spacing regions ≡ spacing-limits p spacing regions'
+  spacing-limits-same (by ideals) = limits (length ideals)
+  spacing-limits-same (within least most) = rw (limits (length least), limits (length most))
+
+  pub round-order-same : (spacing : Spacing) (counts : List ℕ) (limit : ℕ) (last : Verdict)
+      → round-order p regions spacing counts limit last ≡ round-order p regions' spacing counts limit last
+  unfolding round-order
+  round-order-same spacing counts limit last = rw (spacing-limits-same spacing, limits (length counts))
+
+  pub solve-order-same : (spacing : Spacing) (room limit : ℕ) (last : Verdict)
+      → solve-order p regions spacing room limit last ≡ solve-order p regions' spacing room limit last
+  unfolding solve-order
+  solve-order-same spacing room limit last = rw (spacing-limits-same spacing)
+
+-- what is tested of the regions comes last
+pub round-order-then : (p : ℕ) (regions : List ℕ) (spacing : Spacing) (counts : List ℕ) (limit : ℕ) (last : Verdict)
+    → round-order p regions spacing counts limit last ≡ then-test (round-order p regions spacing counts limit passed) last
+unfolding round-order
+round-order-then p regions spacing counts limit last = simp then-test-assoc
+
+pub solve-order-then : (p : ℕ) (regions : List ℕ) (spacing : Spacing) (room limit : ℕ) (last : Verdict)
+    → solve-order p regions spacing room limit last ≡ then-test (solve-order p regions spacing room limit passed) last
+unfolding solve-order
+solve-order-then p regions spacing room limit last = simp then-test-assoc
 
 -- ---- what the tests let by
 

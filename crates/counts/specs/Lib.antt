@@ -7,5 +7,6 @@ pub mod OddMoves
 pub mod Round
 pub mod Search
 pub mod Solver
+pub mod Turned
 pub mod Values
 pub mod inner

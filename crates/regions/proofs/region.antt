@@ -1,2 +1,3 @@
 -- The laws of the region records. Assumes nothing.
 pub mod Constraints
+pub mod Exchanged

@@ -61,7 +61,7 @@ abbrev pub each-fits : ℕ → ℕ → List ℕ → Bool
 each-fits p zero l = true
 each-fits p (suc m) l = leb (getD l 0 0) p && each-fits p m (drop (side-size p) l)
 
-next-side : (p k : ℕ) (l : List ℕ) → drop (side-size p) (drop (k * side-size p) l) ≡ drop (suc k * side-size p) l
+pub next-side : (p k : ℕ) (l : List ℕ) → drop (side-size p) (drop (k * side-size p) l) ≡ drop (suc k * side-size p) l
 next-side p k l = rw (drop-drop, ← suc-mul)
 
 -- the number of edges of side k, with the sides before it dropped
@@ -152,6 +152,13 @@ limits-passed p n l e =
 -- what is left of a list from an index on
 pub rest : {A : Type 0} (at : ℕ) (l : List A) → take (length l - at) (drop at l) ≡ drop at l
 rest at l = take-all (length l - at) (drop at l) (let e = length-drop at l in omega arith)
+
+-- record r behind the first
+pub from-next : (p r : ℕ) (l : List ℕ) → from-region p (drop (record-size p) l) r ≡ from-region p l (suc r)
+from-next p r l =
+    let q = suc-mul r (record-size p) in
+    let e : record-size p + r * record-size p ≡ suc r * record-size p = omega (arith, q) in
+    rw (drop-drop, e)
 
 -- a turn of a loop over m records, at record r
 module _ (p m r : ℕ) (l : List ℕ) (h : r < m) where
