@@ -45,7 +45,7 @@ pub fn stack(lines: &[usize]) -> Farm {
 }
 
 /// Each side's edges on the next side.
-fn turned(mut farm: Farm) -> Farm {
+fn rotated(mut farm: Farm) -> Farm {
     farm.regions.chunks_exact_mut(limits::RECORD).for_each(|record| record.rotate_right(limits::SIDE));
     farm
 }
@@ -95,7 +95,7 @@ fn full_stack(edges: usize) -> Wide {
 
 /// Two regions side by side, three upright lines.
 fn three_lines(edges: usize) -> Wide {
-    let farm = turned(stack(&[edges; 3]));
+    let farm = rotated(stack(&[edges; 3]));
     let (line, ideals) = (edges as u32, sparse(farm.edges, 19));
     // From an outer line: itself, each edge of the middle one with all behind it, the others of its own.
     let entries = 1 + line * (1 + line) + line - 1;

@@ -9,8 +9,10 @@
 //! - `farm`: records, and farms made of rows.
 //! - `lay`: 01's lay, which the Rust does not have.
 //! - `ranges`: a plain model of rounds and solves within ranges, which the Rust does not have.
+//! - `turned`: sheets turned round (02, item 13).
 //! - `stored`, `grids`: stored cases of the solver and of geometry; `json`, `vector`: from the vectors; `dice`, `generate`,
-//!   `generate_wide`, `generate_geometry`, `generate_ranges`, `generate_limits`: made here; `pack`: as bytes (src/bin/stored.rs).
+//!   `generate_wide`, `generate_geometry`, `generate_ranges`, `generate_limits`, `generate_turned`: made here; `pack`: as bytes
+//!   (src/bin/stored.rs).
 //! - `tool`: how a tool ends.
 
 include!(concat!(env!("OUT_DIR"), "/published.rs"));
@@ -25,6 +27,7 @@ pub mod generate;
 pub mod generate_geometry;
 pub mod generate_limits;
 pub mod generate_ranges;
+pub mod generate_turned;
 pub mod generate_wide;
 pub mod geometry;
 pub mod grids;
@@ -39,6 +42,7 @@ pub mod stored;
 #[cfg(feature = "library")]
 pub mod together;
 pub mod tool;
+pub mod turned;
 pub mod vector;
 pub mod words;
 

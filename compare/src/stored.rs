@@ -146,6 +146,17 @@ impl Case {
         }
     }
 
+    /// The region records of a case that has any.
+    pub fn records(&mut self) -> Option<&mut Vec<u16>> {
+        match self {
+            Case::Solve(case) => Some(&mut case.records),
+            Case::Round(case) => Some(&mut case.records),
+            Case::Rounds(case) => Some(&mut case.records),
+            Case::Hold(case) => Some(&mut case.records),
+            _ => None,
+        }
+    }
+
     /// The entries of all searches of the case, counted no further than just past `most`.
     pub fn effort(&self, most: usize) -> usize {
         match self {

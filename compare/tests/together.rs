@@ -1,11 +1,12 @@
 //! The tools that link this library: differences are found, and bad input gets a clear error and a non-zero exit.
 #![cfg(feature = "library")]
 
+use compare::farm::record;
 use compare::limits::{RECORD, SIDE_EDGES};
 use compare::stored::Case;
 use compare::together::call::{difference, Call, Spacing, Step};
-use compare::together::{expected, line};
-use compare::{former, generate_limits, generate_ranges};
+use compare::together::{expected, line, turned};
+use compare::{former, generate_limits, generate_ranges, generate_turned};
 use std::process::{Command, Output};
 
 fn replay(arguments: &[&str]) -> Output {
@@ -149,17 +150,17 @@ fn written_limits() {
         }
         for call in calls {
             let effects = expected::effects(&call).expect("the oracle and the model answer");
-            let (again, came) = line::read(&line::write("a", &call, &effects)).expect("a line").case.expect("no inner function");
+            let (again, came) = line::read(&line::write("a", "", &call, &effects)).expect("a line").case.expect("no inner function");
             assert_eq!(again, call);
             assert_eq!(difference(&effects, &came), None, "{call:?}");
         }
     }
 }
 
-/// The generated cases of ranges and of limits, which `scale` does not make.
+/// The generated cases of ranges, of limits and of turned sheets, which `scale` does not make.
 #[test]
 fn generated() {
-    let cases = [generate_ranges::all(), generate_limits::all()];
+    let cases = [generate_ranges::all(), generate_limits::all(), generate_turned::all()];
     for case in cases.into_iter().flat_map(|cases| cases.expect("the oracle and the model answer")) {
         let call = match case {
             Case::Solve(c) => Call::Solve { regions: c.records, spacing: c.spacing, counts: c.before, limit: c.limit },
@@ -168,9 +169,71 @@ fn generated() {
                 let steps = c.steps.into_iter().map(|step| Step::new(step.spacing, step.limit)).collect();
                 Call::Rounds { regions: c.records, counts: c.before, steps }
             }
-            other => panic!("{} has no limit", other.operation()),
+            Case::Hold(c) => Call::Hold { regions: c.records, counts: c.counts },
+            other => panic!("{} is not generated here", other.operation()),
         };
         let effects = expected::effects(&call).expect("the oracle and the model answer");
         assert_eq!(difference(&effects, &call.made()), None, "{call:?}");
     }
+}
+
+// ------------------------------------------------------------------------------------------------------------------------------------
+// Turned sheets
+// ------------------------------------------------------------------------------------------------------------------------------------
+
+/// A round on one tile with these edges at its bottom and its top; by two entries a search comes to one edge of each.
+fn tile(bottom: &[u16], top: &[u16]) -> Call {
+    Call::Round { regions: record([bottom, &[], top, &[]]), counts: vec![0; 3], step: Step::new(vec![1.0; 3], 2) }
+}
+
+/// The lines of two calls, the second one said to be the first on a turned sheet.
+fn pair(before: &Call, after: &Call) -> String {
+    let effects = |call| expected::effects(call).expect("the oracle answers");
+    let lines = [line::write("a", "", before, &effects(before)), line::write("b", turned::RULE, after, &effects(after))];
+    lines.join("\n") + "\n"
+}
+
+#[test]
+fn turned_sheets() {
+    let (call, same) = (tile(&[0], &[1, 2]), tile(&[1, 2], &[0]));
+    let output = replayed("turned", pair(&call, &same).as_bytes());
+    assert_eq!(output.status.code(), Some(0));
+    assert!(String::from_utf8_lossy(&output.stdout).contains("2 as expected, 0 different"));
+    assert!(String::from_utf8_lossy(&output.stdout).contains("1 are the case before on a turned sheet"));
+    let mut later = same.clone();
+    if let Call::Round { step, .. } = &mut later {
+        step.limit = None;
+    }
+    let not_turned = [
+        ("as-it-was", pair(&call, &call), "line 2: turned sheet: no sides are exchanged"),
+        ("backwards", pair(&call, &tile(&[2, 1], &[0])), "line 2: turned sheet: the regions are not those of the case before, turned"),
+        ("input", pair(&call, &later), "line 2: turned sheet: besides the regions, the input is not that of the case before"),
+        (
+            "answer",
+            pair(&call, &same).replacen("\"cut\":1", "\"cut\":0", 1),
+            "line 2: turned sheet: the answer is not that of the case before: cut: expected 0, came 1",
+        ),
+        (
+            "first",
+            pair(&call, &same).lines().skip(1).map(|line| format!("{line}\n")).collect(),
+            "line 1: turned sheet: there is no case before it",
+        ),
+    ];
+    for (name, text, words) in not_turned {
+        complains(&replayed(&format!("turned-{name}"), text.as_bytes()), words);
+    }
+}
+
+/// What `scale` holds a turned call against: all is the same but 3 to 5, which stay in their region and pair of sides.
+#[test]
+fn effects_of_turned_sheets() {
+    let effects = |call: &Call| expected::effects(call).expect("the oracle answers");
+    let differs = |before: &Call, after: &Call| turned::difference(&effects(before), &after.made()).is_some();
+    assert!(!differs(&tile(&[0], &[1, 2]), &tile(&[1, 2], &[0])));
+    assert!(differs(&tile(&[0], &[1, 2]), &tile(&[2, 1], &[0])));
+    assert!(!differs(&tile(&[3], &[0, 0]), &tile(&[0, 0], &[3])));
+    assert!(differs(&tile(&[3], &[0, 0]), &tile(&[0], &[1, 2])));
+    let on = |sides: [&[u16]; 4]| Call::Hold { regions: record(sides), counts: vec![1, 1, 2] };
+    assert!(!differs(&on([&[2], &[], &[0, 1], &[]]), &on([&[0, 1], &[], &[2], &[]])));
+    assert!(differs(&on([&[2], &[], &[0, 1], &[]]), &on([&[2], &[], &[0], &[]])));
 }

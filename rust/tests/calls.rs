@@ -381,3 +381,38 @@ fn tiles_fit() {
         }
     }
 }
+
+/// The regions with sides exchanged: two bits of `choice` for each, the lower one for sides 0 and 2.
+fn turned(regions: &[Region], choice: usize) -> Vec<Region> {
+    let mut turned = regions.to_vec();
+    for (index, region) in turned.iter_mut().enumerate() {
+        for side in (0..2).filter(|side| choice >> (2 * index + side) & 1 == 1) {
+            region.sides.swap(side, side + 2);
+        }
+    }
+    turned
+}
+
+/// It does not matter which of two opposite sides is taken for the bottom, or for the left: counts, moves, costs and cut marks are the same
+/// at every limit, for both kinds of ideal.
+#[test]
+fn turned_sheets() {
+    let regions = [region([&[0], &[1], &[2, 3], &[4]]), region([&[2], &[5], &[6], &[7]]), region([&[3], &[8], &[9], &[5]])];
+    let ideals: Vec<f64> = (0..10).map(|e| 1.5 + f64::from(e * 7 % 11) / 2.0).collect();
+    let ranges: Vec<_> = ideals.iter().map(|&x| x..=1.25 * x).collect();
+    for limit in [UNSTATED, at(0), at(3), at(6), at(100_000)] {
+        let answers = |regions: &[Region]| {
+            let (mut by, mut within) = ([2, 0, 1, 4, 3, 1, 0, 2, 5, 1], [0; 10]);
+            let rounds = (round(regions, &ideals, &mut by, limit), round_within(regions, &ranges, &mut within, limit));
+            (rounds, by, within, solve(regions, &ideals, limit), solve_within(regions, &ranges, limit))
+        };
+        let as_it_was = answers(&regions);
+        assert!(as_it_was.3.is_ok());
+        for choice in 0..64 {
+            assert_eq!(answers(&turned(&regions, choice)), as_it_was, "{choice} {limit:?}");
+        }
+    }
+    // What can matter is the order in which a side lists its edges.
+    let top = |edges: &[usize]| solve(&[region([&[0], &[], edges, &[]])], &[1.0; 3], UNSTATED).unwrap().counts;
+    assert_eq!([top(&[1, 2]), top(&[2, 1])], [vec![1, 1, 0], vec![1, 0, 1]]);
+}

@@ -1,7 +1,8 @@
-//! replay FILES..: runs the vectors of the files through this library's exported functions; prints each that differs. Exit status 0 only
-//! if none does.
+//! replay FILES..: runs the vectors of the files through this library's exported functions; prints each that differs. A case on a turned
+//! sheet is held against the case before it too. Exit status 0 only if none differs.
 
-use compare::together::{call, check_version, line};
+use compare::together::line::Line;
+use compare::together::{call, check_version, line, turned};
 use compare::tool::ended;
 use std::process::ExitCode;
 use std::{env, fs};
@@ -29,12 +30,15 @@ fn replay(path: &str) -> Result<usize, String> {
     if !text.ends_with('\n') {
         return Err(format!("{path}: cut off: the last line has no end"));
     }
-    let (mut same, mut inner, mut different) = (0, 0, 0);
+    let (mut same, mut inner, mut different, mut of_turned) = (0, 0, 0, 0);
+    let mut before = None;
     for (number, text) in (1..).zip(text.lines()) {
-        let line = line::read(text).map_err(|problem| format!("{path}, line {number}: {problem}"))?;
-        match line.case {
+        let told = |problem| format!("{path}, line {number}: {problem}");
+        let line = line::read(text).map_err(told)?;
+        of_turned += usize::from(is_turned(before.as_ref(), &line).map_err(told)?);
+        match &line.case {
             None => inner += 1,
-            Some((call, expected)) => match call::difference(&expected, &call.made()) {
+            Some((call, expected)) => match call::difference(expected, &call.made()) {
                 None => same += 1,
                 Some(what) => {
                     println!("{path}, line {number}, {} ({}): {what}", line.id, line.function);
@@ -42,7 +46,24 @@ fn replay(path: &str) -> Result<usize, String> {
                 }
             },
         }
+        before = Some(line);
     }
-    println!("{path}: {same} as expected, {different} different, {inner} of inner functions, which are not exported");
+    let turned = if of_turned == 0 { String::new() } else { format!("; {of_turned} are the case before on a turned sheet") };
+    println!("{path}: {same} as expected, {different} different, {inner} of inner functions, which are not exported{turned}");
     Ok(different)
+}
+
+/// Whether a line is on a turned sheet. If it says so it must be: the case before with pairs of sides exchanged, and so answered.
+fn is_turned(before: Option<&Line>, line: &Line) -> Result<bool, String> {
+    if !line.rule.contains(turned::RULE) {
+        return Ok(false);
+    }
+    let told = |problem: &str| format!("{}: {problem}", turned::RULE);
+    match (before.and_then(|before| before.case.as_ref()), &line.case) {
+        (Some(before), Some(case)) => match turned::held(before, case).map_err(|problem| told(&problem))? {
+            0 => Err(told("no sides are exchanged")),
+            _ => Ok(true),
+        },
+        _ => Err(told("there is no case before it")),
+    }
 }

@@ -5,7 +5,7 @@
 
 use compare::stored::{self, Case};
 use compare::tool::ended;
-use compare::{generate, generate_geometry, generate_limits, generate_ranges, pack, vector};
+use compare::{generate, generate_geometry, generate_limits, generate_ranges, generate_turned, pack, vector};
 use std::collections::HashSet;
 use std::process::ExitCode;
 use std::{env, fs};
@@ -27,6 +27,7 @@ fn run() -> Result<(), String> {
     cases.extend(affordable("the solver", generate::all()?));
     cases.extend(affordable("ranges", generate_ranges::all()?));
     cases.extend(affordable("limits", generate_limits::all()?));
+    cases.extend(affordable("turned sheets", generate_turned::all()?));
     let generated = generate_geometry::all()?;
     println!("generated: {} of geometry", generated.len());
     cases.extend(generated);

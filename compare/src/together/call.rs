@@ -134,6 +134,16 @@ impl Call {
         }
     }
 
+    /// The regions of a call of the solver.
+    pub fn regions(&mut self) -> Option<&mut Vec<u16>> {
+        match self {
+            Call::Solve { regions, .. } | Call::Round { regions, .. } | Call::Rounds { regions, .. } | Call::Hold { regions, .. } => {
+                Some(regions)
+            }
+            _ => None,
+        }
+    }
+
     /// Makes the call: one effect for each round of a list, else just one.
     pub fn made(&self) -> Vec<Effect> {
         match self {

@@ -4,10 +4,12 @@ use super::call::{Call, Effect, Sides, Spacing, Step, LENT_FLOAT, LENT_NUMBER};
 use crate::json::{parse, Json};
 use crate::vector::{flag, float, limit, limit_of_solve, records, spacing, whole, INNER};
 
-/// A line: its name, and the call with its effects; none of an inner function, which is not exported.
+/// A line: its name, the rule that it is meant to hit if it says one, and the call with its effects; none of an inner function, which is
+/// not exported.
 pub struct Line {
     pub id: String,
     pub function: String,
+    pub rule: String,
     pub case: Option<(Call, Vec<Effect>)>,
 }
 
@@ -21,10 +23,11 @@ pub fn read(text: &str) -> Result<Line, String> {
         Json::Text(id) => id.clone(),
         other => other.number()?.to_string(),
     };
+    let rule = line.field("rule").map_or(Ok(""), Json::text)?.to_string();
     let (given, out) = (line.field("in")?, line.field("out")?);
     let inner = INNER.contains(&function.as_str());
     let case = if inner { None } else { Some(case(&function, given, out)?) };
-    Ok(Line { id, function, case })
+    Ok(Line { id, function, rule, case })
 }
 
 fn case(function: &str, given: &Json, out: &Json) -> Result<(Call, Vec<Effect>), String> {
@@ -196,13 +199,14 @@ fn mesh(out: &Json, points: usize, indices: usize) -> Result<Effect, String> {
 // Writing
 // ------------------------------------------------------------------------------------------------------------------------------------
 
-/// The line of a call with its effects.
-pub fn write(id: &str, call: &Call, effects: &[Effect]) -> String {
+/// The line of a call with its effects; `rule` may be empty.
+pub fn write(id: &str, rule: &str, call: &Call, effects: &[Effect]) -> String {
     let out = match call {
         Call::Rounds { .. } => format!("{{\"steps\":{}}}", items(effects, |effect| out_text(call, effect))),
         _ => effects.iter().map(|effect| out_text(call, effect)).collect(),
     };
-    format!("{{\"id\":\"{id}\",\"fn\":\"{}\",\"in\":{{{}}},\"out\":{out}}}", call.function(), in_text(call))
+    let rule = if rule.is_empty() { String::new() } else { format!("\"rule\":\"{rule}\",") };
+    format!("{{\"id\":\"{id}\",\"fn\":\"{}\",{rule}\"in\":{{{}}},\"out\":{out}}}", call.function(), in_text(call))
 }
 
 fn items<T>(list: &[T], show: impl Fn(&T) -> String) -> String {

@@ -3,7 +3,7 @@
 //! - `library`: the exported functions, by the users' package's file.
 //! - `call`: a call with all that it is lent, and its effect.
 //! - `line`: a call and its effect as a line of the vectors' format.
-//! - `expected`: the effect that the oracle and 01 give.
+//! - `expected`: the effect that the oracle and 01 give; `turned`: that of the same call on a turned sheet.
 //! - `clock`, `farms`, `speed`, `growth`, `plot`: both timed in turn; `speed_ranges`: within ranges beside by ideals, and beside the model;
 //!   `speed_limits`: solves without a limit.
 //! - `beside`: two builds of this library, timed in turn.
@@ -24,6 +24,7 @@ pub mod scale;
 pub mod speed;
 pub mod speed_limits;
 pub mod speed_ranges;
+pub mod turned;
 
 /// These tools call the archive past the package, so they look themselves whether it is of the package's version.
 pub fn check_version() -> Result<(), String> {

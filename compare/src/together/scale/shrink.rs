@@ -15,10 +15,15 @@ pub fn differs(call: &Call) -> bool {
 
 /// A call with this property of which no simpler one has it.
 pub fn smallest(call: Call, has: impl Fn(&Call) -> bool) -> Call {
+    smaller(call, TRIES, has)
+}
+
+/// The same, but no more than so many calls are tried.
+pub fn smaller(call: Call, tries: usize, has: impl Fn(&Call) -> bool) -> Call {
     let mut call = call;
-    let mut tries = 0;
-    while tries < TRIES {
-        let Some(next) = simpler(&call).inspect(|_| tries += 1).find(&has) else {
+    let mut left = tries;
+    while left > 0 {
+        let Some(next) = simpler(&call).take(left).inspect(|_| left -= 1).find(&has) else {
             break;
         };
         call = next;
@@ -63,11 +68,8 @@ fn rounds(call: &Call, found: &mut Vec<Call>) {
 
 fn records(call: &mut Call) -> Option<&mut Vec<u16>> {
     match call {
-        Call::Solve { regions, .. } | Call::Round { regions, .. } | Call::Rounds { regions, .. } | Call::Hold { regions, .. } => {
-            Some(regions)
-        }
         Call::Lay { record, .. } => Some(record),
-        _ => None,
+        other => other.regions(),
     }
 }
 
