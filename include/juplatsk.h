@@ -37,6 +37,8 @@
  * JP_PLACES, 32, and then so many places for the numbers of the edges; places past the number of edges are not read. A list of regions
  * has whole records, at most 128. There are at most 256 edges. jp_set_side fills in a side. Up to version 0.2.0 a side had 16 places and a
  * record 68 numbers: whoever lays out records without these names has to change that by hand (CHANGELOG.md).
+ * Sides 0 and 2 are opposite, and 1 and 3. Rounds, solves and jp_constraints_hold do not look at which of two opposite sides is which: with
+ * such sides exchanged in any of them, accepted regions give the same answers and counts. The order of a side's edges can matter.
  *
  * Ideals and ranges
  * -----------------

@@ -9,6 +9,22 @@ use std::ops::RangeInclusive;
 ///
 /// Sides 0 and 2 list their edges from left to right, sides 1 and 3 from bottom to top. Opposite sides must come to equally many
 /// pieces. A side may be empty. It has at most 32 edges; there are at most 128 regions and 256 edges.
+///
+/// Rounds, solves and [`constraints_hold`] do not look at which of two opposite sides is which: with bottom and top exchanged, or right and
+/// left, in any tiles, they answer the same, if the tiles are accepted. The order of a side's edges can matter.
+///
+/// ```
+/// use juplatsk::{solve, Region, SearchLimit};
+///
+/// let counts = |bottom: &[usize], top: &[usize]| {
+///     let tile = Region::new([bottom.to_vec(), vec![], top.to_vec(), vec![]]);
+///     solve(&[tile], &[1.0, 1.0, 1.0], SearchLimit::Default).map(|solved| solved.counts)
+/// };
+/// assert_eq!(counts(&[0], &[1, 2])?, [1, 1, 0]);
+/// assert_eq!(counts(&[1, 2], &[0])?, [1, 1, 0]);
+/// assert_eq!(counts(&[0], &[2, 1])?, [1, 0, 1]);
+/// # Ok::<(), juplatsk::Refusal>(())
+/// ```
 #[derive(Clone, Debug, Default, PartialEq, Eq)]
 pub struct Region {
     /// Side `i` is the list of the numbers of its edges.
