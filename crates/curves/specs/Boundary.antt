@@ -4,17 +4,13 @@ use mathlib.Core.List.{List}
 use Prim.Native.Nat.{ℕ}
 use lib.Ieee.{Float, binary64, sub, mul, neg, lt, le, ofBits}
 use Rattle.base.specs.declared.verdict.Verdict.{Verdict}
-use Rattle.base.specs.Refusal.{refused, verdict-of, then-test, refuse-if}
-use Rattle.base.specs.Answers.{Answer, good, turned-away}
-use Rattle.base.specs.Tests.{if-passed}
+use Rattle.base.specs.Refusal.{refused, then-test, refuse-if}
 use Rattle.floats.specs.Scalar.{nought, one, e-9, float-abs, float-min, float-max}
 use Rattle.curves.specs.Point.{signed-area}
 use Rattle.curves.specs.Curve.{ArcCurve, arc-curve, curve-at, curve-test}
 use Rattle.curves.specs.declared.point.Point.{Point}
 use Rattle.curves.specs.declared.boundary.Ends.{Ends}
 use Rattle.curves.specs.declared.boundary.BoundaryEnds.{BoundaryEnds}
-use Rattle.curves.specs.declared.boundary.BoundaryAnswer.{BoundaryAnswer}
-use Rattle.curves.specs.declared.boundary.BoundaryAnswer.the-variants.{Joined, Refused}
 
 -- counter-clockwise: bottom left to right, right bottom to top, top right to left, left top to bottom
 pub record BoundaryCurves : Type 0 where
@@ -102,14 +98,3 @@ curves-test bottom right top left = then-test (curve-test bottom 0) (then-test (
 unfoldable pub checked-curves : List Float → List Float → List Float → List Float → Verdict
 unfolding curves-test curve-ends ends-test
 checked-curves bottom right top left = then-test (curves-test bottom right top left) (ends-test (boundary-ends (boundary-of bottom right top left)))
-
--- the ends of curves that are not refused
-unfoldable pub joined-curves : List Float → List Float → List Float → List Float → Answer BoundaryEnds
-unfolding checked-curves
-joined-curves bottom right top left = if-passed (checked-curves bottom right top left) (good (boundary-ends (boundary-of bottom right top left))) turned-away
-
--- 01's number, places and values of each case
-unfoldable pub joined-of : BoundaryAnswer → Answer BoundaryEnds
-unfolding verdict-of
-joined-of (Joined e) = good e
-joined-of (Refused r) = turned-away (verdict-of r)

@@ -8,10 +8,11 @@ use lib.Dec.{ltb}
 use lib.Ieee.{Float, nan, binary64, add, sub, mul, div, lt, le}
 use Rattle.base.specs.declared.verdict.Verdict.{Verdict}
 use Rattle.base.specs.Refusal.{refused, then-test, refuse-if}
+use Rattle.base.specs.Answers.{Answer, good, turned-away}
 use Rattle.floats.specs.Scalar.{nought, is-finite, is-positive, clamp-unit}
 use Rattle.floats.specs.Root.{root}
 use Rattle.curves.specs.Point.{point}
-use Rattle.base.specs.Buffers.{tabulate}
+use Rattle.base.specs.Buffers.{concat-tabulate}
 use Rattle.curves.specs.declared.point.Point.{Point}
 use Rattle.curves.specs.declared.curve.Knot.{Knot}
 use Rattle.curves.specs.declared.curve.Segment.{Segment}
@@ -42,25 +43,35 @@ length-to points (suc k) = add binary64 (length-to points k) (distance (point-at
 abbrev pub total-length : List Float → Float
 total-length points = length-to points (point-count points - 1)
 
-pub record ArcCurve : Type 0 where
-  pub points : List Float
-  pub cumulative : List Float
+-- ---- the knots: "struct of x, y and cumulative length"
 
-abbrev pub curve : List Float → List Float → ArcCurve
-curve points cumulative = record { points = points; cumulative = cumulative }
+-- the point k with the length run so far
+abbrev pub knot-of : List Float → ℕ → Knot
+knot-of points k = record { x = point-at points k .x; y = point-at points k .y; length = length-to points k }
 
-unfoldable pub cumulative-of : List Float → List Float
+-- a knot as it stands in a list
+abbrev pub knot-values : Knot → List Float
+knot-values k = k .x ∷ k .y ∷ k .length ∷ []
+
+-- a curve is its knots, each as x, y, length
+abbrev pub ArcCurve : Type 0
+ArcCurve = List Float
+
+-- 000's `ArcCurve::new`, of a curve that is not refused: "holds each point with the length run so far"
+unfoldable pub arc-curve : List Float → ArcCurve
 unfolding length-to
-cumulative-of points = tabulate (length-to points) 0 (point-count points)
+arc-curve points = concat-tabulate (λ (k : ℕ). knot-values (knot-of points k)) 0 (point-count points)
 
--- 000's `ArcCurve::new`, of a curve that is not refused
-abbrev pub arc-curve : List Float → ArcCurve
-arc-curve points = curve points (cumulative-of points)
+abbrev pub knot-count : ArcCurve → ℕ
+knot-count c = length c / 3
 
--- ---- a segment, and the blend of its two ends
+abbrev pub length-at : ArcCurve → ℕ → Float
+length-at c k = getD c (3 * k + 2) nan
 
 abbrev pub knot : ArcCurve → ℕ → Knot
-knot c k = record { x = getD (c .points) (2 * k) nan; y = getD (c .points) (2 * k + 1) nan; length = getD (c .cumulative) k nan }
+knot c k = record { x = getD c (3 * k) nan; y = getD c (3 * k + 1) nan; length = length-at c k }
+
+-- ---- a segment, and the blend of its two ends
 
 abbrev pub segment : ArcCurve → ℕ → Segment
 segment c k = record { start = knot c k; end = knot c (k + 1) }
@@ -85,33 +96,36 @@ blend s target = toward (s .start) (s .end) (fraction s target)
 
 -- From lo and hi, which are more than one apart where the Bool says so: the half that holds the target, an equal middle going right. The first
 -- number bounds the steps.
-unfoldable pub halve : List Float → Float → ℕ → Bool → ℕ → ℕ → ℕ
+unfoldable pub halve : ArcCurve → Float → ℕ → Bool → ℕ → ℕ → ℕ
 unfolding le
-halve lengths target zero apart lo hi = lo
-halve lengths target (suc k) false lo hi = lo
-halve lengths target (suc k) true lo hi =
+halve c target zero apart lo hi = lo
+halve c target (suc k) false lo hi = lo
+halve c target (suc k) true lo hi =
     let mid = (lo + hi) / 2 in
-    let right = le (getD lengths mid nan) target in
+    let right = le (length-at c mid) target in
     let l = cond right mid lo in
     let h = cond right hi mid in
-    halve lengths target k (ltb 1 (h - l)) l h
+    halve c target k (ltb 1 (h - l)) l h
 
 -- the number of the segment in which the target lies
-unfoldable pub segment-at : List Float → Float → ℕ
+unfoldable pub segment-at : ArcCurve → Float → ℕ
 unfolding halve
-segment-at lengths target = let last = length lengths - 1 in halve lengths target (last - 0) (ltb 1 (last - 0)) 0 last
+segment-at c target = let last = knot-count c - 1 in halve c target last (ltb 1 last) 0 last
 
--- where the clamped parameter t lies on the curve
-unfoldable pub along : ArcCurve → Float → Point
-unfolding mul segment-at blend
-along c t =
-    let target = mul binary64 t (getD (c .cumulative) (length (c .cumulative) - 1) nan) in
-    blend (segment c (segment-at (c .cumulative) target)) target
+-- the length to run to the clamped parameter t: a fraction of 000's `total`, which is the last knot's length
+unfoldable pub target-of : ArcCurve → Float → Float
+unfolding mul clamp-unit
+target-of c t = mul binary64 (clamp-unit t) (getD c (length c - 1) nan)
 
 -- 000's `ArcCurve::at`
 unfoldable pub curve-at : ArcCurve → Float → Point
-unfolding clamp-unit along
-curve-at c t = along c (clamp-unit t)
+unfolding target-of segment-at blend
+curve-at c t = let target = target-of c t in blend (segment c (segment-at c target)) target
+
+-- and its refusal: "a curve point (..) stands in the good case", and a curve without a segment is 13, at its side
+unfoldable pub at-answer : ArcCurve → ℕ → Float → Answer Point
+unfolding curve-at
+at-answer c side t = cond (ltb (knot-count c) 2) (turned-away (refused 13 side 0)) (good (curve-at c t))
 
 -- ---- "curve under two points; point not finite; length 0 or not finite": 13, 14, 15
 

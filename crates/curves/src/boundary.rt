@@ -1,13 +1,14 @@
 // The four boundary curves of a patch, counter-clockwise: bottom left to right, right bottom to top, top right to left, left top to
 // bottom. Each is tested by itself (13 to 15), then whether they join (16) and how they wind (17).
 ghost use mathlib.Core.Path.{_≡_};
+ghost use Prim.Native.Nat.{_≤_};
 ghost use Rattle.base.specs.Refusal.{outcome};
-ghost use Rattle.curves.specs.Boundary.{curve-ends, boundary-ends, lowest, highest, tolerance};
-ghost use Rattle.curves.specs.Boundary.{corner-test, winding-test, ends-test, joined-of};
-ghost use Rattle.curves.specs.inner.Segments.{Sampled};
-ghost use Rattle.curves.specs.inner.Curves.{lent, lent-curve, lent-curves, SampledCurves, TablesFit, CurvesChecked};
+ghost use Rattle.curves.specs.Curve.{knot-count};
+ghost use Rattle.curves.specs.Boundary.{curve-ends, boundary-ends, lowest, highest, tolerance, corner-test, winding-test, ends-test};
+ghost use Rattle.curves.specs.inner.Curves.{lent, starts-of, curves-in, CurvesPlaced, KnotsFit, FourLengths, joined-of, CurvesChecked};
 use crate::curve::curve_at;
 use crate::curve::new_curve;
+use crate::limits::KNOT_SIZE;
 use crate::point::Point;
 use crate::point::signed_area;
 use base::refusal::Check;
@@ -29,9 +30,23 @@ pub(crate) struct BoundaryEnds {
     pub(crate) left: Ends,
 }
 
-// Where the curves begin and end, once they are found to join; or why they are refused.
+// Where the knots of sides 1 to 3 begin in the list of all knots, and where those of side 3 end. Those of side 0 begin at 0.
+pub(crate) struct Starts {
+    pub(crate) right: usize,
+    pub(crate) top: usize,
+    pub(crate) left: usize,
+    pub(crate) end: usize,
+}
+
+// Four curves that join: where they stand in the list of knots, and the ends of bottom and top, by which every point of the patch goes.
+pub(crate) struct Patch {
+    pub(crate) starts: Starts,
+    pub(crate) bottom: Ends,
+    pub(crate) top: Ends,
+}
+
 pub(crate) enum BoundaryAnswer {
-    Joined(BoundaryEnds),
+    Joined(Patch),
     Refused(Refusal),
 }
 
@@ -107,36 +122,30 @@ fn check_ends(e: BoundaryEnds) -> Check
     corner0.and(from1)
 }
 
-fn curve_ends(points: &[f64], lengths: &[f64]) -> Ends
-    requires { ⌜ Sampled (lent-curve points lengths) ⌝ }
-    ensures { λ r. ⌜ r ≡ curve-ends (lent-curve (points .entry) (lengths .entry)) ⌝ }
+// Where the curve of a side begins and ends.
+fn curve_ends(curve: &[f64], side: u32) -> Ends
+    requires { ⌜ 2 ≤ knot-count (now curve) ⌝ }
+    ensures { λ r. ⌜ r ≡ curve-ends (now (curve .entry)) ⌝ }
 {
-    let start = curve_at(points, lengths, 0.0);
-    let end = curve_at(points, lengths, 1.0);
+    let at_start = curve_at(curve, side, 0.0);
+    let at_end = curve_at(curve, side, 1.0);
+    let start = at_start.point();
+    let end = at_end.point();
     Ends { start, end }
 }
 
-// The curves of sides 0 to 3, each with its table of lengths.
-pub(crate) fn boundary_ends(
-    bottom: &[f64],
-    lengths0: &[f64],
-    right: &[f64],
-    lengths1: &[f64],
-    top: &[f64],
-    lengths2: &[f64],
-    left: &[f64],
-    lengths3: &[f64],
-) -> BoundaryEnds
-    requires { ⌜ SampledCurves (lent-curves bottom lengths0 right lengths1 top lengths2 left lengths3) ⌝ }
-    ensures { λ r.
-        let c = lent-curves (bottom .entry) (lengths0 .entry) (right .entry) (lengths1 .entry)
-        (top .entry) (lengths2 .entry) (left .entry) (lengths3 .entry) in
-        ⌜ r ≡ boundary-ends c ⌝ }
+fn boundary_ends(knots: &[f64], starts: Starts) -> BoundaryEnds
+    requires { ⌜ CurvesPlaced (now knots) starts ⌝ }
+    ensures { λ r. ⌜ r ≡ boundary-ends (curves-in (now (knots .entry)) starts) ⌝ }
 {
-    let of_bottom = curve_ends(bottom, lengths0);
-    let of_right = curve_ends(right, lengths1);
-    let of_top = curve_ends(top, lengths2);
-    let of_left = curve_ends(left, lengths3);
+    let right = starts.right;
+    let top = starts.top;
+    let left = starts.left;
+    let end = starts.end;
+    let of_bottom = curve_ends(&knots[..right], 0);
+    let of_right = curve_ends(&knots[right..top], 1);
+    let of_top = curve_ends(&knots[top..left], 2);
+    let of_left = curve_ends(&knots[left..end], 3);
     BoundaryEnds {
         bottom: of_bottom,
         right: of_right,
@@ -145,50 +154,61 @@ pub(crate) fn boundary_ends(
     }
 }
 
-// Tests the curves of sides 0 to 3 (13 to 17), and writes their tables of lengths.
+// The knots of one curve after those of another, by the numbers of points.
+fn starts_of(bottom: usize, right: usize, top: usize, left: usize) -> Starts
+    requires { ⌜ FourLengths bottom right top left ⌝ }
+    ensures { λ r. ⌜ r ≡ starts-of bottom right top left ⌝ }
+{
+    let from_right = KNOT_SIZE * bottom;
+    let from_top = from_right + KNOT_SIZE * right;
+    let from_left = from_top + KNOT_SIZE * top;
+    let end = from_left + KNOT_SIZE * left;
+    Starts {
+        right: from_right,
+        top: from_top,
+        left: from_left,
+        end,
+    }
+}
+
+// Tests the curves of sides 0 to 3 (13 to 17), and writes their knots.
 pub(crate) fn checked_curves(
     bottom: &[f64],
-    lengths0: &mut [f64],
     right: &[f64],
-    lengths1: &mut [f64],
     top: &[f64],
-    lengths2: &mut [f64],
     left: &[f64],
-    lengths3: &mut [f64],
+    knots: &mut [f64],
 ) -> BoundaryAnswer
-    requires { ⌜ TablesFit (lent bottom right top left) (lent lengths0 lengths1 lengths2 lengths3) ⌝ }
+    requires { ⌜ KnotsFit (lent bottom right top left) (now knots) ⌝ }
     ensures { λ r.
         let points = lent (bottom .entry) (right .entry) (top .entry) (left .entry) in
-        let before = lent (lengths0 .entry) (lengths1 .entry) (lengths2 .entry) (lengths3 .entry) in
-        let after = lent (lengths0 .exit) (lengths1 .exit) (lengths2 .exit) (lengths3 .exit) in
-        ⌜ CurvesChecked points before after (joined-of r) ⌝ }
+        ⌜ CurvesChecked points (now (knots .exit)) (joined-of r) ⌝ }
 {
-    let of_bottom = new_curve(bottom, 0, lengths0);
-    let of_right = new_curve(right, 1, lengths1);
-    let of_top = new_curve(top, 2, lengths2);
-    let of_left = new_curve(left, 3, lengths3);
+    let starts = starts_of(
+        bottom.len() / 2,
+        right.len() / 2,
+        top.len() / 2,
+        left.len() / 2,
+    );
+    let of_bottom = new_curve(bottom, 0, 0, knots);
+    let of_right = new_curve(right, 1, starts.right, knots);
+    let of_top = new_curve(top, 2, starts.top, knots);
+    let of_left = new_curve(left, 3, starts.left, knots);
     let from_top = of_top.and(of_left);
     let from_right = of_right.and(from_top);
-    let from_bottom = of_bottom.and(from_right);
-    if let Check::Refused(cause) = from_bottom {
+    if let Check::Refused(cause) = of_bottom.and(from_right) {
         return BoundaryAnswer::Refused(cause);
     }
-    let n0 = bottom.len() / 2;
-    let n1 = right.len() / 2;
-    let n2 = top.len() / 2;
-    let n3 = left.len() / 2;
-    let ends = boundary_ends(
-        bottom,
-        &lengths0[..n0],
-        right,
-        &lengths1[..n1],
-        top,
-        &lengths2[..n2],
-        left,
-        &lengths3[..n3],
-    );
+    let ends = boundary_ends(knots, starts);
     if let Check::Refused(cause) = check_ends(ends) {
         return BoundaryAnswer::Refused(cause);
     }
-    BoundaryAnswer::Joined(ends)
+    let of_bottom_ends = ends.bottom;
+    let of_top_ends = ends.top;
+    let patch = Patch {
+        starts,
+        bottom: of_bottom_ends,
+        top: of_top_ends,
+    };
+    BoundaryAnswer::Joined(patch)
 }

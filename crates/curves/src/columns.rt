@@ -1,11 +1,14 @@
 // Columns of the patch that are worked out once for all the level lines of a grid.
 ghost use mathlib.Core.Path.{_≡_};
 ghost use Prim.Native.Nat.{_+_, _≤_};
-ghost use lib.ListN.{length};
+ghost use lib.ListN.{length, take};
 ghost use Rattle.base.specs.Buffers.{splice};
-ghost use Rattle.curves.specs.inner.Curves.{lent-curve};
+ghost use Rattle.curves.specs.inner.Curves.{curves-in};
 ghost use Rattle.curves.specs.inner.Columns.{column-values, stored-column, Table, level-points, ColumnsGiven, LevelRoom};
-use crate::boundary::Ends;
+ghost use Rattle.curves.specs.inner.Grids.{SeamColumns, LevelColumns};
+use crate::boundary::Patch;
+use crate::level::are_upright;
+use crate::limits::COLUMN_SIZE;
 use crate::patch::Column;
 use crate::patch::Row;
 use crate::patch::column_at;
@@ -58,33 +61,52 @@ fn store_column(u: f64, column: Column, from: usize, table: &mut [f64])
 }
 
 // The columns at the parameters of a seam.
-pub(crate) fn fill_columns(
-    bottom: &[f64],
-    lengths0: &[f64],
-    top: &[f64],
-    lengths2: &[f64],
-    b: Ends,
-    t: Ends,
+fn fill_columns(
+    knots: &[f64],
+    patch: Patch,
     seam: &[f64],
     hints: &mut [usize; 4],
     table: &mut [f64],
 )
-    requires { ⌜ ColumnsGiven (lent-curve bottom lengths0) (lent-curve top lengths2) (now seam) (now table) ⌝ }
+    requires { ⌜ ColumnsGiven (now knots) patch (now seam) (now table) ⌝ }
     ensures { λ _.
-        let on-bottom = lent-curve (bottom .entry) (lengths0 .entry) in
-        let on-top = lent-curve (top .entry) (lengths2 .entry) in
-        ⌜ Table on-bottom on-top b t (now (seam .entry)) (length (now (seam .entry))) (now (table .exit)) ⌝ }
+        let c = curves-in (now (knots .entry)) (patch .starts) in
+        let seam = now (seam .entry) in
+        ⌜ Table (c .bottom) (c .top) (patch .bottom) (patch .top) seam (length seam) (now (table .exit)) ⌝ }
 {
     let mut i = 0usize;
     let mut from = 0usize;
     while i < seam.len() {
         let value = seam[i];
         let u = clamp_unit(value);
-        let column = column_at(bottom, lengths0, top, lengths2, b, t, u, hints);
+        let column = column_at(knots, patch, u, hints);
         store_column(u, column, from, table);
         i += 1;
-        from += 9;
+        from += COLUMN_SIZE;
     }
+}
+
+// The same where all lines from bottom to top are upright, so that level lines can go by them; returns how many values they take. Else there are
+// none.
+pub(crate) fn level_columns(
+    knots: &[f64],
+    patch: Patch,
+    bottom_u: &[f64],
+    top_u: &[f64],
+    hints: &mut [usize; 4],
+    table: &mut [f64],
+) -> usize
+    requires { ⌜ SeamColumns (now knots) patch (now «bottom_u») (now «top_u») (now table) ⌝ }
+    ensures { λ r.
+        let c = curves-in (now (knots .entry)) (patch .starts) in
+        ⌜ LevelColumns c (patch .bottom) (patch .top) (now («bottom_u» .entry)) (now («top_u» .entry)) (now (table .exit)) r ⌝ }
+{
+    let upright = are_upright(bottom_u, top_u);
+    if !upright {
+        return 0;
+    }
+    fill_columns(knots, patch, bottom_u, hints, table);
+    COLUMN_SIZE * bottom_u.len()
 }
 
 // The n + 1 points of a level line: those of the table's columns on the row of the patch at v.
@@ -103,6 +125,6 @@ pub(crate) fn level_points(table: &[f64], row: Row, v: f64, n: usize, points: &m
         points[k + 1] = p.y;
         i += 1;
         k += 2;
-        from += 9;
+        from += COLUMN_SIZE;
     }
 }

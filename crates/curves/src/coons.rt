@@ -5,23 +5,23 @@ ghost use Rattle.base.specs.Refusal.{outcome};
 ghost use Rattle.curves.specs.Grid.{seams};
 ghost use Rattle.curves.specs.Coons.{outcome-of, grid-stage, patch, seam-limit, seams-limit, curve-limit, curves-limit, cells-limit};
 ghost use Rattle.curves.specs.Coons.{coons-from-parameters, coons-seamed, coons-curves, coons-quads, coons-nodes};
-ghost use Rattle.curves.specs.inner.Curves.{lent, lent-curves};
+ghost use Rattle.curves.specs.inner.Curves.{lent, curves-in};
 ghost use Rattle.curves.specs.inner.Grids.{lent-seams, StageGiven, TileGiven, TileShort, SmallTile, SmallGiven};
 use crate::boundary::BoundaryAnswer;
-use crate::boundary::Ends;
+use crate::boundary::Patch;
 use crate::boundary::checked_curves;
 use crate::grid::coons_grid;
 use crate::limits::MAX_CELLS;
+use crate::limits::MAX_COLUMNS;
 use crate::limits::MAX_CURVE;
-use crate::limits::MAX_POINTS;
-use crate::limits::MAX_ROW;
+use crate::limits::MAX_KNOTS;
+use crate::limits::MAX_ROWS;
 use crate::limits::MAX_SEAM;
-use crate::limits::MAX_TABLE;
+use crate::limits::SMALL_COLUMNS;
 use crate::limits::SMALL_CURVE;
-use crate::limits::SMALL_POINTS;
-use crate::limits::SMALL_ROW;
+use crate::limits::SMALL_KNOTS;
+use crate::limits::SMALL_ROWS;
 use crate::limits::SMALL_SEAM;
-use crate::limits::SMALL_TABLE;
 use crate::rows::Layout;
 use crate::rows::needed;
 use crate::seam::check_seams;
@@ -101,35 +101,23 @@ fn check_cell_limits(n_u: u32, n_v: u32) -> Check
     Check::Passed
 }
 
-// The tests of the seams (18 to 22) and of the output's room (11), then the grid. The curves of sides 0 to 3, each with its table of
-// lengths, and the ends b and t of bottom and top.
+// The tests of the seams (18 to 22) and of the output's room (11), then the grid.
 fn grid_stage(
-    bottom: &[f64],
-    lengths0: &[f64],
-    right: &[f64],
-    lengths1: &[f64],
-    top: &[f64],
-    lengths2: &[f64],
-    left: &[f64],
-    lengths3: &[f64],
-    b: Ends,
-    t: Ends,
+    knots: &[f64],
+    patch: Patch,
     bottom_u: &[f64],
     top_u: &[f64],
     left_v: &[f64],
     right_v: &[f64],
     layout: Layout,
     table: &mut [f64],
-    low: &mut [f64],
-    high: &mut [f64],
+    rows: &mut [f64],
     out: &mut [f64],
 ) -> GridAnswer
-    requires { let c = lent-curves bottom lengths0 right lengths1 top lengths2 left lengths3 in
-        let s = lent-seams «bottom_u» «top_u» «left_v» «right_v» in
-        ⌜ StageGiven c b t s (now table) (now low) (now high) ⌝ }
+    requires { let s = lent-seams «bottom_u» «top_u» «left_v» «right_v» in
+        ⌜ StageGiven (now knots) patch s (now table) (now rows) ⌝ }
     ensures { λ r.
-        let c = lent-curves (bottom .entry) (lengths0 .entry) (right .entry) (lengths1 .entry)
-        (top .entry) (lengths2 .entry) (left .entry) (lengths3 .entry) in
+        let c = curves-in (now (knots .entry)) (patch .starts) in
         let s = lent-seams («bottom_u» .entry) («top_u» .entry) («left_v» .entry) («right_v» .entry) in
         ⌜ outcome-of r (now (out .exit)) ≡ grid-stage layout c s (now (out .entry)) ⌝ }
 {
@@ -142,24 +130,15 @@ fn grid_stage(
         return GridAnswer::Refused(Refusal::OutputTooShort);
     }
     let made = coons_grid(
-        bottom,
-        lengths0,
-        right,
-        lengths1,
-        top,
-        lengths2,
-        left,
-        lengths3,
-        b,
-        t,
+        knots,
+        patch,
         bottom_u,
         top_u,
         left_v,
         right_v,
         layout,
         table,
-        low,
-        high,
+        rows,
         out,
     );
     if let Check::Refused(cause) = made {
@@ -169,77 +148,48 @@ fn grid_stage(
     GridAnswer::Made(quads as u32)
 }
 
-// The tests of the curves (13 to 17), then the rest. The tables of lengths are lent, and room for the grid's columns and rows.
+// The tests of the curves (13 to 17), then the rest. Room is lent for the knots of the curves, and for the grid's columns and rows.
 fn patch_in(
     bottom: &[f64],
-    lengths0: &mut [f64],
     right: &[f64],
-    lengths1: &mut [f64],
     top: &[f64],
-    lengths2: &mut [f64],
     left: &[f64],
-    lengths3: &mut [f64],
     bottom_u: &[f64],
     top_u: &[f64],
     left_v: &[f64],
     right_v: &[f64],
     layout: Layout,
+    knots: &mut [f64],
     table: &mut [f64],
-    low: &mut [f64],
-    high: &mut [f64],
+    rows: &mut [f64],
     out: &mut [f64],
 ) -> GridAnswer
     requires { let s = lent-seams «bottom_u» «top_u» «left_v» «right_v» in
-        ⌜ TileGiven (lent bottom right top left) (lent lengths0 lengths1 lengths2 lengths3) s (now table) (now low) (now high) ⌝ }
+        ⌜ TileGiven (lent bottom right top left) s (now knots) (now table) (now rows) ⌝ }
     ensures { λ r.
         let s = lent-seams («bottom_u» .entry) («top_u» .entry) («left_v» .entry) («right_v» .entry) in
         ⌜
         outcome-of r (now (out .exit)) ≡ patch layout
         (now (bottom .entry)) (now (right .entry)) (now (top .entry)) (now (left .entry)) s (now (out .entry)) ⌝ }
 {
-    let joined = checked_curves(
-        bottom,
-        lengths0,
-        right,
-        lengths1,
-        top,
-        lengths2,
-        left,
-        lengths3,
-    );
-    match joined {
+    match checked_curves(bottom, right, top, left, knots) {
         BoundaryAnswer::Refused(cause) => GridAnswer::Refused(cause),
-        BoundaryAnswer::Joined(ends) => {
-            let n0 = bottom.len() / 2;
-            let n1 = right.len() / 2;
-            let n2 = top.len() / 2;
-            let n3 = left.len() / 2;
-            grid_stage(
-                bottom,
-                &lengths0[..n0],
-                right,
-                &lengths1[..n1],
-                top,
-                &lengths2[..n2],
-                left,
-                &lengths3[..n3],
-                ends.bottom,
-                ends.top,
-                bottom_u,
-                top_u,
-                left_v,
-                right_v,
-                layout,
-                table,
-                low,
-                high,
-                out,
-            )
-        }
+        BoundaryAnswer::Joined(patch) => grid_stage(
+            knots,
+            patch,
+            bottom_u,
+            top_u,
+            left_v,
+            right_v,
+            layout,
+            table,
+            rows,
+            out,
+        ),
     }
 }
 
-// A small tile: most are, and to clear tables for the largest ones would take longer than their grid.
+// A small tile: most are, and to clear room for the largest ones would take longer than their grid.
 fn small_patch(
     bottom: &[f64],
     right: &[f64],
@@ -259,30 +209,22 @@ fn small_patch(
         outcome-of r (now (out .exit)) ≡ patch layout
         (now (bottom .entry)) (now (right .entry)) (now (top .entry)) (now (left .entry)) s (now (out .entry)) ⌝ }
 {
-    let mut lengths0 = [0.0; SMALL_POINTS];
-    let mut lengths1 = [0.0; SMALL_POINTS];
-    let mut lengths2 = [0.0; SMALL_POINTS];
-    let mut lengths3 = [0.0; SMALL_POINTS];
-    let mut table = [0.0; SMALL_TABLE];
-    let mut low = [0.0; SMALL_ROW];
-    let mut high = [0.0; SMALL_ROW];
+    let mut knots = [0.0; SMALL_KNOTS];
+    let mut table = [0.0; SMALL_COLUMNS];
+    let mut rows = [0.0; SMALL_ROWS];
     patch_in(
         bottom,
-        &mut lengths0,
         right,
-        &mut lengths1,
         top,
-        &mut lengths2,
         left,
-        &mut lengths3,
         bottom_u,
         top_u,
         left_v,
         right_v,
         layout,
+        &mut knots,
         &mut table,
-        &mut low,
-        &mut high,
+        &mut rows,
         out,
     )
 }
@@ -307,30 +249,22 @@ fn large_patch(
         outcome-of r (now (out .exit)) ≡ patch layout
         (now (bottom .entry)) (now (right .entry)) (now (top .entry)) (now (left .entry)) s (now (out .entry)) ⌝ }
 {
-    let mut lengths0 = [0.0; MAX_POINTS];
-    let mut lengths1 = [0.0; MAX_POINTS];
-    let mut lengths2 = [0.0; MAX_POINTS];
-    let mut lengths3 = [0.0; MAX_POINTS];
-    let mut table = [0.0; MAX_TABLE];
-    let mut low = [0.0; MAX_ROW];
-    let mut high = [0.0; MAX_ROW];
+    let mut knots = [0.0; MAX_KNOTS];
+    let mut table = [0.0; MAX_COLUMNS];
+    let mut rows = [0.0; MAX_ROWS];
     patch_in(
         bottom,
-        &mut lengths0,
         right,
-        &mut lengths1,
         top,
-        &mut lengths2,
         left,
-        &mut lengths3,
         bottom_u,
         top_u,
         left_v,
         right_v,
         layout,
+        &mut knots,
         &mut table,
-        &mut low,
-        &mut high,
+        &mut rows,
         out,
     )
 }
@@ -353,54 +287,6 @@ fn is_small(bottom: &[f64], right: &[f64], top: &[f64], left: &[f64], bottom_u: 
         return false;
     }
     bottom_u.len() <= SMALL_SEAM
-}
-
-fn make_patch(
-    bottom: &[f64],
-    right: &[f64],
-    top: &[f64],
-    left: &[f64],
-    bottom_u: &[f64],
-    top_u: &[f64],
-    left_v: &[f64],
-    right_v: &[f64],
-    layout: Layout,
-    out: &mut [f64],
-) -> GridAnswer
-    requires { ⌜ TileShort (lent bottom right top left) (lent-seams «bottom_u» «top_u» «left_v» «right_v») ⌝ }
-    ensures { λ r.
-        let s = lent-seams («bottom_u» .entry) («top_u» .entry) («left_v» .entry) («right_v» .entry) in
-        ⌜
-        outcome-of r (now (out .exit)) ≡ patch layout
-        (now (bottom .entry)) (now (right .entry)) (now (top .entry)) (now (left .entry)) s (now (out .entry)) ⌝ }
-{
-    let small = is_small(bottom, right, top, left, bottom_u);
-    if small {
-        return small_patch(
-            bottom,
-            right,
-            top,
-            left,
-            bottom_u,
-            top_u,
-            left_v,
-            right_v,
-            layout,
-            out,
-        );
-    }
-    large_patch(
-        bottom,
-        right,
-        top,
-        left,
-        bottom_u,
-        top_u,
-        left_v,
-        right_v,
-        layout,
-        out,
-    )
 }
 
 // A grid from four seams, in either layout.
@@ -427,7 +313,22 @@ fn from_parameters(
     if let Check::Refused(cause) = of_curves.and(of_seams) {
         return GridAnswer::Refused(cause);
     }
-    make_patch(
+    let small = is_small(bottom, right, top, left, bottom_u);
+    if small {
+        return small_patch(
+            bottom,
+            right,
+            top,
+            left,
+            bottom_u,
+            top_u,
+            left_v,
+            right_v,
+            layout,
+            out,
+        );
+    }
+    large_patch(
         bottom,
         right,
         top,

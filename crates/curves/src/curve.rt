@@ -1,15 +1,18 @@
-// A boundary curve: a polyline, sampled by the length run along it. Its points are lent as x, y in turn, at most 1,024 of them, and the
-// length run up to each one stands in a table beside.
+// A boundary curve: a polyline, sampled by the length run along it. Its points are lent as x, y in turn, at most 1,024 of them. A curve that is
+// made of them is a list of knots, each as x, y and the length run so far.
 ghost use mathlib.Core.Path.{_≡_};
 ghost use mathlib.Core.Bool.{true};
 ghost use Prim.Native.Nat.{_+_, _*_, _<_, _≤_};
 ghost use lib.ListN.{length};
 ghost use Rattle.base.specs.Refusal.{outcome};
 ghost use Rattle.base.specs.Buffers.{splice};
-ghost use Rattle.curves.specs.Curve.{point-count, point-at, distance, total-length, curve, cumulative-of, knot, toward, span};
-ghost use Rattle.curves.specs.Curve.{fraction, blend, segment-at, curve-at, all-finite, total-test};
-ghost use Rattle.curves.specs.inner.Segments.{Lengths, Sampled, InSegment, Measured};
+ghost use Rattle.curves.specs.Point.{point-of};
+ghost use Rattle.curves.specs.Curve.{point-count, point-at, distance, total-length, arc-curve, knot-count, knot-values, length-at, knot, toward, span};
+ghost use Rattle.curves.specs.Curve.{fraction, blend, segment, segment-at, target-of, curve-at, at-answer, all-finite, total-test};
+ghost use Rattle.curves.specs.inner.Segments.{Sampled, InSegment, KnotsRoom, Measured};
+use crate::limits::KNOT_SIZE;
 use crate::point::Point;
+use crate::point::PointAnswer;
 use base::refusal::Check;
 use base::refusal::Refusal;
 use floats::root::sqrt;
@@ -85,24 +88,46 @@ fn distance(p: Point, q: Point) -> f64
     sqrt(dx * dx + dy * dy)
 }
 
-// Writes the length run up to each point, and returns the whole length.
-fn run_lengths(points: &[f64], cumulative: &mut [f64]) -> f64
-    requires { ⌜ (0 < point-count (now points)) × (point-count (now points) ≤ length (now cumulative)) ⌝ }
+fn store_knot(here: Knot, from: usize, knots: &mut [f64])
+    requires { ⌜ from + 3 ≤ length (now knots) ⌝ }
+    ensures { λ _. ⌜ now (knots .exit) ≡ splice (now (knots .entry)) from (knot-values here) ⌝ }
+{
+    knots[from] = here.x;
+    knots[from + 1] = here.y;
+    knots[from + 2] = here.length;
+}
+
+// Writes the knots of a curve, from an index on, and returns its whole length.
+fn fill_knots(points: &[f64], from: usize, knots: &mut [f64]) -> f64
+    requires { ⌜ KnotsRoom (now points) from (now knots) ⌝ }
     ensures { λ r. ⌜ r ≡ total-length (now (points .entry)) ⌝ }
-    ensures { λ r. ⌜ now (cumulative .exit) ≡ splice (now (cumulative .entry)) 0 (cumulative-of (now (points .entry))) ⌝ }
+    ensures { λ r. ⌜ now (knots .exit) ≡ splice (now (knots .entry)) from (arc-curve (now (points .entry))) ⌝ }
 {
     let n = points.len() / 2;
     let mut k = 0usize;
-    let mut total = 0.0;
+    let mut at = from;
+    let mut length = 0.0;
+    let mut p = point_at(points, 0);
     while k + 1 < n {
-        cumulative[k] = total;
-        let p = point_at(points, k);
+        let here = Knot {
+            x: p.x,
+            y: p.y,
+            length,
+        };
+        store_knot(here, at, knots);
         let q = point_at(points, k + 1);
-        total = total + distance(p, q);
+        length = length + distance(p, q);
+        p = q;
         k += 1;
+        at += KNOT_SIZE;
     }
-    cumulative[k] = total;
-    total
+    let last = Knot {
+        x: p.x,
+        y: p.y,
+        length,
+    };
+    store_knot(last, at, knots);
+    length
 }
 
 fn all_finite(values: &[f64]) -> bool
@@ -130,11 +155,11 @@ fn check_total(total: f64, side: u32) -> Check
     Check::Refused(Refusal::BadCurveLength(side))
 }
 
-// Tests the curve of a side (13 to 15), and writes its table of lengths.
-pub(crate) fn new_curve(points: &[f64], side: u32, cumulative: &mut [f64]) -> Check
-    requires { ⌜ point-count (now points) ≤ length (now cumulative) ⌝ }
+// Tests the curve of a side (13 to 15), and writes its knots, from an index on.
+pub(crate) fn new_curve(points: &[f64], side: u32, from: usize, knots: &mut [f64]) -> Check
+    requires { ⌜ from + 3 * point-count (now points) ≤ length (now knots) ⌝ }
     ensures { λ r.
-        ⌜ Measured (now (points .entry)) side (now (cumulative .entry)) (now (cumulative .exit)) (outcome r) ⌝ }
+        ⌜ Measured (now (points .entry)) side from (now (knots .entry)) (now (knots .exit)) (outcome r) ⌝ }
 {
     if points.len() / 2 < 2 {
         return Check::Refused(Refusal::CurveTooShort(side));
@@ -143,21 +168,41 @@ pub(crate) fn new_curve(points: &[f64], side: u32, cumulative: &mut [f64]) -> Ch
     if !finite {
         return Check::Refused(Refusal::PointNotFinite(side));
     }
-    let total = run_lengths(points, cumulative);
+    let total = fill_knots(points, from, knots);
     check_total(total, side)
 }
 
+fn length_at(curve: &[f64], k: usize) -> f64
+    requires { ⌜ 3 * k + 2 < length (now curve) ⌝ }
+    ensures { λ r. ⌜ r ≡ length-at (now (curve .entry)) k ⌝ }
+{
+    let i = KNOT_SIZE * k + 2;
+    curve[i]
+}
+
+fn knot_at(curve: &[f64], k: usize) -> Knot
+    requires { ⌜ 3 * k + 2 < length (now curve) ⌝ }
+    ensures { λ r. ⌜ r ≡ knot (now (curve .entry)) k ⌝ }
+{
+    let i = KNOT_SIZE * k;
+    let x = curve[i];
+    let y = curve[i + 1];
+    let length = curve[i + 2];
+    Knot { x, y, length }
+}
+
 // The number of the segment in which the length `target` lies, by halving; an equal length goes right.
-fn segment_at(lengths: &[f64], target: f64) -> usize
-    requires { ⌜ 2 ≤ length (now lengths) ⌝ }
-    ensures { λ r. ⌜ r ≡ segment-at (now (lengths .entry)) target ⌝ }
-    ensures { λ r. ⌜ r + 1 < length (now (lengths .entry)) ⌝ }
+fn segment_at(curve: &[f64], target: f64) -> usize
+    requires { ⌜ 2 ≤ knot-count (now curve) ⌝ }
+    ensures { λ r. ⌜ r ≡ segment-at (now (curve .entry)) target ⌝ }
+    ensures { λ r. ⌜ r + 1 < knot-count (now (curve .entry)) ⌝ }
 {
     let mut lo = 0usize;
-    let mut hi = lengths.len() - 1;
+    let mut hi = curve.len() / KNOT_SIZE - 1;
     while hi - lo > 1 {
         let mid = (lo + hi) / 2;
-        if lengths[mid] <= target {
+        let length = length_at(curve, mid);
+        if length <= target {
             lo = mid;
         } else {
             hi = mid;
@@ -166,58 +211,68 @@ fn segment_at(lengths: &[f64], target: f64) -> usize
     lo
 }
 
-fn in_segment(lengths: &[f64], k: usize, target: f64) -> bool
-    requires { ⌜ 2 ≤ length (now lengths) ⌝ }
-    ensures { λ r. ⌜ (r ≡ true → InSegment (now (lengths .entry)) k target) ⌝ }
+// Whether the target lies in the segment k.
+fn in_segment(curve: &[f64], k: usize, target: f64) -> bool
+    requires { ⌜ k ≤ length (now curve) ⌝ }
+    ensures { λ r. ⌜ (r ≡ true → InSegment (now (curve .entry)) k target) ⌝ }
 {
-    let last = lengths.len() - 1;
-    if k < last {
-        if lengths[k] <= target {
-            if target < lengths[k + 1] {
-                return true;
-            }
+    // its two knots take six values
+    if KNOT_SIZE * k + 5 < curve.len() {
+        let start = length_at(curve, k);
+        if start <= target {
+            let end = length_at(curve, k + 1);
+            return target < end;
         }
     }
     false
 }
 
 // The same segment, looked for at the hint `near` and on either side of it before halving: along a seam the next target lies close by.
-fn segment_near(lengths: &[f64], target: f64, near: usize) -> usize
-    requires { ⌜ Lengths (now lengths) ⌝ }
-    ensures { λ r. ⌜ r ≡ segment-at (now (lengths .entry)) target ⌝ }
-    ensures { λ r. ⌜ r + 1 < length (now (lengths .entry)) ⌝ }
+fn segment_near(curve: &[f64], target: f64, near: usize) -> usize
+    requires { ⌜ Sampled (now curve) ⌝ }
+    ensures { λ r. ⌜ r ≡ segment-at (now (curve .entry)) target ⌝ }
+    ensures { λ r. ⌜ r + 1 < knot-count (now (curve .entry)) ⌝ }
 {
     // any number may be lent as a hint, also one that has no next
-    if near < lengths.len() {
-        let here = in_segment(lengths, near, target);
+    if near < curve.len() {
+        let here = in_segment(curve, near, target);
         if here {
             return near;
         }
-        let after = in_segment(lengths, near + 1, target);
+        let after = in_segment(curve, near + 1, target);
         if after {
             return near + 1;
         }
         if near > 0 {
-            let before = in_segment(lengths, near - 1, target);
+            let before = in_segment(curve, near - 1, target);
             if before {
                 return near - 1;
             }
         }
     }
-    segment_at(lengths, target)
+    segment_at(curve, target)
 }
 
-fn knot_at(points: &[f64], cumulative: &[f64], k: usize) -> Knot
-    requires { ⌜ (k < length (now cumulative)) × (2 * length (now cumulative) ≤ length (now points)) ⌝ }
-    ensures { λ r. ⌜ r ≡ knot (curve (now (points .entry)) (now (cumulative .entry))) k ⌝ }
+// The point of the segment k where the length `target` has been run.
+fn blend_at(curve: &[f64], k: usize, target: f64) -> Point
+    requires { ⌜ k + 1 < knot-count (now curve) ⌝ }
+    ensures { λ r. ⌜ r ≡ blend (segment (now (curve .entry)) k) target ⌝ }
 {
-    let p = point_at(points, k);
-    let length = cumulative[k];
-    Knot {
-        x: p.x,
-        y: p.y,
-        length,
-    }
+    let start = knot_at(curve, k);
+    let end = knot_at(curve, k + 1);
+    let segment = Segment { start, end };
+    segment.blend(target)
+}
+
+// The length at the fraction t of the curve, t clamped to 0..1.
+fn length_along(curve: &[f64], t: f64) -> f64
+    requires { ⌜ 2 ≤ knot-count (now curve) ⌝ }
+    ensures { λ r. ⌜ r ≡ target-of (now (curve .entry)) t ⌝ }
+{
+    let clamped = clamp_unit(t);
+    // that of the last knot
+    let total = curve[curve.len() - 1];
+    clamped * total
 }
 
 // A point of the curve, with the number of its segment: a hint for the next one.
@@ -226,28 +281,27 @@ pub(crate) struct Located {
     pub(crate) segment: usize,
 }
 
-// The point at the fraction t of the curve's length, t clamped to 0..1. A good hint `near` spares the halving.
-pub(crate) fn curve_near(points: &[f64], cumulative: &[f64], t: f64, near: usize) -> Located
-    requires { ⌜ Sampled (curve (now points) (now cumulative)) ⌝ }
-    ensures { λ r. ⌜ r .point ≡ curve-at (curve (now (points .entry)) (now (cumulative .entry))) t ⌝ }
+// The point at the fraction t of the curve's length, t clamped to 0..1. A good hint `near` spares the halving. The curve is one that has passed
+// its tests, so there is nothing to refuse: this is the innermost loop of a grid.
+pub(crate) fn curve_near(curve: &[f64], t: f64, near: usize) -> Located
+    requires { ⌜ Sampled (now curve) ⌝ }
+    ensures { λ r. ⌜ r .point ≡ curve-at (now (curve .entry)) t ⌝ }
 {
-    let clamped = clamp_unit(t);
-    let last = cumulative.len() - 1;
-    let total = cumulative[last];
-    let target = clamped * total;
-    let k = segment_near(cumulative, target, near);
-    let start = knot_at(points, cumulative, k);
-    let end = knot_at(points, cumulative, k + 1);
-    let segment = Segment { start, end };
-    let point = segment.blend(target);
+    let target = length_along(curve, t);
+    let k = segment_near(curve, target, near);
+    let point = blend_at(curve, k, target);
     Located { point, segment: k }
 }
 
-// The same without a hint.
-pub(crate) fn curve_at(points: &[f64], cumulative: &[f64], t: f64) -> Point
-    requires { ⌜ Sampled (curve (now points) (now cumulative)) ⌝ }
-    ensures { λ r. ⌜ r ≡ curve-at (curve (now (points .entry)) (now (cumulative .entry))) t ⌝ }
+// 000's `at`: the same point of any list of knots, that of a side. Where they make no segment, the curve is refused (13).
+pub(crate) fn curve_at(curve: &[f64], side: u32, t: f64) -> PointAnswer
+    ensures { λ r. ⌜ point-of r ≡ at-answer (now (curve .entry)) side t ⌝ }
 {
-    let located = curve_near(points, cumulative, t, 0);
-    located.point
+    if curve.len() / KNOT_SIZE < 2 {
+        return PointAnswer::Refused(Refusal::CurveTooShort(side));
+    }
+    let target = length_along(curve, t);
+    let k = segment_at(curve, target);
+    let p = blend_at(curve, k, target);
+    PointAnswer::At(p.x, p.y)
 }

@@ -12,12 +12,19 @@ pub(crate) const MAX_SEAM: usize = 1025;
 // n_u and n_v.
 pub const MAX_CELLS: u32 = 1024;
 
-// A column of the patch takes nine values, a point two.
+// A knot of a curve takes three values, a column of the patch nine, a point two.
+pub(crate) const KNOT_SIZE: usize = 3;
+
 pub(crate) const COLUMN_SIZE: usize = 9;
 
-pub(crate) const MAX_TABLE: usize = COLUMN_SIZE * MAX_SEAM;
+pub(crate) const POINT_SIZE: usize = 2;
 
-pub(crate) const MAX_ROW: usize = 2 * MAX_SEAM;
+// The knots of four curves, a column for each value of a seam, and two rows of points.
+pub(crate) const MAX_KNOTS: usize = 4 * KNOT_SIZE * MAX_POINTS;
+
+pub(crate) const MAX_COLUMNS: usize = COLUMN_SIZE * MAX_SEAM;
+
+pub(crate) const MAX_ROWS: usize = 2 * POINT_SIZE * MAX_SEAM;
 
 // A small tile has curves of at most 64 points, and at most 63 cells along its bottom.
 pub(crate) const SMALL_POINTS: usize = 64;
@@ -26,6 +33,8 @@ pub(crate) const SMALL_CURVE: usize = 2 * SMALL_POINTS;
 
 pub(crate) const SMALL_SEAM: usize = 64;
 
-pub(crate) const SMALL_TABLE: usize = COLUMN_SIZE * SMALL_SEAM;
+pub(crate) const SMALL_KNOTS: usize = 4 * KNOT_SIZE * SMALL_POINTS;
 
-pub(crate) const SMALL_ROW: usize = 2 * SMALL_SEAM;
+pub(crate) const SMALL_COLUMNS: usize = COLUMN_SIZE * SMALL_SEAM;
+
+pub(crate) const SMALL_ROWS: usize = 2 * POINT_SIZE * SMALL_SEAM;

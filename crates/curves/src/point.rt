@@ -1,6 +1,9 @@
 // Points of the plane, the answer that carries one, and the area of a quad.
 ghost use mathlib.Core.Path.{_≡_};
-ghost use Rattle.curves.specs.Point.{cross, signed-area};
+ghost use lib.Dec.{T};
+ghost use Rattle.base.specs.Refusal.{is-passed};
+ghost use Rattle.base.specs.Answers.{good, verdict};
+ghost use Rattle.curves.specs.Point.{point-of, cross, signed-area};
 use base::refusal::Refusal;
 
 pub(crate) struct Point {
@@ -11,6 +14,19 @@ pub(crate) struct Point {
 pub(crate) enum PointAnswer {
     At(f64, f64),
     Refused(Refusal),
+}
+
+impl PointAnswer {
+    // The point of an answer that is no refusal.
+    pub(crate) fn point(self) -> Point
+        requires { ⌜ T (is-passed (verdict (point-of self))) ⌝ }
+        ensures { λ r. ⌜ point-of self ≡ good r ⌝ }
+    {
+        match self {
+            PointAnswer::At(x, y) => Point { x, y },
+            PointAnswer::Refused(_) => Point { x: 0.0, y: 0.0 },
+        }
+    }
 }
 
 // Twice the signed area of the triangle from the origin to p and q.

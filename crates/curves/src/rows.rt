@@ -183,18 +183,6 @@ pub(crate) fn row_size(layout: Layout, n: usize, j: usize) -> usize
     }
 }
 
-// The row that was above is below the next one.
-pub(crate) fn copy_row(row: &[f64], low: &mut [f64])
-    requires { ⌜ length (now row) ≤ length (now low) ⌝ }
-    ensures { λ _. ⌜ now (low .exit) ≡ splice (now (low .entry)) 0 (now (row .entry)) ⌝ }
-{
-    let mut i = 0usize;
-    while i < row.len() {
-        low[i] = row[i];
-        i += 1;
-    }
-}
-
 // How many values a grid of n by m cells writes.
 pub(crate) fn needed(layout: Layout, n: usize, m: usize) -> usize
     requires { ⌜ (n ≤ max-cells) × (m ≤ max-cells) ⌝ }

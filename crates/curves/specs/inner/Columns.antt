@@ -10,9 +10,10 @@ use Rattle.curves.specs.Curve.{ArcCurve, curve-at}
 use Rattle.base.specs.Buffers.{concat-tabulate}
 use Rattle.curves.specs.Patch.{lerp2, combined}
 use Rattle.curves.specs.Limits.{max-seam, max-cells}
-use Rattle.curves.specs.inner.Segments.{Sampled}
+use Rattle.curves.specs.inner.Curves.{PatchGiven}
 use Rattle.curves.specs.declared.point.Point.{Point}
 use Rattle.curves.specs.declared.boundary.Ends.{Ends}
+use Rattle.curves.specs.declared.boundary.Patch.{Patch}
 use Rattle.curves.specs.declared.patch.Column.{Column}
 use Rattle.curves.specs.declared.patch.Row.{Row}
 
@@ -75,10 +76,9 @@ level-points table row v n =
 
 -- ---- what the two loops over the table ask
 
--- curves that can be asked for their points, and room for a column of each value of the seam
-pub record ColumnsGiven (bottom top : ArcCurve) (seam table : List Float) : Type 0 where
-  pub bottom-sampled : Sampled bottom
-  pub top-sampled : Sampled top
+-- a patch, and room for a column of each value of the seam
+pub record ColumnsGiven (knots : List Float) (p : Patch) (seam table : List Float) : Type 0 where
+  pub patch : PatchGiven knots p
   pub short : length seam ≤ max-seam
   pub room : 9 * length seam ≤ length table
 

@@ -1,9 +1,8 @@
 -- What the functions of the grid ask of the seams and of the buffers that they are lent, and what they answer. Assumes nothing.
 use mathlib.Core.Path.{_≡_}
-use mathlib.Core.Bool.{Bool, true}
 use mathlib.Core.List.{List}
-use Prim.Native.Nat.{ℕ, _+_, _*_, _≤_}
-use lib.ListN.{length}
+use Prim.Native.Nat.{ℕ, _+_, _-_, _*_, _<_, _≤_}
+use lib.ListN.{length, take}
 use lib.Ieee.{Float}
 use denote.Ref.{RefT, now}
 use Rattle.base.specs.declared.verdict.Verdict.{Verdict}
@@ -11,11 +10,12 @@ use Rattle.curves.specs.Boundary.{BoundaryCurves}
 use Rattle.curves.specs.Grid.{Seams, seams, n-u, n-v, Grid, grid-test, needed}
 use Rattle.curves.specs.Coons.{filled}
 use Rattle.curves.specs.Limits.{max-curve, max-seam, max-cells}
-use Rattle.curves.specs.inner.Columns.{Table}
+use Rattle.curves.specs.inner.Columns.{Table, ColumnsGiven}
 use Rattle.curves.specs.inner.Level.{Upright}
-use Rattle.curves.specs.inner.Curves.{Sides, PatchCurves, TablesFit, ShortCurves}
+use Rattle.curves.specs.inner.Curves.{Sides, ShortCurves, curves-in, KnotsFit, PatchGiven}
 use Rattle.curves.specs.inner.Small.{small-curve, small-seam}
 use Rattle.curves.specs.declared.boundary.Ends.{Ends}
+use Rattle.curves.specs.declared.boundary.Patch.{Patch}
 use Rattle.curves.specs.declared.rows.Layout.{Layout}
 
 -- ---- seams
@@ -51,56 +51,66 @@ pub record RowGiven (n : ℕ) (bottom top row : List Float) : Type 0 where
   pub top-long : n + 1 ≤ length top
   pub room : 2 * (n + 1) ≤ length row
 
--- what a level row may go by: the columns of the first n values of the bottom seam, and whether the lines across the row are upright
-pub record LevelGiven (c : BoundaryCurves) (b t : Ends) (bottom top : List Float) (n : ℕ) (table : List Float) (upright : Bool) : Type 0 where
-  pub columns : Table (c .bottom) (c .top) b t bottom n table
-  pub lines : upright ≡ true → Upright bottom top
+-- how many cells lie along a seam
+abbrev pub row-cells : List Float → ℕ
+row-cells seam = length seam - 1
 
--- what row j of the points is worked out from
-pub record PointsGiven (c : BoundaryCurves) (b t : Ends) (table : List Float) (upright : Bool) (bottom top : List Float) (n j : ℕ) (row : List Float) : Type 0 where
-  pub curves : PatchCurves c b t
-  pub level : LevelGiven c b t bottom top (n + 1) table upright
-  pub row-given : RowGiven n bottom top row
+-- what a level row may go by, where there are columns: those of the first n values of the bottom seam, and upright lines across the row
+pub record LevelGiven (c : BoundaryCurves) (b t : Ends) (bottom top : List Float) (n : ℕ) (columns : List Float) : Type 0 where
+  pub held : 0 < length columns → Table (c .bottom) (c .top) b t bottom n columns
+  pub lines : 0 < length columns → Upright bottom top
+
+-- what such columns are filled from
+pub record SeamColumns (knots : List Float) (p : Patch) (bottom top table : List Float) : Type 0 where
+  pub columns : ColumnsGiven knots p bottom table
+  pub across : length bottom ≤ length top
+
+-- how many values of the table they take, none where a line is not upright
+pub record LevelColumns (c : BoundaryCurves) (b t : Ends) (bottom top table : List Float) (filled : ℕ) : Type 0 where
+  pub within : filled ≤ length table
+  pub level : LevelGiven c b t bottom top (length bottom) (take filled table)
+
+-- what row j of the points is worked out from: a row is as long as its points
+pub record PointsGiven (knots : List Float) (p : Patch) (columns bottom top : List Float) (j : ℕ) (row : List Float) : Type 0 where
+  pub patch : PatchGiven knots p
+  pub level : LevelGiven (curves-in knots (p .starts)) (p .bottom) (p .top) bottom top (length bottom) columns
+  pub some : 0 < length bottom
+  pub row-given : RowGiven (row-cells bottom) bottom top row
   pub index : j ≤ max-cells
 
 -- the same of a row whose pairs u, v are there already
-pub record PairsGiven (c : BoundaryCurves) (b t : Ends) (n : ℕ) (row : List Float) : Type 0 where
-  pub curves : PatchCurves c b t
+pub record PairsGiven (knots : List Float) (p : Patch) (n : ℕ) (row : List Float) : Type 0 where
+  pub patch : PatchGiven knots p
   pub cells : n ≤ max-cells
   pub room : 2 * (n + 1) ≤ length row
 
 -- ---- the grid
 
--- room for two rows of points
-pub record RowsRoom (bottom low high : List Float) : Type 0 where
-  pub low-long : 2 * length bottom ≤ length low
-  pub high-long : 2 * length bottom ≤ length high
-
--- and for a column for each value of the bottom seam
-pub record Workspace (bottom table low high : List Float) : Type 0 where
+-- room for a column for each value of the bottom seam, and for two rows of points
+pub record Workspace (bottom table rows : List Float) : Type 0 where
   pub columns : 9 * length bottom ≤ length table
-  pub rows : RowsRoom bottom low high
+  pub two-rows : 4 * length bottom ≤ length rows
 
 -- what the rows of a grid are worked out from
-pub record RowsGiven (c : BoundaryCurves) (b t : Ends) (s : Seams) (layout : Layout) (table : List Float) (upright : Bool) (low high out : List Float) : Type 0 where
-  pub curves : PatchCurves c b t
-  pub level : LevelGiven c b t (s .bottom) (s .top) (length (s .bottom)) table upright
+pub record RowsGiven (knots : List Float) (p : Patch) (s : Seams) (layout : Layout) (columns rows out : List Float) : Type 0 where
+  pub patch : PatchGiven knots p
+  pub level : LevelGiven (curves-in knots (p .starts)) (p .bottom) (p .top) (s .bottom) (s .top) (length (s .bottom)) columns
   pub paired : PairedSeams s
-  pub rows : RowsRoom (s .bottom) low high
+  pub two-rows : 4 * length (s .bottom) ≤ length rows
   pub room : needed layout (n-u s) (n-v s) ≤ length out
 
 -- what a grid is worked out from
-pub record GridGiven (c : BoundaryCurves) (b t : Ends) (s : Seams) (layout : Layout) (table low high out : List Float) : Type 0 where
-  pub curves : PatchCurves c b t
+pub record GridGiven (knots : List Float) (p : Patch) (s : Seams) (layout : Layout) (table rows out : List Float) : Type 0 where
+  pub patch : PatchGiven knots p
   pub paired : PairedSeams s
-  pub workspace : Workspace (s .bottom) table low high
+  pub workspace : Workspace (s .bottom) table rows
   pub room : needed layout (n-u s) (n-v s) ≤ length out
 
 -- the same before the seams and the output's room are tested
-pub record StageGiven (c : BoundaryCurves) (b t : Ends) (s : Seams) (table low high : List Float) : Type 0 where
-  pub curves : PatchCurves c b t
+pub record StageGiven (knots : List Float) (p : Patch) (s : Seams) (table rows : List Float) : Type 0 where
+  pub patch : PatchGiven knots p
   pub short : ShortSeams s
-  pub workspace : Workspace (s .bottom) table low high
+  pub workspace : Workspace (s .bottom) table rows
 
 -- n by m cells that are to be cleared
 pub record CellsRoom (layout : Layout) (n m : ℕ) (out : List Float) : Type 0 where
@@ -115,18 +125,18 @@ pub record Gridded (layout : Layout) (f : Grid) (n m : ℕ) (before after : List
 
 -- ---- tiles
 
--- what a patch is made from: curves with room for their lengths, seams, and room for columns and rows
-pub record TileGiven (points tables : Sides) (s : Seams) (table low high : List Float) : Type 0 where
-  pub tables-fit : TablesFit points tables
+-- what a patch is made from: curves with room for their knots, seams, and room for columns and rows
+pub record TileGiven (points : Sides) (s : Seams) (knots table rows : List Float) : Type 0 where
+  pub knots-fit : KnotsFit points knots
   pub short : ShortSeams s
-  pub workspace : Workspace (s .bottom) table low high
+  pub workspace : Workspace (s .bottom) table rows
 
 -- a tile within the limits
 pub record TileShort (points : Sides) (s : Seams) : Type 0 where
   pub curves : ShortCurves max-curve points
   pub seams : ShortSeams s
 
--- one that is small enough for the smaller tables
+-- one that is small enough for the smaller room
 pub record SmallTile (points : Sides) (bottom : List Float) : Type 0 where
   pub curves : ShortCurves small-curve points
   pub seam : length bottom ≤ small-seam
