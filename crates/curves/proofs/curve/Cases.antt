@@ -5,7 +5,7 @@ use lib.Ieee.{Float, binary64, ofBits}
 use Rattle.base.specs.Refusal.{passed}
 use Rattle.floats.specs.Scalar.{nought, half, one}
 use Rattle.curves.specs.Point.{point}
-use Rattle.curves.specs.Curve.{cumulative-of, arc-curve, curve-at, curve-test}
+use Rattle.curves.specs.Curve.{arc-curve, curve-at, curve-test}
 
 -- 2^-600
 tiny : Float
@@ -19,10 +19,10 @@ unfolding ofBits curve-test points tiny
 accepted = refl
 
 middle : curve-at (arc-curve points) half ≡ point half nought
-unfolding ofBits curve-at cumulative-of points tiny
+unfolding ofBits curve-at arc-curve points tiny
 middle = refl
 
 -- 01: "000 blends, and a last segment of length 0 yields its first point", here (1, 0) and not (1, 2^-600)
 end-blended : curve-at (arc-curve points) one ≡ point one nought
-unfolding ofBits curve-at cumulative-of points tiny
+unfolding ofBits curve-at arc-curve points tiny
 end-blended = refl

@@ -1,10 +1,12 @@
--- The tests of one curve: the values one by one, and the chain of 13, 14, 15 by its tests. Assumes nothing.
+-- The tests of one curve: the values one by one, and the chain of 13, 14, 15 by its tests; and its knots, one by one. Assumes nothing.
 use mathlib.Core.Path.{_≡_, refl, sym, ap, _∙_}
 use mathlib.Core.Bool.{Bool, true, false, not, _&&_}
-use mathlib.Core.List.{List}
-use Prim.Native.Nat.{ℕ, suc, _+_, _<_, _≤_}
+use mathlib.Core.List.{List, [], _∷_}
+use Prim.Native.Nat.{ℕ, suc, _+_, _*_, _<_, _≤_}
+use native.Mathlib.Nat.{mul-comm, zero-add}
 use native.Mathlib.Numerals.{add-one}
-use lib.ListN.{length, getD, take, drop, drop-of-length-le}
+use native.Mathlib.Omega.{arith}
+use lib.ListN.{length, getD, set, drop, drop-of-length-le}
 use lib.Seq.{drop-cons}
 use lib.Dec.{ltb}
 use lib.Ieee.{Float, nan, binary64, add}
@@ -12,10 +14,11 @@ use borrow.Author.Tests.{lt-ltb, le-ltb}
 use Rattle.base.specs.declared.verdict.Verdict.{Verdict}
 use Rattle.base.specs.Refusal.{refused, then-test, refuse-if}
 use Rattle.floats.specs.Scalar.{is-finite}
-use Rattle.base.specs.Buffers.{splice}
-use Rattle.curves.specs.Curve.{point-count, point-at, distance, length-to, total-length, cumulative-of, all-finite, total-test, curve-test}
+use Rattle.base.specs.Buffers.{concat-tabulate, splice}
+use Rattle.curves.specs.Curve.{point-count, point-at, distance, length-to, total-length, knot-of, knot-values, arc-curve, knot-count, length-at}
+use Rattle.curves.specs.Curve.{all-finite, total-test, curve-test}
 use Rattle.curves.specs.declared.point.Point.{Point}
-use Rattle.base.proofs.BufferLaws.{length-tabulate, take-splice}
+use Rattle.base.proofs.BufferLaws.{length-concat, getD-concat, splice-none, store-next, concat-step}
 
 -- ---- every value is finite
 
@@ -36,7 +39,7 @@ pub finite-end : (xs : List Float) (i : ℕ) → length xs ≤ i → all-finite 
 unfolding all-finite
 finite-end xs i h = ap all-finite (drop-of-length-le xs h)
 
--- ---- the table of lengths
+-- ---- the knots
 
 -- one point further
 pub length-more : (points : List Float) (k : ℕ) {run step : Float} {p q : Point} → run ≡ length-to points k → p ≡ point-at points k
@@ -47,13 +50,52 @@ length-more points k {step = step} {q = q} e f g h =
     ∙ ap (add binary64 (length-to points k)) (h ∙ ap (λ (x : Point). distance x q) f ∙ ap (distance (point-at points k)) (g ∙ ap (point-at points) (add-one k)))
     ∙ sym (ap (length-to points) (add-one k))
 
-pub length-cumulative : (points : List Float) → length (cumulative-of points) ≡ point-count points
-unfolding cumulative-of
-length-cumulative points = length-tabulate (length-to points) 0 (point-count points)
+abbrev pub knot-on : List Float → ℕ → List Float
+knot-on points k = knot-values (knot-of points k)
 
--- what a buffer holds in front, once the table is written there
-pub written : (points d xs : List Float) → xs ≡ splice d 0 (cumulative-of points) → take (point-count points) xs ≡ cumulative-of points
-written points d xs e = ap (take (point-count points)) e ∙ take-splice d (cumulative-of points) (point-count points) (length-cumulative points)
+knots-length : (points : List Float) (n : ℕ) → length (concat-tabulate (knot-on points) 0 n) ≡ 3 * n
+knots-length points n = length-concat (knot-on points) 3 0 n (λ i h. refl) ∙ mul-comm n 3
+
+pub length-arc : (points : List Float) → length (arc-curve points) ≡ 3 * point-count points
+unfolding arc-curve
+length-arc points = knots-length points (point-count points)
+
+pub knot-count-arc : (points : List Float) → knot-count (arc-curve points) ≡ point-count points
+knot-count-arc points = let l = length-arc points in omega (arith, l)
+
+-- the knots of the first k points are written over d
+pub record KnotsTo (points : List Float) (from : ℕ) (d : List Float) (k : ℕ) (knots : List Float) : Type 0 where
+  pub written : knots ≡ splice d from (concat-tabulate (knot-on points) 0 k)
+
+pub no-knots : {points d : List Float} {from : ℕ} → KnotsTo points from d 0 d
+no-knots {d = d} {from = from} = record { written = splice-none d from }
+
+-- a turn of the loop that writes them
+pub next-knot : {points d knots next : List Float} {from k at : ℕ} {p : Point} {run : Float} → KnotsTo points from d k knots → at ≡ from + 3 * k → at ≤ length d
+    → p ≡ point-at points k → run ≡ length-to points k → next ≡ splice knots at (p .x ∷ p .y ∷ run ∷ []) → KnotsTo points from d (k + 1) next
+next-knot {points} {d} {knots} {next} {from} {k} {at} {p} {run} o e h f g w =
+    let l = knots-length points k in
+    let here : p .x ∷ p .y ∷ run ∷ [] ≡ knot-on points k =
+    ap (λ (x : Point). x .x ∷ x .y ∷ run ∷ []) f ∙ ap (λ (x : Float). point-at points k .x ∷ point-at points k .y ∷ x ∷ []) g in
+    record { written = concat-step d from (knot-on points) knots k at next (o .written) (omega (arith, l, e)) h (w ∙ ap (splice knots at) here) }
+
+pub knots-done : {points d knots : List Float} {from k : ℕ} → KnotsTo points from d k knots → k ≡ point-count points → knots ≡ splice d from (arc-curve points)
+unfolding arc-curve
+knots-done {points} {d} {from = from} o e = o .written ∙ ap (λ (k : ℕ). splice d from (concat-tabulate (knot-on points) 0 k)) e
+
+pub knot-stored : (d : List Float) (k : ℕ) (x y z : Float) → k + 3 ≤ length d → set (set (set d k x) (k + 1) y) (k + 2) z ≡ splice d k (x ∷ y ∷ z ∷ [])
+knot-stored d k x y z h =
+    let s0 = store-next d k [] d k x (splice-none d k) (omega arith) (omega arith) in
+    let s1 = store-next d k (x ∷ []) _ (k + 1) y s0 refl (omega arith) in
+    store-next d k (x ∷ y ∷ []) _ (k + 2) z s1 refl (omega arith)
+
+-- the value r of the knot i
+pub in-arc : (points : List Float) (i r : ℕ) → i < point-count points → r < 3 → getD (arc-curve points) (3 * i + r) nan ≡ getD (knot-on points i) r nan
+unfolding arc-curve
+in-arc points i r h q = getD-concat (knot-on points) 3 0 (point-count points) i r nan (λ j. refl) h q ∙ ap (λ (x : ℕ). getD (knot-on points x) r nan) (zero-add i)
+
+pub length-in-arc : (points : List Float) (i : ℕ) → i < point-count points → length-at (arc-curve points) i ≡ length-to points i
+length-in-arc points i h = in-arc points i 2 h (omega arith)
 
 -- ---- 13, 14, 15
 

@@ -1,53 +1,51 @@
 -- In lengths that rise, the halving finds the one segment that holds the target, so that a hint which is that segment spares the halving. Assumes nothing.
 use mathlib.Core.Path.{_≡_, refl, sym, subst, _∙_}
 use mathlib.Core.Bool.{Bool, true, false}
-use mathlib.Core.List.{List}
 use Prim.Native.Nat.{ℕ, zero, suc, _+_, _-_, _/_, _<_, _≤_}
 use native.Mathlib.Omega.{arith}
 use borrow.Author.Tests.{ltb-true, ltb-false}
 use lib.Dec.{ltb}
-use lib.ListN.{length, getD}
-use lib.Ieee.{Float, nan, lt, le}
-use Rattle.curves.specs.Curve.{segment-at}
-use Rattle.curves.specs.inner.Segments.{Rising, InSegment}
+use lib.Ieee.{Float, lt, le}
+use Rattle.curves.specs.Curve.{ArcCurve, knot-count, length-at, segment-at}
+use Rattle.curves.specs.inner.Segments.{Rising, Sampled, InSegment}
 use Rattle.floats.proofs.scalar.Order.{le-le, lt-le, lt-not-le}
-use Rattle.curves.proofs.curve.Halving.{halved, step-right, step-left, stop}
+use Rattle.curves.proofs.curve.Halving.{halved, whole, step-right, step-left, stop}
 
-module _ (c : List Float) (target : Float) (rises : Rising c) where
+module _ (c : ArcCurve) (target : Float) (rises : Rising c) where
   -- before a length that is not above the target none is
-  before : (i j : ℕ) → i + j < length c → le (getD c (i + j) nan) target ≡ true → le (getD c i nan) target ≡ true
-  before i zero h k = let e : i + 0 ≡ i = omega arith in subst (λ (n : ℕ). le (getD c n nan) target ≡ true) e k
+  before : (i j : ℕ) → i + j < knot-count c → le (length-at c (i + j)) target ≡ true → le (length-at c i) target ≡ true
+  before i zero h k = let e : i + 0 ≡ i = omega arith in subst (λ (n : ℕ). le (length-at c n) target ≡ true) e k
   before i (suc j) h k =
       let e : i + suc j ≡ i + j + 1 = omega arith in
-      before i j (omega arith) (le-le (getD c (i + j) nan) (getD c (i + j + 1) nan) target (rises (i + j) (omega arith))
-      (subst (λ (n : ℕ). le (getD c n nan) target ≡ true) e k))
+      before i j (omega arith) (le-le (length-at c (i + j)) (length-at c (i + j + 1)) target (rises (i + j) (omega arith))
+      (subst (λ (n : ℕ). le (length-at c n) target ≡ true) e k))
 
   -- after a length above the target each is
-  after : (i j : ℕ) → i + j < length c → lt target (getD c i nan) ≡ true → lt target (getD c (i + j) nan) ≡ true
-  after i zero h k = let e : i ≡ i + 0 = omega arith in subst (λ (n : ℕ). lt target (getD c n nan) ≡ true) e k
+  after : (i j : ℕ) → i + j < knot-count c → lt target (length-at c i) ≡ true → lt target (length-at c (i + j)) ≡ true
+  after i zero h k = let e : i ≡ i + 0 = omega arith in subst (λ (n : ℕ). lt target (length-at c n) ≡ true) e k
   after i (suc j) h k =
       let e : i + j + 1 ≡ i + suc j = omega arith in
-      subst (λ (n : ℕ). lt target (getD c n nan) ≡ true) e
-      (lt-le target (getD c (i + j) nan) (getD c (i + j + 1) nan) (after i j (omega arith) k) (rises (i + j) (omega arith)))
+      subst (λ (n : ℕ). lt target (length-at c n) ≡ true) e
+      (lt-le target (length-at c (i + j)) (length-at c (i + j + 1)) (after i j (omega arith) k) (rises (i + j) (omega arith)))
 
   module _ (k : ℕ) (inside : InSegment c k target) where
-    to-left : (m : ℕ) → m ≤ k → le (getD c m nan) target ≡ true
+    to-left : (m : ℕ) → m ≤ k → le (length-at c m) target ≡ true
     to-left m h =
         let e : k ≡ m + (k - m) = omega arith in
-        before m (k - m) (omega (arith, inside .has-end)) (subst (λ (n : ℕ). le (getD c n nan) target ≡ true) e (inside .from-start))
+        before m (k - m) (omega (arith, inside .has-end)) (subst (λ (n : ℕ). le (length-at c n) target ≡ true) e (inside .from-start))
 
-    to-right : (m : ℕ) → k < m → m < length c → le (getD c m nan) target ≡ false
+    to-right : (m : ℕ) → k < m → m < knot-count c → le (length-at c m) target ≡ false
     to-right m h l =
         let e : k + 1 + (m - (k + 1)) ≡ m = omega arith in
-        lt-not-le target (getD c m nan) (subst (λ (n : ℕ). lt target (getD c n nan) ≡ true) e (after (k + 1) (m - (k + 1)) (omega arith) (inside .below-end)))
+        lt-not-le target (length-at c m) (subst (λ (n : ℕ). lt target (length-at c n) ≡ true) e (after (k + 1) (m - (k + 1)) (omega arith) (inside .below-end)))
 
     -- from any lo and hi around k; n bounds their distance
-    found : (n lo hi : ℕ) → hi - lo ≤ n → lo ≤ k → k < hi → hi < length c → halved c target lo hi ≡ k
+    found : (n lo hi : ℕ) → hi - lo ≤ n → lo ≤ k → k < hi → hi < knot-count c → halved c target lo hi ≡ k
     found zero lo hi h p q l = absurd (omega arith)
     found (suc n) lo hi h p q l = go (ltb 1 (hi - lo)) (ltb k ((lo + hi) / 2)) refl refl (found n)
       where
         go : (far left : Bool) → ltb 1 (hi - lo) ≡ far → ltb k ((lo + hi) / 2) ≡ left
-            → ((lo' hi' : ℕ) → hi' - lo' ≤ n → lo' ≤ k → k < hi' → hi' < length c → halved c target lo' hi' ≡ k)
+            → ((lo' hi' : ℕ) → hi' - lo' ≤ n → lo' ≤ k → k < hi' → hi' < knot-count c → halved c target lo' hi' ≡ k)
             → halved c target lo hi ≡ k
         go false left e f next = let s = ltb-false 1 (hi - lo) e in let z : lo ≡ k = omega arith in stop c target lo hi s ∙ z
         go true true e f next =
@@ -60,8 +58,7 @@ module _ (c : List Float) (target : Float) (rises : Rising c) where
             step-right c target lo hi s (to-left ((lo + hi) / 2) u) ∙ next ((lo + hi) / 2) hi (omega arith) u q l
 
     found-whole : k ≡ segment-at c target
-    unfolding segment-at
-    found-whole = let h = inside .has-end in sym (found (length c - 1) 0 (length c - 1) (omega arith) (omega arith) (omega arith) (omega arith))
+    found-whole = let h = inside .has-end in sym (found (knot-count c - 1) 0 (knot-count c - 1) (omega arith) (omega arith) (omega arith) (omega arith)) ∙ whole c target
 
-pub hinted : {lengths : List Float} {target : Float} {k : ℕ} → Rising lengths → InSegment lengths k target → k ≡ segment-at lengths target
-hinted {lengths} {target} {k} rises inside = found-whole lengths target rises k inside
+pub hinted : {c : ArcCurve} {target : Float} {k : ℕ} → Sampled c → InSegment c k target → k ≡ segment-at c target
+hinted {c} {target} {k} s inside = found-whole c target (s .rising) k inside

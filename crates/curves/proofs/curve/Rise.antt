@@ -8,7 +8,6 @@ use native.Mathlib.Nat.{le-trans, le-of-eq, le-of-suc-le-suc, add-zero, zero-add
 use native.Mathlib.Numerals.{add-one}
 use native.Mathlib.Omega.{arith}
 use borrow.Author.Tests.{ltb-false, le-ltb}
-use lib.ListN.{getD}
 use lib.Dec.{T, T-not, ltb}
 use lib.IntN.{ℤ}
 use lib.Ieee.{Float, nan, inf, fin, Format, binary64, up, down, round, sum, add, sub, mul, le, fits, ofBits}
@@ -19,14 +18,13 @@ use Rattle.base.specs.Refusal.{refused, is-passed, then-test, refuse-if}
 use Rattle.base.proofs.BoolLaws.{T-true, not-T-false}
 use Rattle.base.proofs.TestLaws.{then-left, then-right, not-refused}
 use Rattle.floats.specs.Scalar.{nought, is-finite, is-positive}
-use Rattle.base.specs.Buffers.{tabulate}
 use Rattle.floats.specs.Root.{among, rounded, root}
-use Rattle.curves.specs.Curve.{point-count, point-at, distance, length-to, total-length, cumulative-of, arc-curve, all-finite, total-test, curve-test}
+use Rattle.curves.specs.Curve.{point-count, point-at, distance, length-to, total-length, arc-curve, length-at, all-finite, total-test, curve-test}
 use Rattle.curves.specs.inner.Segments.{Rising, Sampled}
 use Rattle.curves.specs.declared.point.Point.{Point}
 use Rattle.floats.proofs.root.Amounts.{among-of}
 use Rattle.floats.proofs.scalar.Exact.{round-own}
-use Rattle.curves.proofs.curve.Laws.{length-cumulative}
+use Rattle.curves.proofs.curve.Laws.{knot-count-arc, length-in-arc}
 
 -- ---- a distance is not below zero
 
@@ -161,26 +159,15 @@ run-rises : (points : List Float) (k : ℕ) → T (is-finite (length-to points (
 unfolding length-to
 run-rises points k t = run-next points k (run-among points k (add-finite binary64 (length-to points k) _ t)) t .1
 
--- ---- the table
-
-getD-tab : {A : Type 0} (f : ℕ → A) (k n i : ℕ) (z : A) → i < n → getD (tabulate f k n) i z ≡ f (k + i)
-getD-tab f k zero i z h = absurd (omega arith)
-getD-tab f k (suc n) zero z h = ap f (sym (add-zero k))
-getD-tab f k (suc n) (suc i) z h = getD-tab f (suc k) n i z (le-of-suc-le-suc h) ∙ ap f (suc-add k i ∙ sym (add-suc k i))
-
-in-table : (points : List Float) (i : ℕ) → i < point-count points → getD (cumulative-of points) i nan ≡ length-to points i
-unfolding cumulative-of
-in-table points i h = getD-tab (length-to points) 0 (point-count points) i nan h ∙ ap (length-to points) (zero-add i)
-
 -- a curve with a finite length: no length run is above the next
-pub lengths-rise : (points : List Float) → T (is-finite (total-length points)) → Rising (cumulative-of points)
+pub lengths-rise : (points : List Float) → T (is-finite (total-length points)) → Rising (arc-curve points)
 lengths-rise points t i h =
     let n = point-count points in
-    let l : i + 1 < n = subst (λ (m : ℕ). i + 1 < m) (length-cumulative points) h in
+    let l : i + 1 < n = subst (λ (m : ℕ). i + 1 < m) (knot-count-arc points) h in
     let e : n - 1 ≡ suc i + (n - 1 - suc i) = omega arith in
     let r = run-rises points i (before points (suc i) (n - 1 - suc i) (subst (λ (m : ℕ). T (is-finite (length-to points m))) e t)) in
-    ap (λ (x : Float). le x (getD (cumulative-of points) (i + 1) nan)) (in-table points i (omega arith))
-    ∙ ap (le (length-to points i)) (in-table points (i + 1) l ∙ ap (length-to points) (add-one i))
+    ap (λ (x : Float). le x (length-at (arc-curve points) (i + 1))) (length-in-arc points i (omega arith))
+    ∙ ap (le (length-to points i)) (length-in-arc points (i + 1) l ∙ ap (length-to points) (add-one i))
     ∙ T-true (le (length-to points i) (length-to points (suc i))) r
 
 -- ---- a curve that has passed its tests
@@ -193,14 +180,14 @@ total-finite total side t = and-l (is-finite total) (not (le total nought)) (not
     not-not true u = tt
     not-not false u = u
 
-sampled-rise : (points lengths : List Float) (side : ℕ) → T (is-passed (curve-test points side)) → lengths ≡ cumulative-of points → Rising lengths
+rise-passed : (points : List Float) (side : ℕ) → T (is-passed (curve-test points side)) → Rising (arc-curve points)
 unfolding curve-test
-sampled-rise points lengths side t e =
+rise-passed points side t =
     let total = total-test (total-length points) side in
     let rest = then-test (refuse-if (not (all-finite points)) (refused 14 side 0)) total in
     let u : T (is-passed rest) = then-right (refuse-if (ltb (point-count points) 2) (refused 13 side 0)) rest t in
     let v : T (is-passed total) = then-right (refuse-if (not (all-finite points)) (refused 14 side 0)) total u in
-    subst Rising (sym e) (lengths-rise points (total-finite (total-length points) side v))
+    lengths-rise points (total-finite (total-length points) side v)
 
 -- a curve that has passed can be asked for its points
 pub sampled : (points : List Float) (side : ℕ) → T (is-passed (curve-test points side)) → Sampled (arc-curve points)
@@ -209,6 +196,5 @@ sampled points side t =
     let short = ltb (point-count points) 2 in
     let long : T (not short) = not-refused short 12 side 0 (then-left (refuse-if short (refused 13 side 0)) _ t) in
     let two : 2 ≤ point-count points = ltb-false (point-count points) 2 (not-T-false short (T-not short long)) in
-    let rise = sampled-rise points (cumulative-of points) side t refl in
-    let l = length-cumulative points in
-    record { lengths = record { two = omega (arith, l, two); rising = rise }; points = omega (arith, l) }
+    let n = knot-count-arc points in
+    record { two = omega (arith, n, two); rising = rise-passed points side t }

@@ -1,90 +1,97 @@
+-- `curve::fill_knots` meets its contract. Before each turn the knots of k points are written, `length` is the length run up to the point k, and p is
+-- that point. Assumes nothing.
+use mathlib.Core.Path.{_≡_, refl, ap, _∙_}
+use mathlib.Core.List.{List}
+use Prim.Native.Nat.{ℕ, _+_, _*_, _-_, _/_, _<_}
+use native.Mathlib.Omega.{arith}
+use lib.ListN.{length}
+use lib.Ieee.{Float}
+use denote.Ref.{now}
+use Rattle.curves.specs.Curve.{point-at, length-to}
+use Rattle.curves.specs.inner.Segments.{KnotsRoom}
+use Rattle.curves.specs.declared.point.Point.{Point}
+use Rattle.curves.proofs.curve.Laws.{length-more, KnotsTo, no-knots, next-knot, knots-done}
+use borrow.Author.Needs.{needs}
 use Rattle.curves.proofs.curve.fill_knots.Statement.{statement}
 use Rattle.curves.proofs.curve.fill_knots.Tie as tie
-use Rattle.curves.proofs.curve.fill_knots.Reads as reads
-use Rattle.curves.proofs.curve.fill_knots.Lts as lts
-use Rattle.curves.proofs.curve.distance.Reads as distance-reads
-use Rattle.curves.proofs.curve.point_at.Reads as point-at-reads
-use Rattle.curves.proofs.curve.store_knot.Reads as store-knot-reads
+
+record RunTo (points : List Float) (from : ℕ) (knots₀ : List Float) (n : ℕ) (knots : List Float) (k at : ℕ) (run : Float) (p : Point) : Type 0 where
+  pub below : k < n
+  pub at-is : at ≡ from + 3 * k
+  pub given : KnotsRoom points from knots
+  pub same-length : length knots ≡ length knots₀
+  pub here : p ≡ point-at points k
+  pub run-is : run ≡ length-to points k
+  pub knots-to : KnotsTo points from knots₀ k knots
 
 abbrev Inv-loop : tie.InvT-loop
-Inv-loop points from knots₀ n k₀ at₀ length₀ p₀ knots k at length p = ?
+Inv-loop points from knots₀ n k₀ at₀ length₀ p₀ knots k at run p = RunTo points from knots₀ n knots k at run p
 
 abbrev μ-loop : tie.MeasureT-loop
-μ-loop points from knots₀ n k₀ at₀ length₀ p₀ knots k at length p = ?
+μ-loop points from knots₀ n k₀ at₀ length₀ p₀ knots k at run p = n - k
 
--- src/curve.rt:110:9
-point-at-requires : tie.Need-point-at-requires Inv-loop μ-loop
-point-at-requires c κs = ?
+-- ---- the places that needs look back to
 
--- src/curve.rt:111:5
+abbrev Entry : Type 0
+Entry = tie.Start Inv-loop μ-loop
+
+abbrev Turn : Type 0
+Turn = tie.At-loop Inv-loop μ-loop
+
+abbrev entry-before-turn : Turn → Entry
+entry-before-turn turn = search
+
 loop-holds : tie.Need-loop-holds Inv-loop μ-loop
-loop-holds c = ?
+unfolding length-to
+loop-holds c =
+    let entry : Entry = search in
+    record {
+      below = omega arith;
+      at-is = omega arith;
+      given = entry .pre;
+      same-length = refl;
+      here = c .point-at .ensures;
+      run-is = refl;
+      knots-to = no-knots;
+    }
 
--- src/curve.rt:111:11
-add-loop : tie.Need-add-loop Inv-loop μ-loop
-add-loop c = ?
-
--- src/curve.rt:117:9
-store-knot-requires : tie.Need-store-knot-requires Inv-loop μ-loop
-store-knot-requires c κs = ?
-
--- src/curve.rt:118:34
-add-point-at : tie.Need-add-point-at Inv-loop μ-loop
-add-point-at c = ?
-
--- src/curve.rt:118:13
-point-at-requires-2 : tie.Need-point-at-requires-2 Inv-loop μ-loop
-point-at-requires-2 c κs = ?
-
--- src/curve.rt:119:27
-distance-requires : tie.Need-distance-requires Inv-loop μ-loop
-distance-requires c κs = ?
-
--- src/curve.rt:121:9
-add-k : tie.Need-add-k Inv-loop μ-loop
-add-k c = ?
-
--- src/curve.rt:122:9
-add-at : tie.Need-add-at Inv-loop μ-loop
-add-at c = ?
-
--- src/curve.rt:111:5
-loop-less : tie.Need-loop-less Inv-loop μ-loop
-loop-less c = ?
-
--- src/curve.rt:111:5
 loop-again : tie.Need-loop-again Inv-loop μ-loop
-loop-again c = ?
+loop-again c =
+    let at-store : tie.After-store-knot Inv-loop μ-loop = search in
+    let turn : Turn = search in
+    let stored = at-store .store-knot in
+    let l = turn .loop in
+    let inv = l .inv in
+    let points = now (entry-before-turn turn .args .points) in
+    let same = stored .kept .1 .1 .0 in
+    record {
+      below = omega arith;
+      at-is = omega (arith, inv .at-is);
+      given = record { some = inv .given .some; room = omega (arith, same, inv .given .room) };
+      same-length = same ∙ inv .same-length;
+      here = c .before .point-at2 .ensures;
+      run-is = length-more points (l .k) (inv .run-is) (inv .here) (c .before .point-at2 .ensures) (c .distance .ensures);
+      knots-to = next-knot (inv .knots-to) (inv .at-is) (omega arith) (inv .here) (inv .run-is) (stored .ensures);
+    }
 
--- src/curve.rt:129:5
-store-knot-requires-2 : tie.Need-store-knot-requires-2 Inv-loop μ-loop
-store-knot-requires-2 c κs = ?
-
--- src/curve.rt:101:1
 same-length : tie.Need-same-length Inv-loop μ-loop
-same-length c = ?
+same-length c =
+    let turn : Turn = search in
+    c .before .before .store-knot2 .kept .1 .1 .0 ∙ turn .loop .inv .same-length
 
--- src/curve.rt:101:1
 returns : tie.Need-returns Inv-loop μ-loop
-returns c = ?
+returns c =
+    let turn : Turn = search in
+    let l = turn .loop in
+    let points = now (entry-before-turn turn .args .points) in
+    let e : l .k ≡ length points / 2 - 1 = omega arith in (
+      l .inv .run-is ∙ ap (length-to points) e,
+      knots-done (next-knot (l .inv .knots-to) (l .inv .at-is) (omega arith) (l .inv .here) (l .inv .run-is) (c .before .before .store-knot2 .ensures)) (omega arith),
+    )
 
 pub fill-knots-spec : {M : Type 1} → statement M
 fill-knots-spec =
     tie.close
     (tie.spec
-    Inv-loop
-    μ-loop
-    point-at-requires
-    loop-holds
-    add-loop
-    store-knot-requires
-    add-point-at
-    point-at-requires-2
-    distance-requires
-    add-k
-    add-at
-    loop-less
-    loop-again
-    store-knot-requires-2
-    same-length
-    returns)
+    Inv-loop μ-loop (λ c κs. omega arith) loop-holds (λ c. omega arith) (λ c κs. omega arith) (λ c. omega arith) (λ c κs. omega arith)
+    (λ c κs. search needs) (λ c. omega arith) (λ c. omega arith) (λ c. omega arith) loop-again (λ c κs. omega arith) same-length returns)

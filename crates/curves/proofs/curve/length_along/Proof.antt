@@ -1,30 +1,14 @@
+-- `curve::length_along` meets its contract. Assumes nothing.
+use Rattle.curves.specs.Curve.{target-of}
 use borrow.Author.Needs.{needs}
 use Rattle.curves.proofs.curve.length_along.Statement.{statement}
 use Rattle.curves.proofs.curve.length_along.Tie as tie
-use Rattle.curves.proofs.curve.length_along.Reads as reads
-use Rattle.curves.proofs.curve.length_along.Lts as lts
-use Rattle.floats.proofs.scalar.clamp_unit.Reads as clamp-unit-reads
 
--- src/curve.rt:272:9
-clamp-unit-requires : tie.Need-clamp-unit-requires
-clamp-unit-requires c κs = search needs
-
--- src/curve.rt:274:23
-sub-total : tie.Need-sub-total
-sub-total c = search needs
-
--- src/curve.rt:274:17
-mul-total : tie.Need-mul-total
-mul-total c = search needs
-
--- src/curve.rt:274:17
-shared-slice-read-total : tie.Need-shared-slice-read-total
-shared-slice-read-total c = search needs
-
--- src/curve.rt:268:1
 returns : tie.Need-returns
-returns c = ?
+unfolding target-of
+returns c =
+    let at-clamp : tie.After-clamp-unit = search in
+    simp (at-clamp .clamp-unit .ensures)
 
 pub length-along-spec : {M : Type 1} → statement M
-length-along-spec =
-    tie.close (tie.spec clamp-unit-requires sub-total mul-total shared-slice-read-total returns)
+length-along-spec = tie.close (tie.spec (λ c κs. search needs) (λ c. search needs) (λ c. search needs) (λ c. search needs) returns)

@@ -20,7 +20,7 @@ returns-2 c = record {
 
 returns-3 : tie.Need-returns-3
 returns-3 c =
-    let run = c .before .before .before .run-lengths in
+    let run = c .before .before .before .fill-knots in
     let else2 : tie.Else2 = search in
     let finite = sym (else2 .before .all-finite .ensures) ∙ not-false _ (else2 .if2 .left) in
     record {

@@ -8,19 +8,19 @@ returns : tie.Need-returns
 returns c =
     let entry : tie.Start = search in
     let here = c .before .in-segment .ensures (c .if2 .taken) in
-    (hinted (entry .pre .rising) here, here .has-end)
+    (hinted (entry .pre) here, here .has-end)
 
 returns-2 : tie.Need-returns-2
 returns-2 c =
     let entry : tie.Start = search in
     let after = c .before .in-segment2 .ensures (c .if3 .taken) in
-    (hinted (entry .pre .rising) after, after .has-end)
+    (hinted (entry .pre) after, after .has-end)
 
 returns-3 : tie.Need-returns-3
 returns-3 c =
     let entry : tie.Start = search in
     let earlier = c .before .in-segment3 .ensures (c .if5 .taken) in
-    (hinted (entry .pre .rising) earlier, earlier .has-end)
+    (hinted (entry .pre) earlier, earlier .has-end)
 
 pub segment-near-spec : {M : Type 1} → statement M
 segment-near-spec =
