@@ -115,7 +115,7 @@ fn bad_numbers() {
     let speed = |words: &[&str]| Command::new(env!("CARGO_BIN_EXE_speed")).args(words).output().expect("speed starts");
     complains(&speed(&["tests/no-such-file"]), "tests/no-such-file");
     complains(&speed(&["all", "limits", "tests/no-such-file"]), "tests/no-such-file");
-    complains(&speed(&["limits", "all", "all"]), "usage: speed [all] [limits] [FARMS]");
+    complains(&speed(&["limits", "all", "all"]), "usage: speed grids, or speed [all] [limits] [FARMS]");
 }
 
 #[test]

@@ -1,6 +1,6 @@
 //! speed [all] [limits] [FARMS]: the speed list through the Rust and through this library, as tables of ratios; rounds and solves within
 //! ranges beside those by ideals; solves without a limit. `all`: also the whole solves that take the Rust minutes. `limits`: the table of
-//! solves without a limit alone.
+//! solves without a limit alone. speed grids: the roots and the grids alone.
 
 use compare::together::{check_version, farms, speed, speed_limits, speed_ranges};
 use compare::tool::ended;
@@ -15,12 +15,16 @@ fn run() -> Result<(), String> {
     check_version()?;
     let words: Vec<String> = env::args().skip(1).collect();
     let words: Vec<&str> = words.iter().map(String::as_str).collect();
+    if words[..] == ["grids"] {
+        speed::roots()?;
+        return speed::grids();
+    }
     let (all, rest) = said(&words, "all");
     let (limits, rest) = said(rest, "limits");
     let path = match rest {
         [] => farms::FILE,
         [path] => path,
-        _ => return Err("usage: speed [all] [limits] [FARMS]".to_string()),
+        _ => return Err("usage: speed grids, or speed [all] [limits] [FARMS]".to_string()),
     };
     let farms = speed::list(path)?;
     if !limits {

@@ -34,7 +34,7 @@ const MORE_PLACES: u32 = 300;
 const LIMIT_MAY_BE_STATED: u32 = 400;
 
 /// Ratios near 1 are looked at, so there are more turns than where both are far apart.
-const EFFORT: Effort = Effort { turn: 0.02, seconds: 2.0, turns: 5 };
+pub const EFFORT: Effort = Effort { turn: 0.02, seconds: 2.0, turns: 5 };
 
 /// A loaded build. Its object is never closed, so its functions stay where they are.
 pub struct Build {
@@ -139,7 +139,7 @@ impl Build {
 ///
 /// # Safety
 /// What the object runs when it is loaded does no harm. A build of this library runs nothing of its own.
-unsafe fn open(name: &str) -> Result<*mut c_void, String> {
+pub unsafe fn open(name: &str) -> Result<*mut c_void, String> {
     let told = |problem: String| format!("{name}: {problem}");
     let path = fs::canonicalize(name).map_err(|e| told(e.to_string()))?;
     let path = CString::new(path.as_os_str().as_bytes()).map_err(|e| told(e.to_string()))?;
@@ -155,7 +155,7 @@ unsafe fn open(name: &str) -> Result<*mut c_void, String> {
 ///
 /// # Safety
 /// The object was opened and never closed.
-unsafe fn found(object: *mut c_void, name: &str, function: &CStr) -> Result<*mut c_void, String> {
+pub unsafe fn found(object: *mut c_void, name: &str, function: &CStr) -> Result<*mut c_void, String> {
     // SAFETY: the object is open, and the name ends with its zero.
     let place = unsafe { dlsym(object, function.as_ptr()) };
     if place.is_null() {
@@ -222,6 +222,6 @@ fn table<'a>(rows: impl Iterator<Item = &'a Row<'a>>, race: impl Fn(&Row) -> Res
     rows.map(line).collect()
 }
 
-fn mean(ratios: &[f64]) -> f64 {
+pub fn mean(ratios: &[f64]) -> f64 {
     (ratios.iter().map(|ratio| ratio.ln()).sum::<f64>() / ratios.len() as f64).exp()
 }

@@ -6,10 +6,11 @@
 //! - `expected`: the effect that the oracle and 01 give; `turned`: that of the same call on a turned sheet.
 //! - `clock`, `farms`, `speed`, `growth`, `plot`: both timed in turn; `speed_ranges`: within ranges beside by ideals, and beside the model;
 //!   `speed_limits`: solves without a limit.
-//! - `beside`: two builds of this library, timed in turn.
+//! - `beside`: two builds of this library, timed in turn; `beside_grids`: their grids, meshes and roots.
 //! - `scale`: both on many calls; `random`: numbers from a seed.
 
 pub mod beside;
+pub mod beside_grids;
 pub mod call;
 pub mod clock;
 pub mod expected;

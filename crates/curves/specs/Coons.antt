@@ -99,12 +99,16 @@ unfoldable pub cells-limit : ℕ → ℕ → Verdict
 cells-limit n m =
     then-test (refuse-if (ltb max-cells n || ltb max-cells m) (refused 1 0 0)) (refuse-if (eqb n 0 || eqb m 0) (refused 26 0 0))
 
+-- even seams: the same on opposite sides
+abbrev pub even-seams : ℕ → ℕ → Seams
+even-seams n m = seams (uniform-parameters n) (uniform-parameters n) (uniform-parameters m) (uniform-parameters m)
+
 -- 000's `coons_curves`: `coons_from_parameters` on even seams
 unfoldable pub coons-curves : Layout → List Float → List Float → List Float → List Float → ℕ → ℕ → List Float → Outcome
 unfolding curves-limit cells-limit uniform-parameters coons-from-parameters
 coons-curves layout bottom right top left n m out =
     unless (then-test (curves-limit bottom right top left) (cells-limit n m)) out
-    (coons-from-parameters layout bottom right top left (seams (uniform-parameters n) (uniform-parameters n) (uniform-parameters m) (uniform-parameters m)) out)
+    (coons-from-parameters layout bottom right top left (even-seams n m) out)
 
 -- its two layouts by name: the quads, and the points for a mesh
 abbrev pub coons-quads : List Float → List Float → List Float → List Float → ℕ → ℕ → List Float → Outcome

@@ -1,12 +1,15 @@
 // The public functions of the grid: tests in their order, then the grid. specs/Coons.antt defines what each answers and leaves.
 ghost use mathlib.Core.Path.{_≡_};
 ghost use mathlib.Core.Bool.{true};
+ghost use Prim.Native.Nat.{_≤_};
 ghost use Rattle.base.specs.Refusal.{outcome};
-ghost use Rattle.curves.specs.Grid.{seams};
+ghost use Rattle.curves.specs.Grid.{seams, n-u, n-v, grid-of};
+ghost use Rattle.curves.specs.Limits.{max-curve, max-cells};
 ghost use Rattle.curves.specs.Coons.{outcome-of, grid-stage, patch, seam-limit, seams-limit, curve-limit, curves-limit, cells-limit};
-ghost use Rattle.curves.specs.Coons.{coons-from-parameters, coons-seamed, coons-curves, coons-quads, coons-nodes};
-ghost use Rattle.curves.specs.inner.Curves.{lent, curves-in};
-ghost use Rattle.curves.specs.inner.Grids.{lent-seams, StageGiven, TileGiven, TileShort, SmallTile, SmallGiven};
+ghost use Rattle.curves.specs.Coons.{even-seams, coons-from-parameters, coons-seamed, coons-curves, coons-quads, coons-nodes};
+ghost use Rattle.curves.specs.inner.Curves.{lent, curves-in, ShortCurves};
+ghost use Rattle.curves.specs.inner.Grids.{lent-seams, AnyGrid, SmallGrid, Gridded, StageGiven, TileGiven, TileShort, EvenRoom, FewCells};
+ghost use Rattle.curves.specs.inner.Small.{small-curve};
 use crate::boundary::BoundaryAnswer;
 use crate::boundary::Patch;
 use crate::boundary::checked_curves;
@@ -17,6 +20,7 @@ use crate::limits::MAX_CURVE;
 use crate::limits::MAX_KNOTS;
 use crate::limits::MAX_ROWS;
 use crate::limits::MAX_SEAM;
+use crate::limits::SMALL_CELLS;
 use crate::limits::SMALL_COLUMNS;
 use crate::limits::SMALL_CURVE;
 use crate::limits::SMALL_KNOTS;
@@ -101,6 +105,97 @@ fn check_cell_limits(n_u: u32, n_v: u32) -> Check
     Check::Passed
 }
 
+// The grid of a small tile: most are, and to clear room for the largest ones would take longer than their grid.
+fn small_grid(
+    knots: &[f64],
+    patch: Patch,
+    bottom_u: &[f64],
+    top_u: &[f64],
+    left_v: &[f64],
+    right_v: &[f64],
+    layout: Layout,
+    out: &mut [f64],
+) -> Check
+    requires { let s = lent-seams «bottom_u» «top_u» «left_v» «right_v» in
+        ⌜ SmallGrid (now knots) patch s layout (now out) ⌝ }
+    ensures { λ r.
+        let c = curves-in (now (knots .entry)) (patch .starts) in
+        let s = lent-seams («bottom_u» .entry) («top_u» .entry) («left_v» .entry) («right_v» .entry) in
+        ⌜ Gridded layout (grid-of c s) (n-u s) (n-v s) (now (out .entry)) (now (out .exit)) (outcome r) ⌝ }
+{
+    let mut table = [0.0; SMALL_COLUMNS];
+    let mut rows = [0.0; SMALL_ROWS];
+    coons_grid(
+        knots,
+        patch,
+        bottom_u,
+        top_u,
+        left_v,
+        right_v,
+        layout,
+        &mut table,
+        &mut rows,
+        out,
+    )
+}
+
+// Any grid.
+fn large_grid(
+    knots: &[f64],
+    patch: Patch,
+    bottom_u: &[f64],
+    top_u: &[f64],
+    left_v: &[f64],
+    right_v: &[f64],
+    layout: Layout,
+    out: &mut [f64],
+) -> Check
+    requires { let s = lent-seams «bottom_u» «top_u» «left_v» «right_v» in
+        ⌜ AnyGrid (now knots) patch s layout (now out) ⌝ }
+    ensures { λ r.
+        let c = curves-in (now (knots .entry)) (patch .starts) in
+        let s = lent-seams («bottom_u» .entry) («top_u» .entry) («left_v» .entry) («right_v» .entry) in
+        ⌜ Gridded layout (grid-of c s) (n-u s) (n-v s) (now (out .entry)) (now (out .exit)) (outcome r) ⌝ }
+{
+    let mut table = [0.0; MAX_COLUMNS];
+    let mut rows = [0.0; MAX_ROWS];
+    coons_grid(
+        knots,
+        patch,
+        bottom_u,
+        top_u,
+        left_v,
+        right_v,
+        layout,
+        &mut table,
+        &mut rows,
+        out,
+    )
+}
+
+fn sized_grid(
+    knots: &[f64],
+    patch: Patch,
+    bottom_u: &[f64],
+    top_u: &[f64],
+    left_v: &[f64],
+    right_v: &[f64],
+    layout: Layout,
+    out: &mut [f64],
+) -> Check
+    requires { let s = lent-seams «bottom_u» «top_u» «left_v» «right_v» in
+        ⌜ AnyGrid (now knots) patch s layout (now out) ⌝ }
+    ensures { λ r.
+        let c = curves-in (now (knots .entry)) (patch .starts) in
+        let s = lent-seams («bottom_u» .entry) («top_u» .entry) («left_v» .entry) («right_v» .entry) in
+        ⌜ Gridded layout (grid-of c s) (n-u s) (n-v s) (now (out .entry)) (now (out .exit)) (outcome r) ⌝ }
+{
+    if bottom_u.len() <= SMALL_SEAM {
+        return small_grid(knots, patch, bottom_u, top_u, left_v, right_v, layout, out);
+    }
+    large_grid(knots, patch, bottom_u, top_u, left_v, right_v, layout, out)
+}
+
 // The tests of the seams (18 to 22) and of the output's room (11), then the grid.
 fn grid_stage(
     knots: &[f64],
@@ -110,12 +205,10 @@ fn grid_stage(
     left_v: &[f64],
     right_v: &[f64],
     layout: Layout,
-    table: &mut [f64],
-    rows: &mut [f64],
     out: &mut [f64],
 ) -> GridAnswer
     requires { let s = lent-seams «bottom_u» «top_u» «left_v» «right_v» in
-        ⌜ StageGiven (now knots) patch s (now table) (now rows) ⌝ }
+        ⌜ StageGiven (now knots) patch s ⌝ }
     ensures { λ r.
         let c = curves-in (now (knots .entry)) (patch .starts) in
         let s = lent-seams («bottom_u» .entry) («top_u» .entry) («left_v» .entry) («right_v» .entry) in
@@ -129,18 +222,7 @@ fn grid_stage(
     if out.len() < needed(layout, n_u, n_v) {
         return GridAnswer::Refused(Refusal::OutputTooShort);
     }
-    let made = coons_grid(
-        knots,
-        patch,
-        bottom_u,
-        top_u,
-        left_v,
-        right_v,
-        layout,
-        table,
-        rows,
-        out,
-    );
+    let made = sized_grid(knots, patch, bottom_u, top_u, left_v, right_v, layout, out);
     if let Check::Refused(cause) = made {
         return GridAnswer::Refused(cause);
     }
@@ -148,7 +230,7 @@ fn grid_stage(
     GridAnswer::Made(quads as u32)
 }
 
-// The tests of the curves (13 to 17), then the rest. Room is lent for the knots of the curves, and for the grid's columns and rows.
+// The tests of the curves (13 to 17), then the rest. Room is lent for the knots of the curves.
 fn patch_in(
     bottom: &[f64],
     right: &[f64],
@@ -160,12 +242,10 @@ fn patch_in(
     right_v: &[f64],
     layout: Layout,
     knots: &mut [f64],
-    table: &mut [f64],
-    rows: &mut [f64],
     out: &mut [f64],
 ) -> GridAnswer
     requires { let s = lent-seams «bottom_u» «top_u» «left_v» «right_v» in
-        ⌜ TileGiven (lent bottom right top left) s (now knots) (now table) (now rows) ⌝ }
+        ⌜ TileGiven (lent bottom right top left) s (now knots) ⌝ }
     ensures { λ r.
         let s = lent-seams («bottom_u» .entry) («top_u» .entry) («left_v» .entry) («right_v» .entry) in
         ⌜
@@ -174,22 +254,13 @@ fn patch_in(
 {
     match checked_curves(bottom, right, top, left, knots) {
         BoundaryAnswer::Refused(cause) => GridAnswer::Refused(cause),
-        BoundaryAnswer::Joined(patch) => grid_stage(
-            knots,
-            patch,
-            bottom_u,
-            top_u,
-            left_v,
-            right_v,
-            layout,
-            table,
-            rows,
-            out,
-        ),
+        BoundaryAnswer::Joined(patch) => {
+            grid_stage(knots, patch, bottom_u, top_u, left_v, right_v, layout, out)
+        }
     }
 }
 
-// A small tile: most are, and to clear room for the largest ones would take longer than their grid.
+// A patch of short curves, with room for their knots.
 fn small_patch(
     bottom: &[f64],
     right: &[f64],
@@ -202,7 +273,7 @@ fn small_patch(
     layout: Layout,
     out: &mut [f64],
 ) -> GridAnswer
-    requires { ⌜ SmallGiven (lent bottom right top left) (lent-seams «bottom_u» «top_u» «left_v» «right_v») ⌝ }
+    requires { ⌜ TileShort small-curve (lent bottom right top left) (lent-seams «bottom_u» «top_u» «left_v» «right_v») ⌝ }
     ensures { λ r.
         let s = lent-seams («bottom_u» .entry) («top_u» .entry) («left_v» .entry) («right_v» .entry) in
         ⌜
@@ -210,8 +281,6 @@ fn small_patch(
         (now (bottom .entry)) (now (right .entry)) (now (top .entry)) (now (left .entry)) s (now (out .entry)) ⌝ }
 {
     let mut knots = [0.0; SMALL_KNOTS];
-    let mut table = [0.0; SMALL_COLUMNS];
-    let mut rows = [0.0; SMALL_ROWS];
     patch_in(
         bottom,
         right,
@@ -223,13 +292,11 @@ fn small_patch(
         right_v,
         layout,
         &mut knots,
-        &mut table,
-        &mut rows,
         out,
     )
 }
 
-// Any tile.
+// A patch of any curves.
 fn large_patch(
     bottom: &[f64],
     right: &[f64],
@@ -242,7 +309,7 @@ fn large_patch(
     layout: Layout,
     out: &mut [f64],
 ) -> GridAnswer
-    requires { ⌜ TileShort (lent bottom right top left) (lent-seams «bottom_u» «top_u» «left_v» «right_v») ⌝ }
+    requires { ⌜ TileShort max-curve (lent bottom right top left) (lent-seams «bottom_u» «top_u» «left_v» «right_v») ⌝ }
     ensures { λ r.
         let s = lent-seams («bottom_u» .entry) («top_u» .entry) («left_v» .entry) («right_v» .entry) in
         ⌜
@@ -250,8 +317,6 @@ fn large_patch(
         (now (bottom .entry)) (now (right .entry)) (now (top .entry)) (now (left .entry)) s (now (out .entry)) ⌝ }
 {
     let mut knots = [0.0; MAX_KNOTS];
-    let mut table = [0.0; MAX_COLUMNS];
-    let mut rows = [0.0; MAX_ROWS];
     patch_in(
         bottom,
         right,
@@ -263,16 +328,14 @@ fn large_patch(
         right_v,
         layout,
         &mut knots,
-        &mut table,
-        &mut rows,
         out,
     )
 }
 
-fn is_small(bottom: &[f64], right: &[f64], top: &[f64], left: &[f64], bottom_u: &[f64]) -> bool
+fn has_short_curves(bottom: &[f64], right: &[f64], top: &[f64], left: &[f64]) -> bool
     ensures { λ r.
         let points = lent (bottom .entry) (right .entry) (top .entry) (left .entry) in
-        ⌜ (r ≡ true → SmallTile points (now («bottom_u» .entry))) ⌝ }
+        ⌜ (r ≡ true → ShortCurves small-curve points) ⌝ }
 {
     if bottom.len() > SMALL_CURVE {
         return false;
@@ -283,10 +346,7 @@ fn is_small(bottom: &[f64], right: &[f64], top: &[f64], left: &[f64], bottom_u: 
     if top.len() > SMALL_CURVE {
         return false;
     }
-    if left.len() > SMALL_CURVE {
-        return false;
-    }
-    bottom_u.len() <= SMALL_SEAM
+    left.len() <= SMALL_CURVE
 }
 
 // A grid from four seams, in either layout.
@@ -313,8 +373,8 @@ fn from_parameters(
     if let Check::Refused(cause) = of_curves.and(of_seams) {
         return GridAnswer::Refused(cause);
     }
-    let small = is_small(bottom, right, top, left, bottom_u);
-    if small {
+    let short = has_short_curves(bottom, right, top, left);
+    if short {
         return small_patch(
             bottom,
             right,
@@ -362,6 +422,107 @@ fn from_even_parameters(
     from_parameters(bottom, right, top, left, us, us, vs, vs, layout, out)
 }
 
+// Even seams are made in the room that is lent, then the grid.
+fn even_patch(
+    bottom: &[f64],
+    right: &[f64],
+    top: &[f64],
+    left: &[f64],
+    n_u: u32,
+    n_v: u32,
+    layout: Layout,
+    us: &mut [f64],
+    vs: &mut [f64],
+    out: &mut [f64],
+) -> GridAnswer
+    requires { ⌜ EvenRoom «n_u» «n_v» (now us) (now vs) ⌝ }
+    ensures { λ r.
+        ⌜
+        outcome-of r (now (out .exit)) ≡ coons-from-parameters layout
+        (now (bottom .entry)) (now (right .entry)) (now (top .entry)) (now (left .entry)) (even-seams «n_u» «n_v») (now (out .entry)) ⌝ }
+{
+    uniform_parameters(n_u, us);
+    uniform_parameters(n_v, vs);
+    let along_u = n_u as usize + 1;
+    let along_v = n_v as usize + 1;
+    from_even_parameters(
+        bottom,
+        right,
+        top,
+        left,
+        &us[..along_u],
+        &vs[..along_v],
+        layout,
+        out,
+    )
+}
+
+// The same with room for few cells.
+fn small_even_patch(
+    bottom: &[f64],
+    right: &[f64],
+    top: &[f64],
+    left: &[f64],
+    n_u: u32,
+    n_v: u32,
+    layout: Layout,
+    out: &mut [f64],
+) -> GridAnswer
+    requires { ⌜ FewCells «n_u» «n_v» ⌝ }
+    ensures { λ r.
+        ⌜
+        outcome-of r (now (out .exit)) ≡ coons-from-parameters layout
+        (now (bottom .entry)) (now (right .entry)) (now (top .entry)) (now (left .entry)) (even-seams «n_u» «n_v») (now (out .entry)) ⌝ }
+{
+    let mut us = [0.0; SMALL_SEAM];
+    let mut vs = [0.0; SMALL_SEAM];
+    even_patch(
+        bottom,
+        right,
+        top,
+        left,
+        n_u,
+        n_v,
+        layout,
+        &mut us,
+        &mut vs,
+        out,
+    )
+}
+
+// And for any number of them.
+fn large_even_patch(
+    bottom: &[f64],
+    right: &[f64],
+    top: &[f64],
+    left: &[f64],
+    n_u: u32,
+    n_v: u32,
+    layout: Layout,
+    out: &mut [f64],
+) -> GridAnswer
+    requires { ⌜ («n_u» ≤ max-cells) × («n_v» ≤ max-cells) ⌝ }
+    ensures { λ r.
+        ⌜
+        outcome-of r (now (out .exit)) ≡ coons-from-parameters layout
+        (now (bottom .entry)) (now (right .entry)) (now (top .entry)) (now (left .entry)) (even-seams «n_u» «n_v») (now (out .entry)) ⌝ }
+{
+    let mut us = [0.0; MAX_SEAM];
+    let mut vs = [0.0; MAX_SEAM];
+    even_patch(
+        bottom,
+        right,
+        top,
+        left,
+        n_u,
+        n_v,
+        layout,
+        &mut us,
+        &mut vs,
+        out,
+    )
+}
+
 // A grid of even seams, in either layout.
 fn from_cells(
     bottom: &[f64],
@@ -383,22 +544,12 @@ fn from_cells(
     if let Check::Refused(cause) = of_curves.and(of_cells) {
         return GridAnswer::Refused(cause);
     }
-    let mut us = [0.0; MAX_SEAM];
-    let mut vs = [0.0; MAX_SEAM];
-    uniform_parameters(n_u, &mut us);
-    uniform_parameters(n_v, &mut vs);
-    let along_u = n_u as usize + 1;
-    let along_v = n_v as usize + 1;
-    from_even_parameters(
-        bottom,
-        right,
-        top,
-        left,
-        &us[..along_u],
-        &vs[..along_v],
-        layout,
-        out,
-    )
+    if n_u < SMALL_CELLS {
+        if n_v < SMALL_CELLS {
+            return small_even_patch(bottom, right, top, left, n_u, n_v, layout, out);
+        }
+    }
+    large_even_patch(bottom, right, top, left, n_u, n_v, layout, out)
 }
 
 // The quads between four boundary curves, by four seams.

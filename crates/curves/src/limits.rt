@@ -26,12 +26,14 @@ pub(crate) const MAX_COLUMNS: usize = COLUMN_SIZE * MAX_SEAM;
 
 pub(crate) const MAX_ROWS: usize = 2 * POINT_SIZE * MAX_SEAM;
 
-// A small tile has curves of at most 64 points, and at most 63 cells along its bottom.
+// Most tiles are small: curves of at most 64 points, and less than 64 cells. They get room of their own size, since room is cleared first.
 pub(crate) const SMALL_POINTS: usize = 64;
 
 pub(crate) const SMALL_CURVE: usize = 2 * SMALL_POINTS;
 
-pub(crate) const SMALL_SEAM: usize = 64;
+pub(crate) const SMALL_CELLS: u32 = 64;
+
+pub(crate) const SMALL_SEAM: usize = SMALL_CELLS as usize;
 
 pub(crate) const SMALL_KNOTS: usize = 4 * KNOT_SIZE * SMALL_POINTS;
 

@@ -106,11 +106,21 @@ pub record GridGiven (knots : List Float) (p : Patch) (s : Seams) (layout : Layo
   pub workspace : Workspace (s .bottom) table rows
   pub room : needed layout (n-u s) (n-v s) ≤ length out
 
+-- the same without room for columns and rows
+pub record AnyGrid (knots : List Float) (p : Patch) (s : Seams) (layout : Layout) (out : List Float) : Type 0 where
+  pub patch : PatchGiven knots p
+  pub paired : PairedSeams s
+  pub room : needed layout (n-u s) (n-v s) ≤ length out
+
+-- such a grid, with few cells along the bottom
+pub record SmallGrid (knots : List Float) (p : Patch) (s : Seams) (layout : Layout) (out : List Float) : Type 0 where
+  pub any : AnyGrid knots p s layout out
+  pub few : length (s .bottom) ≤ small-seam
+
 -- the same before the seams and the output's room are tested
-pub record StageGiven (knots : List Float) (p : Patch) (s : Seams) (table rows : List Float) : Type 0 where
+pub record StageGiven (knots : List Float) (p : Patch) (s : Seams) : Type 0 where
   pub patch : PatchGiven knots p
   pub short : ShortSeams s
-  pub workspace : Workspace (s .bottom) table rows
 
 -- n by m cells that are to be cleared
 pub record CellsRoom (layout : Layout) (n m : ℕ) (out : List Float) : Type 0 where
@@ -125,23 +135,26 @@ pub record Gridded (layout : Layout) (f : Grid) (n m : ℕ) (before after : List
 
 -- ---- tiles
 
--- what a patch is made from: curves with room for their knots, seams, and room for columns and rows
-pub record TileGiven (points : Sides) (s : Seams) (knots table rows : List Float) : Type 0 where
+-- what a patch is made from: curves with room for their knots, and seams
+pub record TileGiven (points : Sides) (s : Seams) (knots : List Float) : Type 0 where
   pub knots-fit : KnotsFit points knots
   pub short : ShortSeams s
-  pub workspace : Workspace (s .bottom) table rows
 
--- a tile within the limits
-pub record TileShort (points : Sides) (s : Seams) : Type 0 where
-  pub curves : ShortCurves max-curve points
+-- curves and seams within a limit of the curves
+pub record TileShort (limit : ℕ) (points : Sides) (s : Seams) : Type 0 where
+  pub curves : ShortCurves limit points
   pub seams : ShortSeams s
 
--- one that is small enough for the smaller room
-pub record SmallTile (points : Sides) (bottom : List Float) : Type 0 where
-  pub curves : ShortCurves small-curve points
-  pub seam : length bottom ≤ small-seam
+-- ---- even seams
 
--- such a tile, with seams within the limit
-pub record SmallGiven (points : Sides) (s : Seams) : Type 0 where
-  pub small : SmallTile points (s .bottom)
-  pub seams : ShortSeams s
+-- room for two seams of so many cells
+pub record EvenRoom (n m : ℕ) (us vs : List Float) : Type 0 where
+  pub columns : n ≤ max-cells
+  pub rows : m ≤ max-cells
+  pub us-long : n < length us
+  pub vs-long : m < length vs
+
+-- few cells, for the smaller room
+pub record FewCells (n m : ℕ) : Type 0 where
+  pub columns : n < small-seam
+  pub rows : m < small-seam

@@ -1,4 +1,4 @@
--- Small tiles, which get smaller tables: curves of at most 64 points, and at most 63 cells along the bottom. Assumes nothing.
+-- Small tiles, which get less room: curves of at most 64 points, and less than 64 cells along the bottom. Assumes nothing.
 use Prim.Native.Nat.{ℕ, _*_}
 
 abbrev pub small-curve : ℕ
