@@ -99,7 +99,7 @@ halve lengths target (suc k) true lo hi =
 -- the number of the segment in which the target lies
 unfoldable pub segment-at : List Float → Float → ℕ
 unfolding halve
-segment-at lengths target = let last = length lengths - 1 in halve lengths target (last - 0) (ltb 1 (last - 0)) 0 last
+segment-at lengths target = let last = length lengths - 1 in halve lengths target last (ltb 1 last) 0 last
 
 -- where the clamped parameter t lies on the curve
 unfoldable pub along : ArcCurve → Float → Point

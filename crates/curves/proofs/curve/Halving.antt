@@ -1,14 +1,14 @@
--- The halving does not depend on the number that bounds its steps, and goes one step as the code does. Assumes nothing.
+-- The halving does not depend on the number that bounds its steps, begins as the code does, and goes one step as the code does. Assumes nothing.
 use mathlib.Core.Path.{_≡_, refl, ap, _∙_}
 use mathlib.Core.Bool.{Bool, true, false, cond}
 use mathlib.Core.List.{List}
 use Prim.Native.Nat.{ℕ, zero, suc, _+_, _-_, _/_, _<_, _≤_}
 use native.Mathlib.Omega.{arith}
-use lib.ListN.{getD}
+use lib.ListN.{length, getD}
 use lib.Dec.{ltb}
 use lib.Ieee.{Float, nan, le}
 use borrow.Author.Tests.{ltb-true, lt-ltb, le-ltb}
-use Rattle.curves.specs.Curve.{halve}
+use Rattle.curves.specs.Curve.{halve, segment-at}
 
 -- either half is shorter
 narrower : (right : Bool) (lo hi : ℕ) → 1 < hi - lo → cond right hi ((lo + hi) / 2) - cond right ((lo + hi) / 2) lo < hi - lo
@@ -34,6 +34,11 @@ module _ (c : List Float) (t : Float) where
   -- as the code's loop has it: the distance of lo and hi bounds the steps
   abbrev pub halved : ℕ → ℕ → ℕ
   halved lo hi = halve c t (hi - lo) (ltb 1 (hi - lo)) lo hi
+
+  -- from the first length to the last it is the definition's
+  pub whole : halved 0 (length c - 1) ≡ segment-at c t
+  unfolding segment-at
+  whole = let last = length c - 1 in let e : last - 0 ≡ last = omega arith in ap (λ (k : ℕ). halve c t k (ltb 1 k) 0 last) e
 
   step : (g : Bool) (lo hi : ℕ) → 1 < hi - lo → le (getD c ((lo + hi) / 2) nan) t ≡ g → halved lo hi ≡ halved (cond g ((lo + hi) / 2) lo) (cond g hi ((lo + hi) / 2))
   unfolding halve

@@ -11,7 +11,7 @@ use lib.Ieee.{Float, nan, lt, le}
 use Rattle.curves.specs.Curve.{segment-at}
 use Rattle.curves.specs.inner.Segments.{Rising, InSegment}
 use Rattle.floats.proofs.scalar.Order.{le-le, lt-le, lt-not-le}
-use Rattle.curves.proofs.curve.Halving.{halved, step-right, step-left, stop}
+use Rattle.curves.proofs.curve.Halving.{halved, whole, step-right, step-left, stop}
 
 module _ (c : List Float) (target : Float) (rises : Rising c) where
   -- before a length that is not above the target none is
@@ -60,8 +60,9 @@ module _ (c : List Float) (target : Float) (rises : Rising c) where
             step-right c target lo hi s (to-left ((lo + hi) / 2) u) ∙ next ((lo + hi) / 2) hi (omega arith) u q l
 
     found-whole : k ≡ segment-at c target
-    unfolding segment-at
-    found-whole = let h = inside .has-end in sym (found (length c - 1) 0 (length c - 1) (omega arith) (omega arith) (omega arith) (omega arith))
+    found-whole =
+        let h = inside .has-end in
+        sym (found (length c - 1) 0 (length c - 1) (omega arith) (omega arith) (omega arith) (omega arith)) ∙ whole c target
 
 pub hinted : {lengths : List Float} {target : Float} {k : ℕ} → Rising lengths → InSegment lengths k target → k ≡ segment-at lengths target
 hinted {lengths} {target} {k} rises inside = found-whole lengths target rises k inside

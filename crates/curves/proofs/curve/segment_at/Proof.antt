@@ -1,12 +1,12 @@
 -- `curve::segment_at` meets its contract. Before each turn the halving from lo and hi gives the definition's segment. Assumes nothing.
-use mathlib.Core.Path.{_≡_, refl, sym, _∙_}
+use mathlib.Core.Path.{_≡_, sym, _∙_}
 use mathlib.Core.List.{List}
 use Prim.Native.Nat.{ℕ, _-_, _<_}
 use native.Mathlib.Omega.{arith}
 use lib.ListN.{length}
 use lib.Ieee.{Float}
 use Rattle.curves.specs.Curve.{segment-at}
-use Rattle.curves.proofs.curve.Halving.{halved, step-right, step-left, stop}
+use Rattle.curves.proofs.curve.Halving.{halved, whole, step-right, step-left, stop}
 use Rattle.curves.proofs.curve.segment_at.Statement.{statement}
 use Rattle.curves.proofs.curve.segment_at.Tie as tie
 
@@ -22,8 +22,7 @@ abbrev μ-loop : tie.MeasureT-loop
 μ-loop lengths target lo₀ hi₀ lo hi = hi - lo
 
 loop-holds : tie.Need-loop-holds Inv-loop μ-loop
-unfolding segment-at
-loop-holds c = record { apart = omega arith; there = omega arith; same = refl }
+loop-holds c = record { apart = omega arith; there = omega arith; same = whole _ _ }
 
 loop-again : tie.Need-loop-again Inv-loop μ-loop
 loop-again c = record {
