@@ -17,12 +17,12 @@ use Rattle.base.specs.Tests.{first-of}
 use Rattle.floats.specs.Scalar.{nought, one, e-9, e-12, float-abs, in-unit, clamp-unit, is-positive}
 use Rattle.base.specs.Buffers.{splice}
 use Rattle.curves.specs.Point.{point, signed-area}
-use Rattle.curves.specs.Curve.{point-count, point-at, all-finite, total-length, curve-test}
+use Rattle.curves.specs.Curve.{point-count, all-finite, total-length, curve-test}
 use Rattle.curves.specs.Boundary.{BoundaryCurves, boundary-of, boundary-ends, tolerance, points-apart, corner-test, winding-test, ends-test, checked-curves}
 use Rattle.curves.specs.Seam.{falls, value-test, seam-ends-test, seam-test, pair-test, seams-test}
 use Rattle.curves.specs.Crossing.{denominator, crossing-u, crossing-v, logical-intersection}
-use Rattle.curves.specs.Quad.{zeros}
-use Rattle.curves.specs.Grid.{Seams, Grid, grid-of, n-u, n-v, mapped, row-of, row-points, points-test, cell-test, quads-test, grid-test, grid-values, needed}
+use Rattle.curves.specs.Quad.{quad-test, zeros}
+use Rattle.curves.specs.Grid.{Seams, Grid, grid-of, n-u, n-v, mapped, row-of, Quad, grid-quad, area-test, points-test, quads-test, grid-test, grid-values, needed}
 use Rattle.curves.specs.Coons.{Outcome, unless, filled, grid-stage, patch, curve-limit, curves-limit, seam-limit, seams-limit, coons-from-parameters}
 use Rattle.curves.specs.Lay.{TileInput, record-test, edges-test, breaks-test, sides-test, seams-of, lay}
 use Rattle.curves.specs.declared.point.Point.{Point}
@@ -168,14 +168,13 @@ points-clear : (f : Grid) (n m : ℕ) → ((j i : ℕ) → Clear (verdict (f j i
 unfolding points-test
 points-clear f n m h = first-clear _ (λ j. first-clear _ (h j) 0 (n + 1)) 0 (m + 1)
 
-cell-clear : (low high : List Float) (j i : ℕ) → Clear (cell-test low high j i)
-unfolding cell-test
-cell-clear low high j i =
-    if-clear (not (is-positive (signed-area (point-at low i) (point-at low (i + 1)) (point-at high (i + 1)) (point-at high i)))) 25 i j tt
+area-clear : (q : Quad) (i j : ℕ) → Clear (area-test q i j)
+unfolding quad-test
+area-clear q i j = if-clear (not (is-positive (signed-area (q .lower-left) (q .lower-right) (q .upper-right) (q .upper-left)))) 25 i j tt
 
 quads-clear : (f : Grid) (n m : ℕ) → Clear (quads-test f n m)
 unfolding quads-test
-quads-clear f n m = first-clear _ (λ j. first-clear _ (cell-clear (row-points (f j) n) (row-points (f (suc j)) n) j) 0 n) 0 m
+quads-clear f n m = first-clear _ (λ j. first-clear _ (λ i. area-clear (grid-quad f j i) i j) 0 n) 0 m
 
 grid-clear : (f : Grid) (n m : ℕ) → ((j i : ℕ) → Clear (verdict (f j i))) → Clear (grid-test f n m)
 unfolding grid-test

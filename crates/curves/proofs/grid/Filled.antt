@@ -19,14 +19,15 @@ use Rattle.base.proofs.TestLaws.{refuses}
 use Rattle.base.specs.Buffers.{concat-tabulate, splice}
 use Rattle.base.specs.Tests.{first-of}
 use Rattle.curves.specs.Quad.{zeros}
-use Rattle.curves.specs.Grid.{PointRow, Grid, row-points, row-test, points-test, quads-test, grid-test, row-part, grid-part, grid-values, needed}
-use Rattle.curves.specs.inner.Rows.{row-size, RowFilled, RowLaid, Laid}
+use Rattle.curves.specs.Grid.{PointRow, Grid, row-test, points-test, quads-test, grid-test, grid-values, needed}
+use Rattle.curves.specs.inner.Rows.{row-points, row-part, grid-part, row-size, RowFilled, RowLaid, Laid}
 use Rattle.curves.specs.inner.Grids.{Gridded}
 use Rattle.curves.specs.Coons.{Outcome, refusal, filled}
 use Rattle.curves.specs.declared.rows.Layout.{Layout}
 use Rattle.base.proofs.BufferLaws.{take-splice, splice-none}
-use Rattle.curves.proofs.rows.Laws.{length-row-points, RowBefore, none-before, row-passed, cells-below, cells-begin, cells-step, cells-end}
+use Rattle.curves.proofs.rows.Laws.{length-row-points, RowBefore, none-before, row-passed, cells-begin, cells-step, cells-end}
 use Rattle.curves.proofs.rows.Laws.{row-fits, row-end, row-written, rows-written, rows-cleared}
+use Rattle.curves.proofs.rows.Whole.{cells-below}
 
 -- the front of the buffer that a row was written to
 pub row-part-read : (f : PointRow) (n : ℕ) (d xs : List Float) → xs ≡ splice d 0 (row-points f n) → take (2 * (n + 1)) xs ≡ row-points f n

@@ -22,20 +22,21 @@ use Rattle.curves.specs.Boundary.{BoundaryCurves, curve-ends}
 use Rattle.curves.specs.Patch.{coons-point}
 use Rattle.curves.specs.inner.Columns.{column-at, row-at, patch-point}
 use Rattle.curves.specs.inner.Columns.{stored-column, Table, level-points}
-use Rattle.curves.specs.Grid.{mapped, PointRow, crossings, row-of, coordinates, row-points, row-test}
+use Rattle.curves.specs.Grid.{mapped, PointRow, crossings, row-of, row-test}
 use Rattle.curves.specs.inner.Curves.{PatchCurves}
-use Rattle.curves.specs.inner.Rows.{mapped-points, RowFilled}
+use Rattle.curves.specs.inner.Rows.{coordinates, row-points, mapped-points, RowFilled}
 use Rattle.curves.specs.declared.boundary.Ends.{Ends}
 use Rattle.curves.specs.declared.patch.Column.{Column}
 use Rattle.curves.specs.declared.patch.Row.{Row as PatchRow}
 use Rattle.curves.specs.declared.point.Point.{Point}
 use Rattle.curves.specs.declared.point.PointAnswer.{PointAnswer}
 use Rattle.curves.specs.declared.point.PointAnswer.the-variants.{At, Refused as NoPoint}
-use Rattle.base.proofs.BufferLaws.{splice-none, length-concat, concat-same, getD-concat, pair-step, splice-past}
+use Rattle.base.proofs.BufferLaws.{splice-none, length-concat, concat-same, pair-step, splice-past}
 use Rattle.base.proofs.TestLaws.{refused-not-passed, first-start, first-next, first-stops, first-done, first-same, first-all, first-each}
 use Rattle.curves.proofs.crossing.Laws.{There, crossing-there}
 use Rattle.curves.proofs.patch.Laws.{split-patch}
 use Rattle.curves.proofs.columns.Laws.{level-point}
+use Rattle.curves.proofs.rows.Whole.{value-of-row}
 
 -- ---- one point
 
@@ -70,10 +71,6 @@ there c (turned-away w) u v h e f = absurd h
 
 -- ---- a row of n + 1 points, written over d
 
-pub length-coordinates : (a : Answer Point) → length (coordinates a) ≡ 2
-length-coordinates (good p) = refl
-length-coordinates (turned-away v) = refl
-
 -- the points before i are written and have passed
 pub record Begun (f : PointRow) (n : ℕ) (d : List Float) (i : ℕ) (row : List Float) : Type 0 where
   pub written : row ≡ splice d 0 (concat-tabulate (λ (k : ℕ). coordinates (f k)) 0 i)
@@ -91,7 +88,7 @@ module _ {f : PointRow} {n : ℕ} {d : List Float} where
   row-goes-on {i} {k} {row} {a} {x} {y} s h e r w q =
       let m : f i ≡ good (point x y) = sym q ∙ ap point-of w in
       record {
-        written = pair-step d (λ (k : ℕ). coordinates (f k)) row i k x y (λ j. length-coordinates (f j)) (s .written) e (omega arith) (sym (ap coordinates m));
+        written = pair-step d (λ (k : ℕ). coordinates (f k)) row i k x y (λ j. refl) (s .written) e (omega arith) (sym (ap coordinates m));
         left = s .left ∙ first-next (λ (k : ℕ). verdict (f k)) i (n + 1) Passed (omega arith) refl (sym (ap verdict m));
       }
 
@@ -159,13 +156,10 @@ module _ (c : BoundaryCurves) (bottom top : List Float) (a b : Float) (j : ℕ) 
   module _ (n : ℕ) (row : List Float) (t : T (is-passed (row-test (crossings bottom top a b j) n)))
       (e : take (2 * (n + 1)) row ≡ row-points (crossings bottom top a b j) n) where
     crossing-at : (i r : ℕ) → i ≤ n → r < 2 → getD row (2 * i + r) nan ≡ getD (coordinates (crossings bottom top a b j i)) r nan
-    unfolding row-points
     crossing-at i r h q =
-        let f : ℕ → List Float = λ (k : ℕ). coordinates (crossings bottom top a b j k) in
         sym (getD-take (2 * (n + 1)) row (2 * i + r) nan (omega arith))
         ∙ ap (λ (x : List Float). getD x (2 * i + r) nan) e
-        ∙ getD-concat f 2 0 (n + 1) i r nan (λ k. length-coordinates (crossings bottom top a b j k)) (omega arith) q
-        ∙ ap (λ (x : ℕ). getD (f x) r nan) (zero-add i)
+        ∙ value-of-row (crossings bottom top a b j) n i r h q
 
     passed-at : (i : ℕ) → i ≤ n → T (is-passed (verdict (crossings bottom top a b j i)))
     unfolding row-test

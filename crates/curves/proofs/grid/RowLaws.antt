@@ -22,8 +22,8 @@ use Rattle.curves.specs.inner.Columns.{row-at, level-points}
 use Rattle.curves.specs.inner.Level.{Plain, Straight}
 use Rattle.curves.specs.inner.Curves.{PatchCurves}
 use Rattle.curves.specs.inner.Grids.{LevelGiven}
-use Rattle.curves.specs.Grid.{crossings, row-of, row-points, row-test}
-use Rattle.curves.specs.inner.Rows.{mapped-points, RowFilled}
+use Rattle.curves.specs.Grid.{crossings, row-of, row-test}
+use Rattle.curves.specs.inner.Rows.{row-points, mapped-points, RowFilled}
 use Rattle.curves.specs.declared.boundary.Ends.{Ends}
 use Rattle.curves.specs.declared.patch.Row.{Row as PatchRow}
 use Rattle.base.proofs.BufferLaws.{splice-over}

@@ -20,15 +20,15 @@ use Rattle.floats.specs.Scalar.{nought, is-positive}
 use Rattle.curves.specs.Point.{signed-area}
 use Rattle.curves.specs.Curve.{point-at}
 use Rattle.curves.specs.Quad.{quad-test, zeros}
-use Rattle.curves.specs.Grid.{PointRow, Grid, coordinates, row-points, cell-test, cells-test, below-test, quads-test, quad-values, quads-between}
-use Rattle.curves.specs.Grid.{node-values, nodes-of, row-part, grid-part, grid-values, needed}
-use Rattle.curves.specs.inner.Rows.{row-size, QuadsRoom, NodesRoom, RowRoom, RowLaid}
+use Rattle.curves.specs.Grid.{PointRow, Grid, node, grid-quad, quads-test, quad-values, corner-values, node-values, grid-values, needed}
+use Rattle.curves.specs.inner.Rows.{coordinates, row-points, cell-test, cells-test, below-test, quads-between, nodes-of, row-part, grid-part, row-size}
+use Rattle.curves.specs.inner.Rows.{QuadsRoom, NodesRoom, RowRoom, RowLaid}
 use Rattle.curves.specs.declared.point.Point.{Point}
 use Rattle.curves.specs.declared.rows.Layout.{Layout}
 use Rattle.curves.specs.declared.rows.Layout.the-variants.{Quads, Nodes}
 use Rattle.base.proofs.BufferLaws.{length-tabulate, length-concat, length-concat-more, concat-grows, splice-none, store-next, concat-step, splice-over, take-splice}
-use Rattle.base.proofs.TestLaws.{first-more, first-shifted}
-use Rattle.curves.proofs.grid.Laws.{length-coordinates}
+use Rattle.base.proofs.TestLaws.{first-more}
+use Rattle.curves.proofs.rows.Whole.{cells-below, tests-of-grid, parts-of-grid}
 use Rattle.curves.specs.Limits.{max-cells}
 
 -- ---- stores in a row
@@ -252,17 +252,14 @@ module _ {low high : List Float} {n j from : ℕ} {out : List Float} where
 
 pub length-row-points : (f : PointRow) (n : ℕ) → length (row-points f n) ≡ 2 * (n + 1)
 unfolding row-points
-length-row-points f n = length-concat (λ (i : ℕ). coordinates (f i)) 2 0 (n + 1) (λ i h. length-coordinates (f i)) ∙ mul-comm (n + 1) 2
+length-row-points f n = length-concat (λ (i : ℕ). coordinates (f i)) 2 0 (n + 1) (λ i h. refl) ∙ mul-comm (n + 1) 2
 
 pub length-grid : (layout : Layout) (f : Grid) (n m : ℕ) → length (grid-values layout f n m) ≡ needed layout n m
 unfolding grid-values needed
-length-grid Quads f n m =
-    ap (λ (k : ℕ). length (concat-tabulate (grid-part Quads f n) 0 k)) (add-one m)
-    ∙ length-concat (grid-part Quads f n) (8 * n) 1 m
-    (λ j h. ap length (later-quads (row-points (f (j - 1)) n) (row-points (f j) n) n j h)
-    ∙ length-quads (row-points (f (j - 1)) n) (row-points (f j) n) n)
-length-grid Nodes f n m = length-concat (grid-part Nodes f n) (3 * (n + 1)) 0 (m + 1)
-    (λ j h. ap length (nodes-row Nodes (row-points (f (j - 1)) n) (row-points (f j) n) n j refl) ∙ length-nodes (row-points (f j) n) n)
+length-grid Quads f n m = length-concat (λ (j : ℕ). concat-tabulate (λ (i : ℕ). corner-values (grid-quad f j i)) 0 n) (8 * n) 0 m
+    (λ j h. length-concat (λ (i : ℕ). corner-values (grid-quad f j i)) 8 0 n (λ i l. refl) ∙ mul-comm n 8)
+length-grid Nodes f n m = length-concat (λ (j : ℕ). concat-tabulate (λ (i : ℕ). node-values (node (f j i))) 0 (n + 1)) (3 * (n + 1)) 0 (m + 1)
+    (λ j h. length-concat (λ (i : ℕ). node-values (node (f j i))) 3 0 (n + 1) (λ i l. refl) ∙ mul-comm (n + 1) 3)
 
 pub quads-fit : (n m : ℕ) → n ≤ max-cells → m ≤ max-cells → m * (8 * n) ≤ 8388608
 quads-fit n m h k = let e : m * (8 * n) ≤ max-cells * (8 * n) = mul-le-mul-right (8 * n) k in omega arith
@@ -287,35 +284,23 @@ module _ (f : Grid) (n : ℕ) where
 
   -- ---- the tests
 
-  abbrev pub cells-below : ℕ → Verdict
-  cells-below j = below-test (row-points (f (j - 1)) n) (row-points (f j) n) n j
-
-  below-same : (j : ℕ) (low high : List Float) → RowBefore j low → high ≡ row-points (f j) n → below-test low high n j ≡ cells-below j
+  below-same : (j : ℕ) (low high : List Float) → RowBefore j low → high ≡ row-points (f j) n → below-test low high n j ≡ cells-below f n j
   unfolding below-test
   below-same zero low high b e = refl
   below-same (suc j) low high b e =
       ap (λ (l : List Float). cells-test l high n j) (b (omega arith)) ∙ ap (λ (l : List Float). cells-test (row-points (f (suc j - 1)) n) l n j) e
 
-  pub cells-begin : outcome Passed ≡ first-of cells-below 0 0
+  pub cells-begin : outcome Passed ≡ first-of (cells-below f n) 0 0
   unfolding outcome first-of
   cells-begin = refl
 
   pub cells-step : (j : ℕ) (low high : List Float) (kept below next : Check) → RowBefore j low → high ≡ row-points (f j) n
-      → outcome kept ≡ first-of cells-below 0 j → outcome below ≡ below-test low high n j → outcome next ≡ then-test (outcome kept) (outcome below)
-      → outcome next ≡ first-of cells-below 0 (j + 1)
-  cells-step j low high kept below next b e o t w = first-more cells-below j kept below next o (t ∙ below-same j low high b e) w
+      → outcome kept ≡ first-of (cells-below f n) 0 j → outcome below ≡ below-test low high n j → outcome next ≡ then-test (outcome kept) (outcome below)
+      → outcome next ≡ first-of (cells-below f n) 0 (j + 1)
+  cells-step j low high kept below next b e o t w = first-more (cells-below f n) j kept below next o (t ∙ below-same j low high b e) w
 
-  cells-at : (j : ℕ) → cells-below (suc j) ≡ cells-test (row-points (f j) n) (row-points (f (suc j)) n) n j
-  unfolding below-test
-  cells-at j = let e : suc j - 1 ≡ j = omega arith in ap (λ (i : ℕ). cells-test (row-points (f i) n) (row-points (f (suc j)) n) n j) e
-
-  pub all-cells : (m : ℕ) → first-of cells-below 0 (m + 1) ≡ quads-test f n m
-  unfolding first-of below-test quads-test
-  all-cells m = ap (first-of cells-below 0) (add-one m)
-      ∙ first-shifted cells-below (λ (j : ℕ). cells-test (row-points (f j) n) (row-points (f (suc j)) n) n j) cells-at 0 m
-
-  pub cells-end : (m j : ℕ) (kept : Check) → outcome kept ≡ first-of cells-below 0 j → m < j → j ≤ m + 1 → outcome kept ≡ quads-test f n m
-  cells-end m j kept o h k = let e : j ≡ m + 1 = omega arith in o ∙ ap (first-of cells-below 0) e ∙ all-cells m
+  pub cells-end : (m j : ℕ) (kept : Check) → outcome kept ≡ first-of (cells-below f n) 0 j → m < j → j ≤ m + 1 → outcome kept ≡ quads-test f n m
+  cells-end m j kept o h k = let e : j ≡ m + 1 = omega arith in o ∙ ap (first-of (cells-below f n) 0) e ∙ tests-of-grid f n m
 
   -- ---- the output
 
@@ -328,10 +313,9 @@ module _ (f : Grid) (n : ℕ) where
         ∙ ap (λ (l : List Float). row-part layout (row-points (f (suc j - 1)) n) l n (suc j)) e
 
     within : (m j : ℕ) → j ≤ m + 1 → length (concat-tabulate (grid-part layout f n) 0 j) ≤ needed layout n m
-    unfolding grid-values
     within m j h =
         let g = concat-grows (grid-part layout f n) j (m + 1) h in
-        let e = length-grid layout f n m in
+        let e = ap length (parts-of-grid f n layout m) ∙ length-grid layout f n m in
         omega (arith, g, e)
 
     -- what row j adds has room
@@ -363,8 +347,9 @@ module _ (f : Grid) (n : ℕ) where
 
     pub rows-written : (d out : List Float) (m j : ℕ) → out ≡ splice d 0 (concat-tabulate (grid-part layout f n) 0 j) → m < j → j ≤ m + 1
         → out ≡ splice d 0 (grid-values layout f n m)
-    unfolding grid-values
-    rows-written d out m j o h k = let e : j ≡ m + 1 = omega arith in o ∙ ap (λ (i : ℕ). splice d 0 (concat-tabulate (grid-part layout f n) 0 i)) e
+    rows-written d out m j o h k =
+        let e : j ≡ m + 1 = omega arith in
+        o ∙ ap (λ (i : ℕ). splice d 0 (concat-tabulate (grid-part layout f n) 0 i)) e ∙ ap (splice d 0) (parts-of-grid f n layout m)
 
     -- a refusal clears what was written
     pub rows-cleared : (d out last : List Float) (m j : ℕ) → out ≡ splice d 0 (concat-tabulate (grid-part layout f n) 0 j) → j ≤ m + 1 → needed layout n m ≤ length d

@@ -13,7 +13,8 @@ use borrow.Author.Needs.{needs}
 use Rattle.base.specs.declared.refusal.Check.{Check}
 use Rattle.curves.specs.Curve.{curve}
 use Rattle.curves.specs.Boundary.{BoundaryCurves, boundary}
-use Rattle.curves.specs.Grid.{Seams, seams, n-u, n-v, grid-of, row-part}
+use Rattle.curves.specs.Grid.{Seams, seams, n-u, n-v, grid-of}
+use Rattle.curves.specs.inner.Rows.{row-part}
 use Rattle.curves.specs.inner.Grids.{RowsGiven}
 use Rattle.curves.specs.declared.boundary.Ends.{Ends}
 use Rattle.curves.specs.declared.rows.Layout.{Layout}

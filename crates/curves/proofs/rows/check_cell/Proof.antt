@@ -1,5 +1,5 @@
 -- `rows::check_cell` meets its contract. Assumes nothing.
-use Rattle.curves.specs.Grid.{cell-test}
+use Rattle.curves.specs.inner.Rows.{cell-test}
 use borrow.Author.Needs.{needs}
 use Rattle.curves.proofs.rows.check_cell.Statement.{statement}
 use Rattle.curves.proofs.rows.check_cell.Tie as tie

@@ -4,7 +4,7 @@ use Prim.Native.Nat.{_-_}
 use native.Mathlib.Omega.{arith}
 use Rattle.base.specs.Refusal.{outcome}
 use Rattle.base.specs.Tests.{first-of}
-use Rattle.curves.specs.Grid.{cell-test, cells-test}
+use Rattle.curves.specs.inner.Rows.{cell-test, cells-test}
 use Rattle.base.proofs.TestLaws.{first-start, first-next, first-stops, first-done}
 use borrow.Author.Needs.{needs}
 use Rattle.curves.proofs.rows.check_cells.Statement.{statement}

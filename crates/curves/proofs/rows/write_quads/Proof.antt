@@ -12,8 +12,7 @@ use borrow.Author.Needs.{needs}
 use borrow.Author.Tests.{not-false}
 use Rattle.base.specs.Refusal.{passed}
 use Rattle.base.specs.Tests.{first-of}
-use Rattle.curves.specs.Grid.{cell-test, cells-test}
-use Rattle.curves.specs.inner.Rows.{QuadsRoom}
+use Rattle.curves.specs.inner.Rows.{cell-test, cells-test, QuadsRoom}
 use Rattle.base.proofs.TestLaws.{first-passes}
 use Rattle.curves.proofs.rows.Laws.{QuadsTo, Corners, no-quads, next-quad, quads-done, cell-passes}
 use Rattle.curves.proofs.rows.write_quads.Statement.{statement}
