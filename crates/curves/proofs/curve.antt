@@ -3,4 +3,5 @@ pub mod Halving
 pub mod Laws
 pub mod Near
 pub mod Cases
+pub mod Finite
 pub mod Rise

@@ -9,7 +9,7 @@ ghost use Rattle.base.specs.Buffers.{splice};
 ghost use Rattle.curves.specs.Point.{point-of};
 ghost use Rattle.curves.specs.Curve.{point-count, point-at, distance, total-length, arc-curve, knot-count, knot-values, length-at, knot, toward, span};
 ghost use Rattle.curves.specs.Curve.{fraction, blend, segment, segment-at, target-of, curve-at, at-answer, all-finite, total-test};
-ghost use Rattle.curves.specs.inner.Segments.{Sampled, InSegment, KnotsRoom, Measured};
+ghost use Rattle.curves.specs.inner.Segments.{Sampled, InSegment, KnotsRoom, SoundLength, Measured};
 use crate::limits::KNOT_SIZE;
 use crate::point::Point;
 use crate::point::PointAnswer;
@@ -155,6 +155,16 @@ fn check_total(total: f64, side: u32) -> Check
     Check::Refused(Refusal::BadCurveLength(side))
 }
 
+// Whether its length shows that a curve passes: where that is finite, so is each point, and of an even number of values each is one of a point.
+fn is_sound(total: f64, values: usize) -> bool
+    ensures { λ r. ⌜ (r ≡ true → SoundLength total values) ⌝ }
+{
+    if values % 2 == 0 {
+        return is_positive(total);
+    }
+    false
+}
+
 // Tests the curve of a side (13 to 15), and writes its knots, from an index on.
 pub(crate) fn new_curve(points: &[f64], side: u32, from: usize, knots: &mut [f64]) -> Check
     requires { ⌜ from + 3 * point-count (now points) ≤ length (now knots) ⌝ }
@@ -164,11 +174,15 @@ pub(crate) fn new_curve(points: &[f64], side: u32, from: usize, knots: &mut [f64
     if points.len() / 2 < 2 {
         return Check::Refused(Refusal::CurveTooShort(side));
     }
+    let total = fill_knots(points, from, knots);
+    let sound = is_sound(total, points.len());
+    if sound {
+        return Check::Passed;
+    }
     let finite = all_finite(points);
     if !finite {
         return Check::Refused(Refusal::PointNotFinite(side));
     }
-    let total = fill_knots(points, from, knots);
     check_total(total, side)
 }
 

@@ -24,6 +24,7 @@ use Rattle.curves.specs.inner.Segments.{Rising, Sampled}
 use Rattle.curves.specs.declared.point.Point.{Point}
 use Rattle.floats.proofs.root.Amounts.{among-of}
 use Rattle.floats.proofs.scalar.Exact.{round-own}
+use Rattle.curves.proofs.curve.Finite.{sum-first, before}
 use Rattle.curves.proofs.curve.Laws.{knot-count-arc, length-in-arc}
 
 -- ---- a distance is not below zero
@@ -75,17 +76,6 @@ distance-not-below p q =
 
 -- ---- one step: the sum, where it is finite
 
-add-finite : (f : Format) (x d : Float) → T (is-finite (add f x d)) → T (is-finite x)
-unfolding add is-finite
-add-finite f nan d t = t
-add-finite f (inf s) nan t = t
-add-finite f (inf true) (inf true) t = t
-add-finite f (inf true) (inf false) t = t
-add-finite f (inf false) (inf true) t = t
-add-finite f (inf false) (inf false) t = t
-add-finite f (inf s) (fin z n k) t = t
-add-finite f (fin s m e) d t = tt
-
 -- a value is not above the rounding of a number that it is not above
 own-le : (f : Format) (m : ℕ) (e : ℤ) (a c : ℕ) → T (fits f (fin false m e)) → 0 < c → m * up e * c ≤ a * down e → T (le (fin false m e) (round f false a c))
 own-le f m e a c t C h = subst (λ (x : Float). T (le x (round f false a c))) (round-own f false m e t) (round-mono f (m * up e) (down e) a c (down-pos e) C h)
@@ -130,13 +120,6 @@ step f (fin false m e) (fin true (suc o) k) h n t = absurd n
 
 -- ---- the lengths of one curve
 
--- before a finite length each is finite
-before : (points : List Float) (k j : ℕ) → T (is-finite (length-to points (k + j))) → T (is-finite (length-to points k))
-unfolding length-to
-before points k zero t = subst (λ (n : ℕ). T (is-finite (length-to points n))) (add-zero k) t
-before points k (suc j) t = before points k j (add-finite binary64 (length-to points (k + j)) _
-    (subst (λ (n : ℕ). T (is-finite (length-to points n))) (add-suc k j) t))
-
 none-among : T (among binary64 nought)
 unfolding among ofBits fits
 none-among = tt
@@ -153,11 +136,11 @@ run-next points k h t =
 run-among : (points : List Float) (k : ℕ) → T (is-finite (length-to points k)) → T (among binary64 (length-to points k))
 unfolding length-to
 run-among points zero t = none-among
-run-among points (suc k) t = run-next points k (run-among points k (add-finite binary64 (length-to points k) _ t)) t .0
+run-among points (suc k) t = run-next points k (run-among points k (sum-first binary64 (length-to points k) _ t)) t .0
 
 run-rises : (points : List Float) (k : ℕ) → T (is-finite (length-to points (suc k))) → T (le (length-to points k) (length-to points (suc k)))
 unfolding length-to
-run-rises points k t = run-next points k (run-among points k (add-finite binary64 (length-to points k) _ t)) t .1
+run-rises points k t = run-next points k (run-among points k (sum-first binary64 (length-to points k) _ t)) t .1
 
 -- a curve with a finite length: no length run is above the next
 pub lengths-rise : (points : List Float) → T (is-finite (total-length points)) → Rising (arc-curve points)

@@ -2,7 +2,7 @@
 use mathlib.Core.Path.{_≡_}
 use mathlib.Core.Bool.{true}
 use mathlib.Core.List.{List}
-use Prim.Native.Nat.{ℕ, _+_, _*_, _<_, _≤_}
+use Prim.Native.Nat.{ℕ, _+_, _*_, _%_, _<_, _≤_}
 use lib.Dec.{T}
 use lib.ListN.{length}
 use lib.Ieee.{Float, le, lt}
@@ -10,6 +10,7 @@ use Rattle.curves.specs.Curve.{ArcCurve, point-count, arc-curve, knot-co
 use Rattle.base.specs.declared.verdict.Verdict.{Verdict}
 use Rattle.base.specs.Refusal.{is-passed}
 use Rattle.base.specs.Buffers.{splice}
+use Rattle.floats.specs.Scalar.{is-positive}
 
 -- no length is above the next
 abbrev pub Rising : ArcCurve → Type 0
@@ -30,6 +31,11 @@ pub record InSegment (c : ArcCurve) (k : ℕ) (target : Float) : Type 0 where
 pub record KnotsRoom (points : List Float) (from : ℕ) (knots : List Float) : Type 0 where
   pub some : 0 < point-count points
   pub room : from + 3 * point-count points ≤ length knots
+
+-- a length that is finite and above zero, of a curve with an even number of values
+pub record SoundLength (total : Float) (values : ℕ) : Type 0 where
+  pub positive : is-positive total ≡ true
+  pub even : values % 2 ≡ 0
 
 -- what testing a curve answers, and what it leaves in the list of knots once the curve passes
 pub record Measured (points : List Float) (side from : ℕ) (before after : List Float) (v : Verdict) : Type 0 where
