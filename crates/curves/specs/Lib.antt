@@ -5,6 +5,7 @@ pub mod Curve
 pub mod Boundary
 pub mod Seam
 pub mod Crossing
+pub mod CoonsFormula
 pub mod Patch
 pub mod Quad
 pub mod Grid
