@@ -8,7 +8,7 @@ use lib.Ieee.{Float, binary64, ofBits, round}
 use Rattle.base.specs.Refusal.{passed}
 use Rattle.floats.specs.Scalar.{nought, half, one}
 use Rattle.curves.specs.Point.{point}
-use Rattle.curves.specs.Curve.{cumulative-of, curve-at}
+use Rattle.curves.specs.Curve.{arc-curve, curve-at}
 use Rattle.curves.specs.Boundary.{BoundaryCurves, boundary-of, curve-ends, checked-curves}
 use Rattle.curves.specs.CoonsFormula.{Closed}
 use Rattle.curves.specs.Patch.{rounded, curves-of, coons-point, lerp2}
@@ -53,31 +53,31 @@ abbrev square : BoundaryCurves
 square = boundary-of bottom right top left
 
 square-accepted : checked-curves bottom right top left ≡ passed
-unfolding ofBits checked-curves cumulative-of gap
+unfolding ofBits checked-curves arc-curve gap
 square-accepted = refl
 
 begins : coons-point square nought nought ≡ point gap nought
-unfolding ofBits coons-point cumulative-of gap
+unfolding ofBits coons-point arc-curve gap
 begins = refl
 
 middle : coons-point square half nought ≡ point half-and-half-gap nought
-unfolding ofBits coons-point cumulative-of gap half-and-half-gap
+unfolding ofBits coons-point arc-curve gap half-and-half-gap
 middle = refl
 
 ends : coons-point square one nought ≡ point one nought
-unfolding ofBits coons-point cumulative-of gap
+unfolding ofBits coons-point arc-curve gap
 ends = refl
 
 left-ends : curve-at (square .left) one ≡ point gap nought
-unfolding ofBits curve-at cumulative-of gap
+unfolding ofBits curve-at arc-curve gap
 left-ends = refl
 
 bottom-begins : curve-at (square .bottom) nought ≡ point nought nought
-unfolding ofBits curve-at cumulative-of
+unfolding ofBits curve-at arc-curve
 bottom-begins = refl
 
 bottom-middle : curve-at (square .bottom) half ≡ point half nought
-unfolding ofBits curve-at cumulative-of
+unfolding ofBits curve-at arc-curve
 bottom-middle = refl
 
 -- ---- A closed square of side 2^53, whose bottom runs up its right side and comes in as far as x = 1 in its middle. There 2^53 is added to 1 and taken off
@@ -106,21 +106,21 @@ abbrev dented : BoundaryCurves
 dented = boundary-of dented-bottom side-right side-top side-left
 
 dented-accepted : checked-curves dented-bottom side-right side-top side-left ≡ passed
-unfolding ofBits checked-curves cumulative-of side half-side
+unfolding ofBits checked-curves arc-curve side half-side
 dented-accepted = refl
 
 dented-closed : Closed rounded (curves-of dented)
-unfolding ofBits curve-at cumulative-of side half-side
+unfolding ofBits curve-at arc-curve side half-side
 dented-closed = record { bottom-right = refl; right-top = refl; top-left = refl; left-bottom = refl }
 
 dented-ordinary : ColumnOrdinary dented half
-unfolding ofBits curve-at curve-ends lerp2 cumulative-of side half-side
+unfolding ofBits curve-at curve-ends lerp2 arc-curve side half-side
 dented-ordinary = record { bottom = record { x = tt; y = tt }; top = record { x = tt; y = tt }; low = record { x = tt; y = tt }; high = record { x = tt; y = tt } }
 
 dent : curve-at (dented .bottom) half ≡ point one half-side
-unfolding ofBits curve-at cumulative-of side half-side
+unfolding ofBits curve-at arc-curve side half-side
 dent = refl
 
 coordinate-lost : coons-point dented half nought ≡ point nought half-side
-unfolding ofBits coons-point cumulative-of side half-side
+unfolding ofBits coons-point arc-curve side half-side
 coordinate-lost = refl

@@ -3,13 +3,11 @@
 -- whether or not the curves are closed; bottom and top where they are, to the bit, and else two different lines are added and taken off. Asked of the
 -- numbers is that none is NaN, infinite or -0. Assumes nothing.
 use mathlib.Core.Path.{_≡_, refl, sym, _∙_}
-use Prim.Native.Nat.{_-_}
-use lib.ListN.{length, getD}
-use lib.Ieee.{Float, nan, binary64, sub, mul}
+use lib.Ieee.{Float, binary64, sub, mul}
 use lib.Ieee.Fits.{add-fits}
-use Rattle.floats.specs.Scalar.{nought, one, clamp-unit}
+use Rattle.floats.specs.Scalar.{nought, one}
 use Rattle.curves.specs.CoonsFormula.{Closed}
-use Rattle.curves.specs.Curve.{ArcCurve, segment, segment-at, fraction, blend, curve-at}
+use Rattle.curves.specs.Curve.{ArcCurve, segment, segment-at, fraction, blend, target-of, curve-at}
 use Rattle.curves.specs.Boundary.{BoundaryCurves, curve-ends}
 use Rattle.curves.specs.Patch.{rounded, curves-of, coons-point, lerp2, combined}
 use Rattle.curves.specs.declared.point.Point.{Point}
@@ -33,8 +31,8 @@ segment-held s target =
 pub curve-held : (k : ArcCurve) (t : Float) → Held (curve-at k t)
 unfolding curve-at
 curve-held k t =
-    let target = mul binary64 (clamp-unit t) (getD (k .cumulative) (length (k .cumulative) - 1) nan) in
-    segment-held (segment k (segment-at (k .cumulative) target)) target
+    let target = target-of k t in
+    segment-held (segment k (segment-at k target)) target
 
 start-held : (k : ArcCurve) → Held (curve-ends k .start)
 unfolding curve-ends
