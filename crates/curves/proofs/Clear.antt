@@ -1,6 +1,7 @@
--- Which tests of lay can refuse with 22, "opposite seams unequal": that of two seams of unequal length, and no other. Assumes nothing.
-use mathlib.Core.Path.{_≡_}
-use mathlib.Core.Bool.{Bool, true, false, not, _&&_, _||_, cond}
+-- Which tests can refuse with 22, "opposite seams unequal": that of two seams of unequal length, and no other. Which with 23 to 25, "needed output
+-- +0.0": none of those before the grid. Assumes nothing.
+use mathlib.Core.Path.{_≡_, refl, sym}
+use mathlib.Core.Bool.{Bool, true, false, true≢false, not, _&&_, _||_, cond}
 use mathlib.Core.List.{List}
 use Prim.Native.Nat.{ℕ, zero, suc, _+_, _-_, _*_, _%_}
 use lib.ListN.{length, getD}
@@ -11,7 +12,7 @@ use Rattle.base.specs.Refusal.{passed, refused, is-passed, then-test, refuse-if
 use Rattle.regions.specs.Region.{places, record-size, side}
 use Rattle.regions.specs.Accept.{records-whole, max-edges}
 use Rattle.base.specs.Lists.{all}
-use Rattle.base.proofs.BoolLaws.{eq→eqb}
+use Rattle.base.proofs.BoolLaws.{eq→eqb, nor-left, by-truth}
 use Rattle.base.specs.Answers.{Answer, good, turned-away, verdict}
 use Rattle.base.specs.Tests.{first-of}
 use Rattle.floats.specs.Scalar.{nought, one, e-9, e-12, float-abs, in-unit, clamp-unit, is-positive}
@@ -23,65 +24,88 @@ use Rattle.curves.specs.Seam.{falls, value-test, seam-ends-test, seam-te
 use Rattle.curves.specs.Crossing.{denominator, crossing-u, crossing-v, logical-intersection}
 use Rattle.curves.specs.Quad.{quad-test, zeros}
 use Rattle.curves.specs.Grid.{Seams, Grid, grid-of, n-u, n-v, mapped, row-of, Quad, grid-quad, area-test, points-test, quads-test, grid-test, grid-values, needed}
-use Rattle.curves.specs.Coons.{Outcome, unless, filled, grid-stage, patch, curve-limit, curves-limit, seam-limit, seams-limit, coons-from-parameters}
+use Rattle.curves.specs.Coons.{Outcome, unless, filled, seams-and-room-test, grid-stage-beside, grid-stage, patch, curve-limit, curves-limit}
+use Rattle.curves.specs.Coons.{seam-limit, seams-limit, cells-limit, even-seams, coons-from-parameters, coons-curves-beside, coons-nodes-beside}
 use Rattle.curves.specs.Lay.{TileInput, record-test, edges-test, breaks-test, sides-test, seams-of, lay}
 use Rattle.curves.specs.declared.point.Point.{Point}
 use Rattle.curves.specs.declared.boundary.BoundaryEnds.{BoundaryEnds}
 use Rattle.curves.specs.declared.rows.Layout.{Layout}
-use Rattle.curves.specs.declared.rows.Layout.the-variants.{Quads}
-use Rattle.curves.specs.Limits.{max-curve, max-seam}
+use Rattle.curves.specs.declared.rows.Layout.the-variants.{Quads, Nodes}
+use Rattle.curves.specs.Limits.{max-curve, max-seam, max-cells}
+use Rattle.curves.proofs.coons.Laws.{short-room}
 
--- ---- verdicts that are not 22, and how tests are put together
+-- ---- verdicts that have none of some numbers, and how tests are put together
 
-pub record Clear (v : Verdict) : Type 0 where
-  pub other : T (not (eqb (v .number) 22))
+-- numbers of refusals
+pub record Numbers : Type 0 where
+  pub has : ℕ → Bool
+  pub no-pass : T (not (has 0))
 
-passed-clear : Clear passed
-passed-clear = record { other = tt }
+pub record Without (ns : Numbers) (v : Verdict) : Type 0 where
+  pub other : T (not (ns .has (v .number)))
 
-then-clear : {v w : Verdict} → Clear v → Clear w → Clear (then-test v w)
-then-clear {v} {w} p q = go (is-passed v)
-  where
-    go : (b : Bool) → Clear (cond b w v)
-    go true = q
-    go false = p
+-- not 22
+abbrev pub Clear : Verdict → Type 0
+Clear = Without (record { has = λ (n : ℕ). eqb n 22; no-pass = tt })
 
-if-clear : (b : Bool) (n p q : ℕ) → T (not (eqb n 22)) → Clear (refuse-if b (refused n p q))
-if-clear true n p q t = record { other = t }
-if-clear false n p q t = passed-clear
+-- neither 22 nor 23 to 25
+abbrev pub Early : Verdict → Type 0
+Early = Without (record { has = λ (n : ℕ). eqb n 22 || (leb 23 n && leb n 25); no-pass = tt })
 
-first-clear : (f : ℕ → Verdict) → ((i : ℕ) → Clear (f i)) → (k n : ℕ) → Clear (first-of f k n)
-unfolding first-of
-first-clear f h k zero = passed-clear
-first-clear f h k (suc n) = then-clear (h k) (first-clear f h (suc k) n)
+early-clear : {v : Verdict} → Early v → Clear v
+early-clear {v} e = record { other = nor-left (eqb (v .number) 22) (leb 23 (v .number) && leb (v .number) 25) (e .other) }
+
+module _ {ns : Numbers} where
+  passed-clear : Without ns passed
+  passed-clear = record { other = ns .no-pass }
+
+  then-clear : {v w : Verdict} → Without ns v → Without ns w → Without ns (then-test v w)
+  then-clear {v} {w} p q = go (is-passed v)
+    where
+      go : (b : Bool) → Without ns (cond b w v)
+      go true = q
+      go false = p
+
+  if-clear : (b : Bool) (n p q : ℕ) → T (not (ns .has n)) → Without ns (refuse-if b (refused n p q))
+  if-clear true n p q t = record { other = t }
+  if-clear false n p q t = passed-clear
+
+  first-clear : (f : ℕ → Verdict) → ((i : ℕ) → Without ns (f i)) → (k n : ℕ) → Without ns (first-of f k n)
+  unfolding first-of
+  first-clear f h k zero = passed-clear
+  first-clear f h k (suc n) = then-clear (h k) (first-clear f h (suc k) n)
+
+-- what follows tests, as `unless` has it, by whether they are passed
+abbrev either : Verdict → List Float → Outcome → Bool → Outcome
+either v out rest b = elim b [
+  | true ↦ rest
+  | false ↦ record { verdict = v; quads = 0; out = out }
+]
 
 unless-clear : {v : Verdict} (out : List Float) (rest : Outcome) → Clear v → Clear (rest .verdict) → Clear (unless v out rest .verdict)
 unless-clear {v} out rest p q = go (is-passed v)
   where
-    either : Bool → Outcome
-    either b = elim b [ true ↦ rest | false ↦ record { verdict = v; quads = 0; out = out } ]
-
-    go : (b : Bool) → Clear (either b .verdict)
+    go : (b : Bool) → Clear (either v out rest b .verdict)
     go true = q
     go false = p
 
 -- ---- 13 to 17: the curves
 
-curve-clear : (points : List Float) (side : ℕ) → Clear (curve-test points side)
+curve-clear : (points : List Float) (side : ℕ) → Early (curve-test points side)
 unfolding curve-test
 curve-clear points side =
     then-clear (if-clear (ltb (point-count points) 2) 13 side 0 tt)
     (then-clear (if-clear (not (all-finite points)) 14 side 0 tt) (if-clear (not (is-positive (total-length points))) 15 side 0 tt))
 
-corner-clear : (allowed : Float) (got expected : Point) (corner : ℕ) → Clear (corner-test allowed got expected corner)
+corner-clear : (allowed : Float) (got expected : Point) (corner : ℕ) → Early (corner-test allowed got expected corner)
 unfolding corner-test
 corner-clear allowed got expected corner = if-clear (points-apart allowed got expected) 16 corner 0 tt
 
-winding-clear : (bl br tr tl : Point) → Clear (winding-test bl br tr tl)
+winding-clear : (bl br tr tl : Point) → Early (winding-test bl br tr tl)
 unfolding winding-test
 winding-clear bl br tr tl = if-clear (le (signed-area bl br tr tl) nought) 17 0 0 tt
 
-ends-clear : (e : BoundaryEnds) → Clear (ends-test e)
+ends-clear : (e : BoundaryEnds) → Early (ends-test e)
 unfolding ends-test
 ends-clear e =
     let allowed = tolerance (e .bottom .start) (e .bottom .end) (e .right .end) (e .left .start) in
@@ -92,7 +116,7 @@ ends-clear e =
     (then-clear (corner-clear allowed (e .left .end) (e .bottom .start) 4)
     (winding-clear (e .bottom .start) (e .bottom .end) (e .right .end) (e .left .start))))))
 
-curves-clear : (bottom right top left : List Float) → Clear (checked-curves bottom right top left)
+curves-clear : (bottom right top left : List Float) → Early (checked-curves bottom right top left)
 unfolding checked-curves
 curves-clear bottom right top left =
     then-clear (then-clear (curve-clear bottom 0) (then-clear (curve-clear right 1) (then-clear (curve-clear top 2) (curve-clear left 3))))
@@ -100,26 +124,26 @@ curves-clear bottom right top left =
 
 -- ---- 18 to 21: the seams, and 22, where opposite ones are not equally long
 
-value-clear : (values : List Float) (seam i : ℕ) → Clear (value-test values seam i)
+value-clear : (values : List Float) (seam i : ℕ) → Early (value-test values seam i)
 unfolding value-test
 value-clear values seam i = then-clear (if-clear (not (in-unit (getD values i nan))) 19 seam i tt) (if-clear (falls values i) 20 seam i tt)
 
-seam-ends-clear : (first last : Float) (seam : ℕ) → Clear (seam-ends-test first last seam)
+seam-ends-clear : (first last : Float) (seam : ℕ) → Early (seam-ends-test first last seam)
 unfolding seam-ends-test
 seam-ends-clear first last seam = if-clear (lt e-9 (float-abs first) || lt e-9 (float-abs (sub binary64 last one))) 21 seam 0 tt
 
-seam-clear : (values : List Float) (seam : ℕ) → Clear (seam-test values seam)
+seam-clear : (values : List Float) (seam : ℕ) → Early (seam-test values seam)
 unfolding seam-test
 seam-clear values seam =
     then-clear (if-clear (ltb (length values) 2) 18 seam 0 tt)
     (then-clear (first-clear (value-test values seam) (value-clear values seam) 0 (length values))
     (seam-ends-clear (getD values 0 nan) (getD values (length values - 1) nan) seam))
 
-pair-clear : (a b : List Float) (pair : ℕ) → length a ≡ length b → Clear (pair-test a b pair)
+pair-clear : (a b : List Float) (pair : ℕ) → length a ≡ length b → Early (pair-test a b pair)
 unfolding pair-test
 pair-clear a b pair e = go (eqb (length a) (length b)) (eq→eqb (length a) (length b) e)
   where
-    go : (t : Bool) → T t → Clear (refuse-if (not t) (refused 22 pair 0))
+    go : (t : Bool) → T t → Early (refuse-if (not t) (refused 22 pair 0))
     go true h = passed-clear
     go false h = absurd h
 
@@ -128,7 +152,7 @@ pub record EqualSeams (s : Seams) : Type 0 where
   pub bottom-top : length (s .bottom) ≡ length (s .top)
   pub left-right : length (s .left) ≡ length (s .right)
 
-seams-clear : (s : Seams) → EqualSeams s → Clear (seams-test (s .bottom) (s .top) (s .left) (s .right))
+seams-clear : (s : Seams) → EqualSeams s → Early (seams-test (s .bottom) (s .top) (s .left) (s .right))
 unfolding seams-test
 seams-clear s e =
     then-clear (seam-clear (s .bottom) 0)
@@ -196,34 +220,37 @@ filled-clear layout f n m out h = go (is-passed (grid-test f n m))
 
 -- ---- the public functions, on seams whose opposite ones are equally long
 
+room-early : (short : Bool) (layout : Layout) (s : Seams) (room : ℕ) → EqualSeams s → Early (seams-and-room-test short layout s room)
+unfolding seams-and-room-test
+room-early short layout s room e = then-clear (seams-clear s e) (if-clear (short || ltb room (needed layout (n-u s) (n-v s))) 11 0 0 tt)
+
 grid-stage-clear : (layout : Layout) (c : BoundaryCurves) (s : Seams) (out : List Float) → EqualSeams s → Clear (grid-stage layout c s out .verdict)
 unfolding grid-stage
 grid-stage-clear layout c s out e =
-    let tested = then-clear (seams-clear s e) (if-clear (ltb (length out) (needed layout (n-u s) (n-v s))) 11 0 0 tt) in
-    unless-clear out (filled layout (grid-of c s) (n-u s) (n-v s) out) tested
+    unless-clear out (filled layout (grid-of c s) (n-u s) (n-v s) out) (early-clear (room-early false layout s (length out) e))
     (filled-clear layout (grid-of c s) (n-u s) (n-v s) out (grid-clear (grid-of c s) (n-u s) (n-v s) (point-clear c s)))
 
 patch-clear : (layout : Layout) (bottom right top left : List Float) (s : Seams) (out : List Float) → EqualSeams s
     → Clear (patch layout bottom right top left s out .verdict)
 unfolding patch
 patch-clear layout bottom right top left s out e =
-    unless-clear out (grid-stage layout (boundary-of bottom right top left) s out) (curves-clear bottom right top left)
+    unless-clear out (grid-stage layout (boundary-of bottom right top left) s out) (early-clear (curves-clear bottom right top left))
     (grid-stage-clear layout (boundary-of bottom right top left) s out e)
 
-curve-limit-clear : (points : List Float) → Clear (curve-limit points)
+curve-limit-clear : (points : List Float) → Early (curve-limit points)
 unfolding curve-limit
 curve-limit-clear points = if-clear (ltb max-curve (length points) || not (eqb (length points % 2) 0)) 1 0 0 tt
 
-curves-limit-clear : (bottom right top left : List Float) → Clear (curves-limit bottom right top left)
+curves-limit-clear : (bottom right top left : List Float) → Early (curves-limit bottom right top left)
 unfolding curves-limit
 curves-limit-clear bottom right top left =
     then-clear (curve-limit-clear bottom) (then-clear (curve-limit-clear right) (then-clear (curve-limit-clear top) (curve-limit-clear left)))
 
-seam-limit-clear : (values : List Float) → Clear (seam-limit values)
+seam-limit-clear : (values : List Float) → Early (seam-limit values)
 unfolding seam-limit
 seam-limit-clear values = if-clear (ltb max-seam (length values)) 1 0 0 tt
 
-seams-limit-clear : (s : Seams) → Clear (seams-limit s)
+seams-limit-clear : (s : Seams) → Early (seams-limit s)
 unfolding seams-limit
 seams-limit-clear s =
     then-clear (seam-limit-clear (s .bottom))
@@ -233,7 +260,8 @@ from-parameters-clear : (layout : Layout) (bottom right top left : List Float) (
     → Clear (coons-from-parameters layout bottom right top left s out .verdict)
 unfolding coons-from-parameters
 from-parameters-clear layout bottom right top left s out e =
-    unless-clear out (patch layout bottom right top left s out) (then-clear (curves-limit-clear bottom right top left) (seams-limit-clear s))
+    unless-clear out (patch layout bottom right top left s out)
+    (early-clear (then-clear (curves-limit-clear bottom right top left) (seams-limit-clear s)))
     (patch-clear layout bottom right top left s out e)
 
 -- ---- 1, 3 and 27: lay's own tests
@@ -263,7 +291,45 @@ pub lay-clear : (region counts : List ℕ) (f : TileInput) (out : List Float) �
 unfolding lay
 lay-clear region counts f out e =
     let tested = then-clear (record-clear region (length counts))
-    (then-clear (curves-limit-clear (f .bottom) (f .right) (f .top) (f .left)) (sides-clear region (length counts) f)) in
+    (then-clear (early-clear (curves-limit-clear (f .bottom) (f .right) (f .top) (f .left))) (sides-clear region (length counts) f)) in
     let s = seams-of region counts f in
     unless-clear out (coons-from-parameters Quads (f .bottom) (f .right) (f .top) (f .left) s out) tested
     (from-parameters-clear Quads (f .bottom) (f .right) (f .top) (f .left) s out e)
+
+-- ---- where a second output is too short, the grid is not reached
+
+-- a refusal by a test before the grid
+pub record Stopped (v : Verdict) : Type 0 where
+  pub not-passed : is-passed v ≡ false
+  pub early : Early v
+
+stopped-before : {v : Verdict} (out : List Float) (rest : Outcome) → is-passed v ≡ false → Early v → Stopped (unless v out rest .verdict)
+stopped-before {v} out rest e p = go (is-passed v) e
+  where
+    go : (b : Bool) → b ≡ false → Stopped (either v out rest b .verdict)
+    go true h = absurd (true≢false h)
+    go false h = record { not-passed = e; early = p }
+
+stopped-after : {v : Verdict} (out : List Float) (rest : Outcome) → Early v → Stopped (rest .verdict) → Stopped (unless v out rest .verdict)
+stopped-after {v} out rest p q = by-truth (is-passed v) (λ e. go (is-passed v) e) (λ e. stopped-before out rest e p)
+  where
+    go : (b : Bool) → b ≡ true → Stopped (either v out rest b .verdict)
+    go true h = q
+    go false h = absurd (true≢false (sym h))
+
+stage-stopped : (layout : Layout) (c : BoundaryCurves) (s : Seams) (out : List Float) → EqualSeams s → Stopped (grid-stage-beside true layout c s out .verdict)
+unfolding grid-stage-beside
+stage-stopped layout c s out e = stopped-before out _ (short-room layout s (length out)) (room-early true layout s (length out) e)
+
+cells-limit-early : (n m : ℕ) → Early (cells-limit n m)
+unfolding cells-limit
+cells-limit-early n m = then-clear (if-clear (ltb max-cells n || ltb max-cells m) 1 0 0 tt) (if-clear (eqb n 0 || eqb m 0) 26 0 0 tt)
+
+pub short-stopped : (bottom right top left : List Float) (n m : ℕ) (out : List Float) → Stopped (coons-nodes-beside true bottom right top left n m out .verdict)
+unfolding coons-curves-beside
+short-stopped bottom right top left n m out =
+    let s = even-seams n m in
+    stopped-after out _ (then-clear (curves-limit-clear bottom right top left) (cells-limit-early n m))
+    (stopped-after out _ (then-clear (curves-limit-clear bottom right top left) (seams-limit-clear s))
+    (stopped-after out _ (curves-clear bottom right top left)
+    (stage-stopped Nodes (boundary-of bottom right top left) s out (record { bottom-top = refl; left-right = refl }))))

@@ -1,6 +1,6 @@
 -- What the public functions of the grid answer, and what they leave in the lent output, refused calls included: a chain of tests in 01's order,
 -- then the grid. Assumes nothing.
-use mathlib.Core.Bool.{not, _||_}
+use mathlib.Core.Bool.{Bool, false, not, _||_}
 use mathlib.Core.List.{List}
 use Prim.Native.Nat.{ℕ, _*_, _%_}
 use lib.ListN.{length}
@@ -47,21 +47,33 @@ filled layout f n m out =
     if-passed (grid-test f n m) (record { verdict = passed; quads = m * n; out = splice out 0 (grid-values layout f n m) })
     (refusal (splice out 0 (zeros (needed layout n m))))
 
+-- A mesh is lent a second output beside this one, for its indices. So what is named `..-beside` takes whether a second output is too short; the same
+-- name without the word is for a call that is lent none.
+
 -- "seams (..), 22, 11": the tests between the curves' and the grid's
-unfoldable pub seams-and-room-test : Layout → Seams → ℕ → Verdict
+unfoldable pub seams-and-room-test : Bool → Layout → Seams → ℕ → Verdict
 unfolding seams-test needed
-seams-and-room-test layout s room =
-    then-test (seams-test (s .bottom) (s .top) (s .left) (s .right)) (refuse-if (ltb room (needed layout (n-u s) (n-v s))) (refused 11 0 0))
+seams-and-room-test short layout s room =
+    then-test (seams-test (s .bottom) (s .top) (s .left) (s .right)) (refuse-if (short || ltb room (needed layout (n-u s) (n-v s))) (refused 11 0 0))
+
+unfoldable pub grid-stage-beside : Bool → Layout → BoundaryCurves → Seams → List Float → Outcome
+unfolding seams-and-room-test filled
+grid-stage-beside short layout c s out =
+    unless (seams-and-room-test short layout s (length out)) out (filled layout (grid-of c s) (n-u s) (n-v s) out)
 
 unfoldable pub grid-stage : Layout → BoundaryCurves → Seams → List Float → Outcome
-unfolding seams-and-room-test filled
-grid-stage layout c s out = unless (seams-and-room-test layout s (length out)) out (filled layout (grid-of c s) (n-u s) (n-v s) out)
+unfolding grid-stage-beside
+grid-stage = grid-stage-beside false
 
 -- "curve by curve 13 to 15, 16, 17", then the rest
+unfoldable pub patch-beside : Bool → Layout → List Float → List Float → List Float → List Float → Seams → List Float → Outcome
+unfolding checked-curves grid-stage-beside
+patch-beside short layout bottom right top left s out =
+    unless (checked-curves bottom right top left) out (grid-stage-beside short layout (boundary-of bottom right top left) s out)
+
 unfoldable pub patch : Layout → List Float → List Float → List Float → List Float → Seams → List Float → Outcome
-unfolding checked-curves grid-stage
-patch layout bottom right top left s out =
-    unless (checked-curves bottom right top left) out (grid-stage layout (boundary-of bottom right top left) s out)
+unfolding patch-beside grid-stage
+patch = patch-beside false
 
 -- ---- 1: "a limit above exceeded, or a broken record or list"
 
@@ -85,10 +97,14 @@ seams-limit s = then-test (seam-limit (s .bottom)) (then-test (seam-limit (s .to
 -- ---- the public functions
 
 -- 000's `coons_from_parameters`
+unfoldable pub coons-from-parameters-beside : Bool → Layout → List Float → List Float → List Float → List Float → Seams → List Float → Outcome
+unfolding curves-limit seams-limit patch-beside
+coons-from-parameters-beside short layout bottom right top left s out =
+    unless (then-test (curves-limit bottom right top left) (seams-limit s)) out (patch-beside short layout bottom right top left s out)
+
 unfoldable pub coons-from-parameters : Layout → List Float → List Float → List Float → List Float → Seams → List Float → Outcome
-unfolding curves-limit seams-limit patch
-coons-from-parameters layout bottom right top left s out =
-    unless (then-test (curves-limit bottom right top left) (seams-limit s)) out (patch layout bottom right top left s out)
+unfolding coons-from-parameters-beside patch
+coons-from-parameters = coons-from-parameters-beside false
 
 -- its quads by name
 abbrev pub coons-seamed : List Float → List Float → List Float → List Float → Seams → List Float → Outcome
@@ -104,11 +120,15 @@ abbrev pub even-seams : ℕ → ℕ → Seams
 even-seams n m = seams (uniform-parameters n) (uniform-parameters n) (uniform-parameters m) (uniform-parameters m)
 
 -- 000's `coons_curves`: `coons_from_parameters` on even seams
-unfoldable pub coons-curves : Layout → List Float → List Float → List Float → List Float → ℕ → ℕ → List Float → Outcome
-unfolding curves-limit cells-limit uniform-parameters coons-from-parameters
-coons-curves layout bottom right top left n m out =
+unfoldable pub coons-curves-beside : Bool → Layout → List Float → List Float → List Float → List Float → ℕ → ℕ → List Float → Outcome
+unfolding curves-limit cells-limit uniform-parameters coons-from-parameters-beside
+coons-curves-beside short layout bottom right top left n m out =
     unless (then-test (curves-limit bottom right top left) (cells-limit n m)) out
-    (coons-from-parameters layout bottom right top left (even-seams n m) out)
+    (coons-from-parameters-beside short layout bottom right top left (even-seams n m) out)
+
+unfoldable pub coons-curves : Layout → List Float → List Float → List Float → List Float → ℕ → ℕ → List Float → Outcome
+unfolding coons-curves-beside coons-from-parameters
+coons-curves = coons-curves-beside false
 
 -- its two layouts by name: the quads, and the points for a mesh
 abbrev pub coons-quads : List Float → List Float → List Float → List Float → ℕ → ℕ → List Float → Outcome
@@ -116,3 +136,7 @@ coons-quads = coons-curves Quads
 
 abbrev pub coons-nodes : List Float → List Float → List Float → List Float → ℕ → ℕ → List Float → Outcome
 coons-nodes = coons-curves Nodes
+
+-- the points, where the indices have an output of their own
+abbrev pub coons-nodes-beside : Bool → List Float → List Float → List Float → List Float → ℕ → ℕ → List Float → Outcome
+coons-nodes-beside short = coons-curves-beside short Nodes

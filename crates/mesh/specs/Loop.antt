@@ -6,8 +6,12 @@ use lib.ListN.{length, getD, take, drop}
 use lib.Dec.{leb, ltb, eqb}
 use lib.Ieee.{Float, nan, eq}
 use Rattle.base.specs.declared.verdict.Verdict.{Verdict}
-use Rattle.base.specs.Refusal.{refused, then-test, refuse-if}
+use Rattle.base.specs.Refusal.{refused, verdict-of, refuse-if}
+use Rattle.base.specs.Tests.{if-passed}
+use Rattle.base.specs.Answers.{Answer, good, turned-away}
 use Rattle.curves.specs.Curve.{point-count}
+use Rattle.mesh.specs.declared.boundary.LoopAnswer.{LoopAnswer}
+use Rattle.mesh.specs.declared.boundary.LoopAnswer.the-variants.{Corners, Quarters, Refused}
 
 -- ---- the points used
 
@@ -25,7 +29,19 @@ unfoldable pub points-used : List Float → ℕ
 unfolding closes
 points-used points = cond (closes points) (point-count points - 1) (point-count points)
 
--- ---- what is refused: "1, 12"
+-- ---- what is refused: "1, 12"; what is not falls into four curves
+
+-- of four points each is a corner, and "only a 4-point loop shares its corners"; of 8 or more each curve has a quarter, of so many points
+pub data Pieces : Type 0 where
+  corners : Pieces
+  quarters : ℕ → Pieces
+
+-- 01's number, places and values of each case
+unfoldable pub loop-of : LoopAnswer → Answer Pieces
+unfolding verdict-of
+loop-of Corners = good corners
+loop-of (Quarters n) = good (quarters n)
+loop-of (Refused r) = turned-away (verdict-of r)
 
 -- "at most 4,096 points"
 abbrev pub max-loop : ℕ
@@ -36,27 +52,21 @@ unfoldable pub size-test : List Float → Verdict
 size-test points = refuse-if (ltb max-loop (point-count points) || not (eqb (length points % 2) 0)) (refused 1 0 0)
 
 -- "loop not 4 points, nor 8 or more in fours"
-unfoldable pub fours-test : ℕ → Verdict
-fours-test used = refuse-if (not (eqb used 4 || (leb 8 used && eqb (used % 4) 0))) (refused 12 0 0)
+unfoldable pub in-fours : ℕ → Answer Pieces
+in-fours used =
+    cond (eqb used 4) (good corners) (cond (leb 8 used && eqb (used % 4) 0) (good (quarters (used / 4))) (turned-away (refused 12 0 0)))
 
-unfoldable pub loop-test : List Float → Verdict
-unfolding points-used size-test fours-test
-loop-test points = then-test (size-test points) (fours-test (points-used points))
+unfoldable pub from-loop : List Float → Answer Pieces
+unfolding points-used size-test in-fours
+from-loop points = if-passed (size-test points) (in-fours (points-used points)) turned-away
 
--- ---- the four curves of a loop that is not refused, by the numbers of their sides: bottom 0, right 1, top 2, left 3
+-- ---- the four curves, by the numbers of their sides: bottom 0, right 1, top 2, left 3
 
 -- n points from the point k on
 abbrev pub points-from : List Float → ℕ → ℕ → List Float
 points-from points k n = take (2 * n) (drop (2 * k) points)
 
--- "only a 4-point loop shares its corners": its curve k goes from the corner k to the next one, and after the last corner comes the first
-unfoldable pub corner-pair : List Float → ℕ → List Float
-corner-pair points k = points-from points k 1 ++ points-from points ((k + 1) % 4) 1
-
--- of 8 points or more each curve has a quarter of its own
-unfoldable pub quarter : List Float → ℕ → ℕ → List Float
-quarter points used k = points-from points (k * (used / 4)) (used / 4)
-
-unfoldable pub piece : List Float → ℕ → List Float
-unfolding points-used corner-pair quarter
-piece points k = cond (eqb (points-used points) 4) (corner-pair points k) (quarter points (points-used points) k)
+-- the curve k of four corners goes from the corner k to the next one, and after the last corner comes the first
+unfoldable pub piece : Pieces → List Float → ℕ → List Float
+piece corners points k = points-from points k 1 ++ points-from points ((k + 1) % 4) 1
+piece (quarters n) points k = points-from points (k * n) n

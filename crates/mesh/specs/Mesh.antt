@@ -3,12 +3,12 @@ use mathlib.Core.Bool.{Bool, _&&_, cond}
 use mathlib.Core.List.{List, [], _∷_}
 use Prim.Native.Nat.{ℕ, _+_, _*_}
 use lib.ListN.{length}
-use lib.Dec.{leb}
+use lib.Dec.{leb, ltb}
 use lib.Ieee.{Float}
 use Rattle.base.specs.declared.verdict.Verdict.{Verdict}
 use Rattle.base.specs.Refusal.{is-passed}
 use Rattle.base.specs.Buffers.{tabulate, concat-tabulate, splice}
-use Rattle.curves.specs.Coons.{Outcome, outcome-of, coons-nodes}
+use Rattle.curves.specs.Coons.{Outcome, outcome-of, coons-curves-beside, coons-nodes-beside}
 use Rattle.curves.specs.declared.coons.GridAnswer.{GridAnswer}
 
 -- what a call answers, with the points that it leaves as the output of the grid; and the indices that it leaves
@@ -58,17 +58,9 @@ cells-left v n m cells =
 
 -- ---- 000's `mesh_tile_curves`
 
--- the indices have room: the grid decides
-unfoldable pub with-cells : Outcome → ℕ → ℕ → List ℕ → Mesh
-unfolding cells-left
-with-cells o n m cells = record { grid = o; cells = cells-left (o .verdict) n m cells }
-
--- they have none: a grid that has no room for its points either refuses, by 11 or by an earlier test, and all is left
-unfoldable pub without-cells : Outcome → List Float → List ℕ → Mesh
-without-cells o points cells = record { grid = record { verdict = o .verdict; quads = o .quads; out = points }; cells = cells }
-
+-- the grid decides, in a chain of tests in which 11 stands for either output: too few values for the points, or too few for the indices
 unfoldable pub mesh-tile-curves : List Float → List Float → List Float → List Float → ℕ → ℕ → List Float → List ℕ → Mesh
-unfolding with-cells without-cells
+unfolding cells-left coons-curves-beside
 mesh-tile-curves bottom right top left n m points cells =
-    cond (leb (needed-cells n m) (length cells)) (with-cells (coons-nodes bottom right top left n m points) n m cells)
-    (without-cells (coons-nodes bottom right top left n m []) points cells)
+    let o = coons-nodes-beside (ltb (length cells) (needed-cells n m)) bottom right top left n m points in
+    record { grid = o; cells = cells-left (o .verdict) n m cells }

@@ -5,10 +5,11 @@ use Prim.Native.Nat.{ℕ}
 use lib.Dec.{ltb}
 use lib.Ieee.{Float}
 use Rattle.base.specs.declared.verdict.Verdict.{Verdict}
-use Rattle.base.specs.Refusal.{refused, then-test, refuse-if}
+use Rattle.base.specs.Refusal.{refused, refuse-if}
 use Rattle.base.specs.Tests.{if-passed}
-use Rattle.curves.specs.Coons.{Outcome, refusal, unless, coons-quads}
-use Rattle.mesh.specs.Loop.{loop-test, piece}
+use Rattle.base.specs.Answers.{Answer, good, turned-away}
+use Rattle.curves.specs.Coons.{Outcome, refusal, coons-quads}
+use Rattle.mesh.specs.Loop.{Pieces, from-loop, piece}
 use Rattle.mesh.specs.Mesh.{Mesh, mesh-tile-curves}
 use Rattle.curves.specs.Limits.{max-cells}
 
@@ -16,19 +17,23 @@ use Rattle.curves.specs.Limits.{max-cells}
 unfoldable pub cell-limits-test : ℕ → ℕ → Verdict
 cell-limits-test n m = refuse-if (ltb max-cells n || ltb max-cells m) (refused 1 0 0)
 
--- "1, 12"; the tests from 26 on are those of the four curves
-unfoldable pub tile-test : List Float → ℕ → ℕ → Verdict
-unfolding cell-limits-test loop-test
-tile-test boundary n m = then-test (cell-limits-test n m) (loop-test boundary)
+-- "1, 12", or the four curves; the tests from 26 on are theirs
+unfoldable pub tile-loop : List Float → ℕ → ℕ → Answer Pieces
+unfolding cell-limits-test from-loop
+tile-loop boundary n m = if-passed (cell-limits-test n m) (from-loop boundary) turned-away
+
+-- what the four curves of a loop give, or what its refusal gives
+abbrev pub by-curves : {A : Type 0} → Answer Pieces → List Float → (List Float → List Float → List Float → List Float → A) → (Verdict → A) → A
+by-curves (good p) points f refusal = f (piece p points 0) (piece p points 1) (piece p points 2) (piece p points 3)
+by-curves (turned-away v) points f refusal = refusal v
 
 unfoldable pub coons-checked : List Float → ℕ → ℕ → List Float → Outcome
-unfolding tile-test piece
+unfolding tile-loop piece
 coons-checked boundary n m out =
-    unless (tile-test boundary n m) out (coons-quads (piece boundary 0) (piece boundary 1) (piece boundary 2) (piece boundary 3) n m out)
+    by-curves (tile-loop boundary n m) boundary (λ (b r t l : List Float). coons-quads b r t l n m out) (refusal out)
 
 unfoldable pub mesh-tile : List Float → ℕ → ℕ → List Float → List ℕ → Mesh
-unfolding tile-test piece mesh-tile-curves
+unfolding tile-loop piece mesh-tile-curves
 mesh-tile boundary n m points cells =
-    if-passed (tile-test boundary n m)
-    (mesh-tile-curves (piece boundary 0) (piece boundary 1) (piece boundary 2) (piece boundary 3) n m points cells)
+    by-curves (tile-loop boundary n m) boundary (λ (b r t l : List Float). mesh-tile-curves b r t l n m points cells)
     (λ (v : Verdict). record { grid = refusal points v; cells = cells })

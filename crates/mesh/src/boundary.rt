@@ -1,86 +1,82 @@
-// 000's `from_loop`, in parts: a tile's boundary given as one closed loop of points, counter-clockwise, lent as x, y in turn; its test (1 and
-// 12), and the quarters that it falls into. The natural loop of 8 points or more repeats its first point at the end; that one is dropped.
+// 000's `from_loop`: a tile's boundary given as one closed loop of points, counter-clockwise, lent as x, y in turn. It is refused (1, 12), or falls
+// into four curves: the sides between four corners, or quarters of the list. specs/Loop.antt has the definitions.
 ghost use mathlib.Core.Path.{_≡_};
-ghost use Prim.Native.Nat.{_<_, _≤_};
-ghost use Rattle.base.specs.Refusal.{outcome};
+ghost use Prim.Native.Nat.{_*_, _<_, _≤_};
 ghost use Rattle.curves.specs.Curve.{point-count};
-ghost use Rattle.mesh.specs.Loop.{closes, points-used, fours-test, loop-test, quarter};
-use base::refusal::Check;
+ghost use Rattle.mesh.specs.Loop.{points-used, loop-of, in-fours, from-loop, quarters, piece};
 use base::refusal::Refusal;
 
 const MAX_POINTS: usize = 4_096;
 
-// Whether the last point equals the first, in a loop of at least 5: the corners of a 4-point loop all stay.
-fn closes(points: &[f64]) -> bool
-    ensures { λ r. ⌜ r ≡ closes (now (points .entry)) ⌝ }
+// Four corners, or four quarters of so many points each, or the refusal.
+pub(crate) enum LoopAnswer {
+    Corners,
+    Quarters(usize),
+    Refused(Refusal),
+}
+
+// The number of points once a last one equal to the first is dropped, in a loop of at least 5: the corners of a 4-point loop all stay. The natural
+// loop of 8 points or more repeats its first point at the end.
+fn points_used(points: &[f64]) -> usize
+    ensures { λ r. ⌜ r ≡ points-used (now (points .entry)) ⌝ }
 {
     let n = points.len() / 2;
     if n < 5 {
-        return false;
+        return n;
     }
     let last = 2 * (n - 1);
     let x = points[0];
     let last_x = points[last];
-    if x == last_x {
-        let y = points[1];
-        let last_y = points[last + 1];
-        return y == last_y;
+    if x != last_x {
+        return n;
     }
-    false
-}
-
-// The number of points once a closing one is dropped.
-pub(crate) fn points_used(points: &[f64]) -> usize
-    ensures { λ r. ⌜ r ≡ points-used (now (points .entry)) ⌝ }
-{
-    let n = points.len() / 2;
-    let closed = closes(points);
-    if closed {
-        return n - 1;
+    let y = points[1];
+    let last_y = points[last + 1];
+    if y != last_y {
+        return n;
     }
-    n
+    n - 1
 }
 
 // 12: four corners, or four curves of at least two points each.
-fn check_fours(used: usize) -> Check
-    ensures { λ r. ⌜ outcome r ≡ fours-test used ⌝ }
+fn in_fours(used: usize) -> LoopAnswer
+    ensures { λ r. ⌜ loop-of r ≡ in-fours used ⌝ }
 {
     if used == 4 {
-        return Check::Passed;
+        return LoopAnswer::Corners;
     }
     if used < 8 {
-        return Check::Refused(Refusal::BadLoop);
+        return LoopAnswer::Refused(Refusal::BadLoop);
     }
     let over = used % 4;
-    if over == 0 {
-        return Check::Passed;
+    if over != 0 {
+        return LoopAnswer::Refused(Refusal::BadLoop);
     }
-    Check::Refused(Refusal::BadLoop)
+    LoopAnswer::Quarters(used / 4)
 }
 
 // 1, then 12.
-pub(crate) fn check_loop(points: &[f64]) -> Check
-    ensures { λ r. ⌜ outcome r ≡ loop-test (now (points .entry)) ⌝ }
+pub(crate) fn from_loop(points: &[f64]) -> LoopAnswer
+    ensures { λ r. ⌜ loop-of r ≡ from-loop (now (points .entry)) ⌝ }
 {
     let n = points.len() / 2;
     if n > MAX_POINTS {
-        return Check::Refused(Refusal::Malformed);
+        return LoopAnswer::Refused(Refusal::Malformed);
     }
     let odd = points.len() % 2;
     if odd != 0 {
-        return Check::Refused(Refusal::Malformed);
+        return LoopAnswer::Refused(Refusal::Malformed);
     }
     let used = points_used(points);
-    check_fours(used)
+    in_fours(used)
 }
 
-// Quarter k of the points used, as it lies in the list: in a loop of 8 points or more the curve of side k, bottom 0 to left 3.
-pub(crate) fn quarter<'a>(points: &'a [f64], used: usize, k: usize) -> &'a [f64]
-    requires { ⌜ (k < 4) × (used ≤ point-count (now points)) ⌝ }
-    ensures { λ r. ⌜ now r ≡ quarter (now (points .entry)) used k ⌝ }
+// Quarter k of a loop, of n points as they lie in the list: the curve of side k, bottom 0 to left 3.
+pub(crate) fn quarter<'a>(points: &'a [f64], n: usize, k: usize) -> &'a [f64]
+    requires { ⌜ (k < 4) × (4 * n ≤ point-count (now points)) ⌝ }
+    ensures { λ r. ⌜ now r ≡ piece (quarters n) (now (points .entry)) k ⌝ }
 {
-    let m = used / 4;
-    let start = 2 * (k * m);
-    let end = start + 2 * m;
+    let start = 2 * (k * n);
+    let end = start + 2 * n;
     &points[start..end]
 }

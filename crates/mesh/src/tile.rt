@@ -1,22 +1,18 @@
 // The public functions on a tile: its mesh from four boundary curves, and its quads and its mesh from a loop of points. specs/Mesh.antt and
 // specs/Tile.antt define what each answers and leaves.
 ghost use mathlib.Core.Path.{_≡_};
-ghost use Prim.Native.Nat.{_≤_};
 ghost use lib.ListN.{length};
 ghost use lib.Dec.{leb};
-ghost use Rattle.base.specs.Refusal.{outcome};
-ghost use Rattle.curves.specs.Curve.{point-count};
-ghost use Rattle.curves.specs.Coons.{outcome-of, coons-quads};
-ghost use Rattle.mesh.specs.Loop.{corner-pair, quarter};
+ghost use Rattle.curves.specs.Coons.{outcome-of};
+ghost use Rattle.mesh.specs.Loop.{loop-of};
 ghost use Rattle.mesh.specs.Mesh.{mesh-of, needed-cells, mesh-tile-curves};
-ghost use Rattle.mesh.specs.Tile.{tile-test, coons-checked, mesh-tile};
-use crate::boundary::check_loop;
-use crate::boundary::points_used;
+ghost use Rattle.mesh.specs.Tile.{tile-loop, coons-checked, mesh-tile};
+use crate::boundary::LoopAnswer;
+use crate::boundary::from_loop;
 use crate::boundary::quarter;
 use crate::cells::clear;
 use crate::cells::write_cells;
 use crate::cells::zeroes;
-use base::refusal::Check;
 use base::refusal::Refusal;
 use curves::coons::GridAnswer;
 use curves::coons::coons_curves;
@@ -69,118 +65,45 @@ pub fn mesh_tile_curves(
 }
 
 // 1 of the numbers of cells, then 1 and 12 of the loop.
-fn check_tile(boundary: &[f64], n_u: u32, n_v: u32) -> Check
-    ensures { λ r. ⌜ outcome r ≡ tile-test (now (boundary .entry)) «n_u» «n_v» ⌝ }
+fn tile_loop(boundary: &[f64], n_u: u32, n_v: u32) -> LoopAnswer
+    ensures { λ r. ⌜ loop-of r ≡ tile-loop (now (boundary .entry)) «n_u» «n_v» ⌝ }
 {
     if n_u > MAX_CELLS {
-        return Check::Refused(Refusal::Malformed);
+        return LoopAnswer::Refused(Refusal::Malformed);
     }
     if n_v > MAX_CELLS {
-        return Check::Refused(Refusal::Malformed);
+        return LoopAnswer::Refused(Refusal::Malformed);
     }
-    check_loop(boundary)
+    from_loop(boundary)
 }
 
-// The quads of a 4-point loop, whose sides share its corners: only the last side, which ends where the loop begins, does not lie in the list.
-fn quads_of_corners(boundary: &[f64], n_u: u32, n_v: u32, out: &mut [f64]) -> GridAnswer
-    requires { ⌜ 8 ≤ length (now boundary) ⌝ }
-    ensures { λ r.
-        let side = corner-pair (now (boundary .entry)) in
-        ⌜ outcome-of r (now (out .exit)) ≡ coons-quads (side 0) (side 1) (side 2) (side 3) «n_u» «n_v» (now (out .entry)) ⌝ }
-{
-    let left = [boundary[6], boundary[7], boundary[0], boundary[1]];
-    coons_curves(
-        &boundary[..4],
-        &boundary[2..6],
-        &boundary[4..8],
-        &left,
-        n_u,
-        n_v,
-        out,
-    )
-}
-
-// The same for a mesh.
-fn mesh_of_corners(
-    boundary: &[f64],
-    n_u: u32,
-    n_v: u32,
-    points: &mut [f64],
-    cells: &mut [u32],
-) -> GridAnswer
-    requires { ⌜ 8 ≤ length (now boundary) ⌝ }
-    ensures { λ r.
-        let side = corner-pair (now (boundary .entry)) in
-        ⌜ mesh-of r (now (points .exit)) (now (cells .exit))
-        ≡ mesh-tile-curves (side 0) (side 1) (side 2) (side 3) «n_u» «n_v» (now (points .entry)) (now (cells .entry)) ⌝ }
-{
-    let left = [boundary[6], boundary[7], boundary[0], boundary[1]];
-    mesh_tile_curves(
-        &boundary[..4],
-        &boundary[2..6],
-        &boundary[4..8],
-        &left,
-        n_u,
-        n_v,
-        points,
-        cells,
-    )
-}
-
-// The quads of a loop of 8 points or more, whose quarters are lent as they lie in the list.
-fn quads_of_quarters(
-    boundary: &[f64],
-    used: usize,
-    n_u: u32,
-    n_v: u32,
-    out: &mut [f64],
-) -> GridAnswer
-    requires { ⌜ used ≤ point-count (now boundary) ⌝ }
-    ensures { λ r.
-        let side = quarter (now (boundary .entry)) used in
-        ⌜ outcome-of r (now (out .exit)) ≡ coons-quads (side 0) (side 1) (side 2) (side 3) «n_u» «n_v» (now (out .entry)) ⌝ }
-{
-    let bottom = quarter(boundary, used, 0);
-    let right = quarter(boundary, used, 1);
-    let top = quarter(boundary, used, 2);
-    let left = quarter(boundary, used, 3);
-    coons_curves(bottom, right, top, left, n_u, n_v, out)
-}
-
-// The same for a mesh.
-fn mesh_of_quarters(
-    boundary: &[f64],
-    used: usize,
-    n_u: u32,
-    n_v: u32,
-    points: &mut [f64],
-    cells: &mut [u32],
-) -> GridAnswer
-    requires { ⌜ used ≤ point-count (now boundary) ⌝ }
-    ensures { λ r.
-        let side = quarter (now (boundary .entry)) used in
-        ⌜ mesh-of r (now (points .exit)) (now (cells .exit))
-        ≡ mesh-tile-curves (side 0) (side 1) (side 2) (side 3) «n_u» «n_v» (now (points .entry)) (now (cells .entry)) ⌝ }
-{
-    let bottom = quarter(boundary, used, 0);
-    let right = quarter(boundary, used, 1);
-    let top = quarter(boundary, used, 2);
-    let left = quarter(boundary, used, 3);
-    mesh_tile_curves(bottom, right, top, left, n_u, n_v, points, cells)
-}
-
-// The n_u by n_v quads of a tile.
+// The n_u by n_v quads of a tile. Of the sides between four corners, which share these, the last one ends where the loop begins: it alone does not
+// lie in the list.
 pub fn coons_checked(boundary: &[f64], n_u: u32, n_v: u32, out: &mut [f64]) -> GridAnswer
     ensures { λ r. ⌜ outcome-of r (now (out .exit)) ≡ coons-checked (now (boundary .entry)) «n_u» «n_v» (now (out .entry)) ⌝ }
 {
-    if let Check::Refused(cause) = check_tile(boundary, n_u, n_v) {
-        return GridAnswer::Refused(cause);
+    match tile_loop(boundary, n_u, n_v) {
+        LoopAnswer::Corners => {
+            let left = [boundary[6], boundary[7], boundary[0], boundary[1]];
+            coons_curves(
+                &boundary[..4],
+                &boundary[2..6],
+                &boundary[4..8],
+                &left,
+                n_u,
+                n_v,
+                out,
+            )
+        }
+        LoopAnswer::Quarters(n) => {
+            let bottom = quarter(boundary, n, 0);
+            let right = quarter(boundary, n, 1);
+            let top = quarter(boundary, n, 2);
+            let left = quarter(boundary, n, 3);
+            coons_curves(bottom, right, top, left, n_u, n_v, out)
+        }
+        LoopAnswer::Refused(cause) => GridAnswer::Refused(cause),
     }
-    let used = points_used(boundary);
-    if used == 4 {
-        return quads_of_corners(boundary, n_u, n_v, out);
-    }
-    quads_of_quarters(boundary, used, n_u, n_v, out)
 }
 
 // The same quads as a mesh.
@@ -194,12 +117,27 @@ pub fn mesh_tile(
     ensures { λ r. ⌜ mesh-of r (now (points .exit)) (now (cells .exit))
         ≡ mesh-tile (now (boundary .entry)) «n_u» «n_v» (now (points .entry)) (now (cells .entry)) ⌝ }
 {
-    if let Check::Refused(cause) = check_tile(boundary, n_u, n_v) {
-        return GridAnswer::Refused(cause);
+    match tile_loop(boundary, n_u, n_v) {
+        LoopAnswer::Corners => {
+            let left = [boundary[6], boundary[7], boundary[0], boundary[1]];
+            mesh_tile_curves(
+                &boundary[..4],
+                &boundary[2..6],
+                &boundary[4..8],
+                &left,
+                n_u,
+                n_v,
+                points,
+                cells,
+            )
+        }
+        LoopAnswer::Quarters(n) => {
+            let bottom = quarter(boundary, n, 0);
+            let right = quarter(boundary, n, 1);
+            let top = quarter(boundary, n, 2);
+            let left = quarter(boundary, n, 3);
+            mesh_tile_curves(bottom, right, top, left, n_u, n_v, points, cells)
+        }
+        LoopAnswer::Refused(cause) => GridAnswer::Refused(cause),
     }
-    let used = points_used(boundary);
-    if used == 4 {
-        return mesh_of_corners(boundary, n_u, n_v, points, cells);
-    }
-    mesh_of_quarters(boundary, used, n_u, n_v, points, cells)
 }

@@ -1,9 +1,10 @@
 -- What the public functions of the grid answer and leave, by the outcomes of their tests; and what their limits let by. Assumes nothing.
 use mathlib.Core.Path.{_≡_, refl, sym, ap, subst, _∙_}
 use mathlib.Core.Bool.{Bool, true, false, not, _||_}
-use mathlib.Core.List.{List}
+use mathlib.Core.List.{List, []}
 use Prim.Native.Nat.{ℕ, _+_, _*_, _%_, _≤_, _<_}
-use native.Mathlib.Nat.{mul-le-mul-right}
+use native.Mathlib.Nat.{mul-le-mul-right, suc-mul}
+use native.Mathlib.Numerals.{add-one}
 use native.Mathlib.Omega.{arith}
 use lib.ListN.{length, take}
 use lib.Dec.{T, T-not, ltb, eqb, eqb→eq}
@@ -15,16 +16,17 @@ use Rattle.base.specs.declared.refusal.Check.{Check}
 use Rattle.base.specs.declared.refusal.Check.the-variants.{Passed, Refused}
 use Rattle.base.specs.declared.refusal.Refusal.{Refusal}
 use Rattle.base.specs.declared.refusal.Refusal.the-variants as because
-use Rattle.base.proofs.BoolLaws.{not-T-false}
+use Rattle.base.proofs.BoolLaws.{not-T-false, by-truth}
 use Rattle.base.proofs.TestLaws.{then-left, then-right, not-refused, was-passed, chain-stops, chain-goes-on, told-passed, both-passed, four-passed, follows, refuses}
 use Rattle.base.specs.Buffers.{splice}
-use Rattle.curves.specs.Boundary.{BoundaryCurves}
+use Rattle.curves.specs.Boundary.{BoundaryCurves, boundary-of, checked-curves}
 use Rattle.curves.specs.inner.Curves.{Sides, ShortCurves}
 use Rattle.curves.specs.inner.Grids.{ShortSeams, PairedSeams, Gridded}
 use Rattle.curves.specs.Seam.{uniform-parameters, seam-test, pair-test, seams-test}
 use Rattle.curves.specs.Grid.{Seams, seams, n-u, n-v, Grid, grid-of, grid-test, needed}
-use Rattle.curves.specs.Coons.{Outcome, outcome-of, refusal, unless, filled, seams-and-room-test, grid-stage, curve-limit, curves-limit}
-use Rattle.curves.specs.Coons.{seam-limit, seams-limit, cells-limit, coons-from-parameters, coons-curves, coons-nodes}
+use Rattle.curves.specs.Coons.{Outcome, outcome-of, refusal, unless, filled, seams-and-room-test, grid-stage-beside, grid-stage, patch-beside}
+use Rattle.curves.specs.Coons.{curve-limit, curves-limit, seam-limit, seams-limit, cells-limit}
+use Rattle.curves.specs.Coons.{even-seams, coons-from-parameters-beside, coons-from-parameters, coons-curves, coons-nodes, coons-nodes-beside}
 use Rattle.curves.specs.declared.rows.Layout.{Layout}
 use Rattle.curves.specs.declared.rows.Layout.the-variants.{Nodes}
 use Rattle.curves.specs.declared.coons.GridAnswer.the-variants as grid-answer
@@ -127,7 +129,7 @@ module _ (layout : Layout) (c : BoundaryCurves) (s : Seams) (out : List Float) w
 
   module _ {k : Check} (e : k ≡ Passed) (o : outcome k ≡ seams-tested s) where
     -- the chain, once the seams are let by
-    room-only : (d : Bool) → ltb (length out) (needed layout (n-u s) (n-v s)) ≡ d → refuse-if d (refused 11 0 0) ≡ seams-and-room-test layout s (length out)
+    room-only : (d : Bool) → ltb (length out) (needed layout (n-u s) (n-v s)) ≡ d → refuse-if d (refused 11 0 0) ≡ seams-and-room-test false layout s (length out)
     unfolding seams-and-room-test
     room-only d h = ap (λ (x : Bool). refuse-if x (refused 11 0 0)) (sym h) ∙ chain-goes-on e o
 
@@ -138,7 +140,7 @@ module _ (layout : Layout) (c : BoundaryCurves) (s : Seams) (out : List Float) w
     to-the-grid : (x : Outcome) → needed layout (n-u s) (n-v s) ≤ length out → x ≡ rest → x ≡ grid-stage layout c s out
     unfolding grid-stage
     to-the-grid x h q =
-        q ∙ goes-on out rest (seams-and-room-test layout s (length out))
+        q ∙ goes-on out rest (seams-and-room-test false layout s (length out))
         (ap is-passed (sym (room-only false (le-ltb (length out) (needed layout (n-u s) (n-v s)) h))))
 
     module _ {left : List Float} {g : Check} (h : needed layout (n-u s) (n-v s) ≤ length out)
@@ -213,7 +215,7 @@ cells-let-by n m p =
 -- even seams as the code holds them
 pub same-seams : (layout : Layout) (b r t l : List Float) (n m : ℕ) (us vs out : List Float) → us ≡ uniform-parameters n → vs ≡ uniform-parameters m
     → coons-from-parameters layout b r t l (seams us us vs vs) out
-    ≡ coons-from-parameters layout b r t l (seams (uniform-parameters n) (uniform-parameters n) (uniform-parameters m) (uniform-parameters m)) out
+    ≡ coons-from-parameters layout b r t l (even-seams n m) out
 same-seams layout b r t l n m us vs out e f =
     ap (λ (x : List Float). coons-from-parameters layout b r t l (seams x x vs vs) out) e
     ∙ ap (λ (x : List Float). coons-from-parameters layout b r t l (seams (uniform-parameters n) (uniform-parameters n) x x) out) f
@@ -244,3 +246,75 @@ cells-of-made layout bottom right top left n m out h =
 pub cells-of-nodes : (bottom right top left : List Float) (n m : ℕ) (out : List Float) → passed ≡ coons-nodes bottom right top left n m out .verdict
     → (n ≤ max-cells) × (m ≤ max-cells)
 cells-of-nodes bottom right top left n m out h = cells-of-made Nodes bottom right top left n m out h
+
+-- ---- a second output that is too short: the tests are those of a grid of nodes that has no room
+
+-- an outcome with another list in the output's place
+abbrev pub leaving : List Float → Outcome → Outcome
+leaving out o = record { verdict = o .verdict; quads = o .quads; out = out }
+
+unless-leaving : (v : Verdict) (out : List Float) (rest other : Outcome) → rest ≡ leaving out other → unless v out rest ≡ leaving out (unless v [] other)
+unless-leaving v out rest other h = go (is-passed v)
+  where
+    by : List Float → Outcome → Bool → Outcome
+    by l o b = elim b [
+      | true ↦ o
+      | false ↦ refusal l v
+    ]
+
+    go : (b : Bool) → by out rest b ≡ leaving out (by [] other b)
+    go true = h
+    go false = refl
+
+stops : (v : Verdict) (out : List Float) (rest : Outcome) → is-passed v ≡ false → unless v out rest ≡ refusal out v
+stops v out rest e = ap (λ (b : Bool). elim b [
+  | true ↦ rest
+  | false ↦ refusal out v
+]) e
+
+pub short-room : (layout : Layout) (s : Seams) (room : ℕ) → is-passed (seams-and-room-test true layout s room) ≡ false
+unfolding seams-and-room-test
+short-room layout s room = by-truth (is-passed (seams-tested s)) (λ e. rw e) (λ e. rw e e)
+
+-- there is no grid without nodes
+nodes-needed : (n m : ℕ) → 0 < needed Nodes n m
+unfolding needed
+nodes-needed n m =
+    let e : (m + 1) * (3 * (n + 1)) ≡ m * (3 * (n + 1)) + 3 * (n + 1) = ap (λ (k : ℕ). k * (3 * (n + 1))) (add-one m) ∙ suc-mul m (3 * (n + 1)) in
+    omega (arith, e)
+
+no-room-at-all : (s : Seams) (room : ℕ) → seams-and-room-test true Nodes s room ≡ seams-and-room-test false Nodes s 0
+unfolding seams-and-room-test
+no-room-at-all s room =
+    ap (λ (b : Bool). then-test (seams-tested s) (refuse-if b (refused 11 0 0))) (sym (lt-ltb 0 (needed Nodes (n-u s) (n-v s)) (nodes-needed (n-u s) (n-v s))))
+
+short-stage : (c : BoundaryCurves) (s : Seams) (out : List Float) → grid-stage-beside true Nodes c s out ≡ leaving out (grid-stage-beside false Nodes c s [])
+unfolding grid-stage-beside
+short-stage c s out =
+    let e = no-room-at-all s (length out) in
+    let f = short-room Nodes s (length out) in
+    stops _ out _ f ∙ ap (refusal out) e ∙ ap (leaving out) (sym (stops _ [] _ (ap is-passed (sym e) ∙ f)))
+
+module _ (bottom right top left : List Float) (out : List Float) where
+  short-patch : (s : Seams) → patch-beside true Nodes bottom right top left s out ≡ leaving out (patch-beside false Nodes bottom right top left s [])
+  unfolding patch-beside
+  short-patch s =
+      let c = boundary-of bottom right top left in
+      unless-leaving (checked-curves bottom right top left) out (grid-stage-beside true Nodes c s out) (grid-stage-beside false Nodes c s []) (short-stage c s out)
+
+  short-seamed : (s : Seams) → coons-from-parameters-beside true Nodes bottom right top left s out ≡ leaving out (coons-from-parameters-beside false Nodes bottom right top left s [])
+  unfolding coons-from-parameters-beside
+  short-seamed s =
+      unless-leaving (then-test (curves-limit bottom right top left) (seams-limit s)) out (patch-beside true Nodes bottom right top left s out)
+      (patch-beside false Nodes bottom right top left s []) (short-patch s)
+
+  pub nodes-alone : (n m : ℕ) → coons-nodes bottom right top left n m out ≡ coons-nodes-beside false bottom right top left n m out
+  unfolding coons-curves
+  nodes-alone n m = refl
+
+  pub short-nodes : (n m : ℕ) → coons-nodes-beside true bottom right top left n m out ≡ leaving out (coons-nodes bottom right top left n m [])
+  unfolding coons-curves
+  short-nodes n m =
+      let s = even-seams n m in
+      unless-leaving (then-test (curves-limit bottom right top left) (cells-limit n m)) out (coons-from-parameters-beside true Nodes bottom right top left s out)
+      (coons-from-parameters-beside false Nodes bottom right top left s []) (short-seamed s)

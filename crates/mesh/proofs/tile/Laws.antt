@@ -1,28 +1,33 @@
 -- What the functions on a tile answer and leave, by the outcomes of their tests. Assumes nothing.
-use mathlib.Core.Path.{_≡_, refl, sym, ap, _∙_}
+use mathlib.Core.Path.{_≡_, refl, sym, ap, subst, _∙_}
 use mathlib.Core.Bool.{Bool, true, false, _||_, cond}
 use mathlib.Core.List.{List, []}
 use Prim.Native.Nat.{ℕ, _*_, _/_, _<_, _≤_}
 use native.Mathlib.Nat.{mul-le-mul-right}
 use native.Mathlib.Omega.{arith}
 use lib.ListN.{length}
-use lib.Dec.{leb, ltb}
+use lib.Dec.{leb, ltb, eqb}
 use lib.Ieee.{Float}
 use borrow.Author.Tests.{lt-ltb, le-ltb, le-leb, lt-leb, leb-true, leb-false}
 use Rattle.base.specs.declared.verdict.Verdict.{Verdict}
-use Rattle.base.specs.Refusal.{passed, refused, verdict-of, outcome, is-passed, then-test, refuse-if}
-use Rattle.base.specs.declared.refusal.Check.{Check}
-use Rattle.base.specs.declared.refusal.Check.the-variants.{Passed, Refused}
+use Rattle.base.specs.Refusal.{passed, refused, verdict-of, is-passed, refuse-if}
+use Rattle.base.specs.Tests.{if-passed}
+use Rattle.base.specs.Answers.{Answer, turned-away}
 use Rattle.base.specs.declared.refusal.Refusal.{Refusal}
-use Rattle.base.proofs.TestLaws.{refusal-number, follows, refuses}
+use Rattle.base.proofs.BoolLaws.{T-false, nor-right}
+use Rattle.base.proofs.TestLaws.{refusal-number}
 use Rattle.base.specs.Buffers.{splice}
-use Rattle.curves.specs.Coons.{Outcome, outcome-of, refusal, coons-quads, coons-nodes}
+use Rattle.curves.specs.Curve.{point-count}
+use Rattle.curves.specs.Coons.{Outcome, outcome-of, refusal, coons-quads, coons-nodes, coons-nodes-beside}
 use Rattle.curves.specs.declared.coons.GridAnswer.{GridAnswer}
 use Rattle.curves.specs.declared.coons.GridAnswer.the-variants as grid-answer
-use Rattle.curves.proofs.coons.Laws.{cells-of-nodes}
-use Rattle.mesh.specs.Loop.{loop-test, piece}
-use Rattle.mesh.specs.Mesh.{Mesh, mesh-of, needed-cells, mesh-cells, no-cells, zeroes, cells-left, with-cells, without-cells, mesh-tile-curves}
-use Rattle.mesh.specs.Tile.{cell-limits-test, tile-test, coons-checked, mesh-tile}
+use Rattle.curves.proofs.coons.Laws.{cells-of-nodes, leaving, nodes-alone, short-nodes}
+use Rattle.curves.proofs.Clear.{short-stopped}
+use Rattle.mesh.specs.declared.boundary.LoopAnswer.{LoopAnswer}
+use Rattle.mesh.specs.Loop.{Pieces, loop-of, from-loop}
+use Rattle.mesh.specs.Mesh.{mesh-of, needed-cells, mesh-cells, no-cells, zeroes, cells-left, mesh-tile-curves}
+use Rattle.mesh.specs.Tile.{cell-limits-test, tile-loop, by-curves, coons-checked, mesh-tile}
+use Rattle.mesh.proofs.boundary.Laws.{Holds, loop-held}
 use Rattle.curves.specs.Limits.{max-cells}
 
 -- ---- the room for the indices
@@ -46,18 +51,34 @@ module _ (bottom right top left : List Float) (n m : ℕ) (points : List Float) 
   abbrev grid : List Float → Outcome
   grid = coons-nodes bottom right top left n m
 
-  tile-by : (b : Bool) → b ≡ leb (needed-cells n m) (length cells)
-      → cond b (with-cells (grid points) n m cells) (without-cells (grid []) points cells) ≡ mesh-tile-curves bottom right top left n m points cells
-  unfolding mesh-tile-curves
-  tile-by b e = ap (λ (x : Bool). cond x (with-cells (grid points) n m cells) (without-cells (grid []) points cells)) e
+  -- the grid, told whether the indices have too little room
+  abbrev told : Bool → Outcome
+  told short = coons-nodes-beside short bottom right top left n m points
 
-  -- without room for the indices
+  tile-by : (short : Bool) → ltb (length cells) (needed-cells n m) ≡ short
+      → record { grid = told short; cells = cells-left (told short .verdict) n m cells } ≡ mesh-tile-curves bottom right top left n m points cells
+  unfolding mesh-tile-curves
+  tile-by short e = ap (λ (x : Bool). record { grid = told x; cells = cells-left (told x .verdict) n m cells }) (sym e)
+
+  left-by : (v : Verdict) (p z : Bool) → is-passed v ≡ p → zeroes v ≡ z
+      → cond p (splice cells 0 (mesh-cells n m)) (cond z (splice cells 0 (no-cells (needed-cells n m))) cells) ≡ cells-left v n m cells
+  unfolding cells-left
+  left-by v p z d g = simp (d, g)
+
+  -- without room for the indices: what a grid answered that had no room for its points either
   pub no-room : (b : Bool) (r : GridAnswer) (lent none : List Float) → b ≡ leb (needed-cells n m) (length cells) → b ≡ false → lent ≡ [] → outcome-of r none ≡ grid lent
       → mesh-of r points cells ≡ mesh-tile-curves bottom right top left n m points cells
-  unfolding outcome-of mesh-of without-cells
-  no-room b r lent none e f h o = answer r ∙ ap (λ (x : Outcome). without-cells x points cells) (o ∙ ap grid h) ∙ tile-by false (sym f ∙ e)
+  unfolding mesh-of outcome-of
+  no-room b r lent none e f h o =
+      let stopped = short-stopped bottom right top left n m points in
+      let v = told true .verdict in
+      let few = leb-false (needed-cells n m) (length cells) (sym e ∙ f) in
+      let unzeroed = T-false (zeroes v) (nor-right (eqb (v .number) 22) (zeroes v) (stopped .early .other)) in
+      ap (λ (x : Outcome). record { grid = x; cells = cells }) (answer r ∙ ap (leaving points) (o ∙ ap grid h) ∙ sym (short-nodes bottom right top left points n m))
+      ∙ ap (λ (l : List ℕ). record { grid = told true; cells = l }) (left-by v false false (stopped .not-passed) unzeroed)
+      ∙ tile-by true (lt-ltb (length cells) (needed-cells n m) few)
     where
-      answer : (r : GridAnswer) → mesh-of r points cells ≡ without-cells (outcome-of r none) points cells
+      answer : (r : GridAnswer) → outcome-of r points ≡ leaving points (outcome-of r none)
       answer (grid-answer.Made quads) = refl
       answer (grid-answer.Refused cause) = refl
 
@@ -66,17 +87,12 @@ module _ (bottom right top left : List Float) (n m : ℕ) (points : List Float) 
     pub room : needed-cells n m ≤ length cells
     room = leb-true (needed-cells n m) (length cells) (sym e ∙ f)
 
-    left-by : (v : Verdict) (p z : Bool) → is-passed v ≡ p → zeroes v ≡ z
-        → cond p (splice cells 0 (mesh-cells n m)) (cond z (splice cells 0 (no-cells (needed-cells n m))) cells) ≡ cells-left v n m cells
-    unfolding cells-left
-    left-by v p z d g = simp (d, g)
-
     answered : (r : GridAnswer) (rest : List ℕ) → made ≡ r → rest ≡ cells-left (outcome-of r after .verdict) n m cells → mesh-of r after rest ≡ mesh-tile-curves bottom right top left n m points cells
-    unfolding mesh-of with-cells
+    unfolding mesh-of
     answered r rest q w =
         ap (λ (l : List ℕ). record { grid = outcome-of r after; cells = l }) w
-        ∙ ap (λ (x : Outcome). with-cells x n m cells) (ap (λ (x : GridAnswer). outcome-of x after) (sym q) ∙ o)
-        ∙ tile-by true (sym f ∙ e)
+        ∙ ap (λ (x : Outcome). record { grid = x; cells = cells-left (x .verdict) n m cells }) (ap (λ (x : GridAnswer). outcome-of x after) (sym q) ∙ o ∙ nodes-alone bottom right top left points n m)
+        ∙ tile-by false (le-ltb (length cells) (needed-cells n m) room)
 
     pub made-cells : (quads : ℕ) (rest : List ℕ) → made ≡ grid-answer.Made quads → rest ≡ splice cells 0 (mesh-cells n m)
         → mesh-of (grid-answer.Made quads) after rest ≡ mesh-tile-curves bottom right top left n m points cells
@@ -98,47 +114,56 @@ module _ (bottom right top left : List Float) (n m : ℕ) (points : List Float) 
     unfolding outcome-of
     few-cells quads q = cells-of-nodes bottom right top left n m points (ap (λ (x : Outcome). x .verdict) (ap (λ (x : GridAnswer). outcome-of x after) (sym q) ∙ o))
 
--- ---- the tests of a loop
+-- ---- the loop of a tile
 
 module _ (boundary : List Float) (n m : ℕ) where
-  tile-test-by : (a b : Bool) → ltb max-cells n ≡ a → ltb max-cells m ≡ b → then-test (refuse-if (a || b) (refused 1 0 0)) (loop-test boundary) ≡ tile-test boundary n m
-  unfolding cell-limits-test tile-test
-  tile-test-by a b e f = simp (e, f)
+  loop-by : (a b : Bool) → ltb max-cells n ≡ a → ltb max-cells m ≡ b
+      → if-passed (refuse-if (a || b) (refused 1 0 0)) (from-loop boundary) turned-away ≡ tile-loop boundary n m
+  unfolding cell-limits-test tile-loop
+  loop-by a b e f = simp (e, f)
 
-  pub too-wide : max-cells < n → refused 1 0 0 ≡ tile-test boundary n m
-  too-wide h = tile-test-by true (ltb max-cells m) (lt-ltb max-cells n h) refl
+  pub too-wide : max-cells < n → turned-away (refused 1 0 0) ≡ tile-loop boundary n m
+  too-wide h = loop-by true (ltb max-cells m) (lt-ltb max-cells n h) refl
 
-  pub too-high : n ≤ max-cells → max-cells < m → refused 1 0 0 ≡ tile-test boundary n m
-  too-high h g = tile-test-by false true (le-ltb max-cells n h) (lt-ltb max-cells m g)
+  pub too-high : n ≤ max-cells → max-cells < m → turned-away (refused 1 0 0) ≡ tile-loop boundary n m
+  too-high h g = loop-by false true (le-ltb max-cells n h) (lt-ltb max-cells m g)
 
-  pub in-size : n ≤ max-cells → m ≤ max-cells → loop-test boundary ≡ tile-test boundary n m
-  in-size h g = tile-test-by false false (le-ltb max-cells n h) (le-ltb max-cells m g)
+  pub in-size : n ≤ max-cells → m ≤ max-cells → from-loop boundary ≡ tile-loop boundary n m
+  in-size h g = loop-by false false (le-ltb max-cells n h) (le-ltb max-cells m g)
 
-  pub mesh-refused : (points : List Float) (cells : List ℕ) (c : Check) (cause : Refusal) → c ≡ Refused cause → outcome c ≡ tile-test boundary n m
-      → mesh-of (grid-answer.Refused cause) points cells ≡ mesh-tile boundary n m points cells
-  unfolding outcome-of mesh-of mesh-tile
-  mesh-refused points cells c cause e o = refuses _ (λ (v : Verdict). record { grid = refusal points v; cells = cells }) c cause (tile-test boundary n m) e o
+  tile-held : Holds (point-count boundary) (tile-loop boundary n m)
+  unfolding tile-loop
+  tile-held = go (is-passed (cell-limits-test n m))
+    where
+      go : (b : Bool) → Holds (point-count boundary) (elim b [ true ↦ from-loop boundary | false ↦ turned-away (cell-limits-test n m) ])
+      go true = loop-held boundary
+      go false = tt
 
-  pub mesh-follows : (points : List Float) (cells : List ℕ) (x : Mesh) (c : Check) → c ≡ Passed → outcome c ≡ tile-test boundary n m
-      → x ≡ mesh-tile-curves (piece boundary 0) (piece boundary 1) (piece boundary 2) (piece boundary 3) n m points cells → x ≡ mesh-tile boundary n m points cells
-  unfolding mesh-tile
-  mesh-follows points cells x c e o h = h ∙ follows _ (λ (v : Verdict). record { grid = refusal points v; cells = cells }) c (tile-test boundary n m) e o
+  -- of an answer that is told
+  module _ {r : LoopAnswer} (told : loop-of r ≡ tile-loop boundary n m) where
+    pub held : {s : LoopAnswer} → r ≡ s → Holds (point-count boundary) (loop-of s)
+    held e = subst (Holds (point-count boundary)) (sym told ∙ ap loop-of e) tile-held
 
-  pub quads-refused : (out : List Float) (c : Check) (cause : Refusal) → c ≡ Refused cause → outcome c ≡ tile-test boundary n m
-      → outcome-of (grid-answer.Refused cause) out ≡ coons-checked boundary n m out
-  unfolding outcome-of coons-checked
-  quads-refused out c cause e o = refuses _ (refusal out) c cause (tile-test boundary n m) e o
+    pub quads-by : {s : LoopAnswer} → r ≡ s → (out : List Float)
+        → by-curves (loop-of s) boundary (λ (b r t l : List Float). coons-quads b r t l n m out) (refusal out) ≡ coons-checked boundary n m out
+    unfolding coons-checked
+    quads-by e out =
+        ap (λ (a : Answer Pieces). by-curves a boundary (λ (b r t l : List Float). coons-quads b r t l n m out) (refusal out)) (ap loop-of (sym e) ∙ told)
 
-  pub quads-follow : (out : List Float) (x : Outcome) (c : Check) → c ≡ Passed → outcome c ≡ tile-test boundary n m
-      → x ≡ coons-quads (piece boundary 0) (piece boundary 1) (piece boundary 2) (piece boundary 3) n m out → x ≡ coons-checked boundary n m out
-  unfolding coons-checked
-  quads-follow out x c e o h = h ∙ follows _ (refusal out) c (tile-test boundary n m) e o
+    pub mesh-by : {s : LoopAnswer} → r ≡ s → (points : List Float) (cells : List ℕ)
+        → by-curves (loop-of s) boundary (λ (b r t l : List Float). mesh-tile-curves b r t l n m points cells)
+        (λ (v : Verdict). record { grid = refusal points v; cells = cells })
+        ≡ mesh-tile boundary n m points cells
+    unfolding mesh-tile
+    mesh-by e points cells =
+        ap
+        (λ (a : Answer Pieces).
+        by-curves a boundary (λ (b r t l : List Float). mesh-tile-curves b r t l n m points cells)
+        (λ (v : Verdict). record { grid = refusal points v; cells = cells }))
+        (ap loop-of (sym e) ∙ told)
 
 -- ---- four curves in place of four
 
 pub in-four-curves : {A : Type 0} (f : List Float → List Float → List Float → List Float → A) (a a′ b b′ c c′ d d′ : List Float) → a ≡ a′ → b ≡ b′
     → c ≡ c′ → d ≡ d′ → f a b c d ≡ f a′ b′ c′ d′
 in-four-curves f a a′ b b′ c c′ d d′ p q r s = ap (λ (x : List Float). f x b c d) p ∙ ap (λ (x : List Float). f a′ x c d) q ∙ ap (λ (x : List Float). f a′ b′ x d) r ∙ ap (f a′ b′ c′) s
-
-pub in-four-sides : {A : Type 0} (f : List Float → List Float → List Float → List Float → A) (g h : ℕ → List Float) → ((k : ℕ) → g k ≡ h k) → f (g 0) (g 1) (g 2) (g 3) ≡ f (h 0) (h 1) (h 2) (h 3)
-in-four-sides f g h e = in-four-curves f _ _ _ _ _ _ _ _ (e 0) (e 1) (e 2) (e 3)

@@ -1,67 +1,92 @@
--- `tile::coons_checked` meets its contract. Assumes nothing.
-use mathlib.Core.Path.{_∙_}
+-- `tile::coons_checked` meets its contract: the loop has corners or quarters, or it is refused. Assumes nothing.
+use mathlib.Core.Path.{sym, _∙_}
 use mathlib.Core.List.{List}
+use Prim.Native.Nat.{_*_, _≤_}
 use native.Mathlib.Omega.{arith}
+use lib.ListN.{length}
+use lib.Seq.{length-take-le}
 use lib.Ieee.{Float}
 use denote.Ref.{now}
-use Rattle.curves.specs.Coons.{coons-quads}
-use Rattle.mesh.specs.Loop.{corner-pair, quarter, piece}
-use Rattle.mesh.proofs.boundary.Laws.{used-few, corner-piece, quarter-piece}
-use Rattle.mesh.proofs.tile.Laws.{quads-refused, quads-follow, in-four-sides}
+use Rattle.curves.specs.Curve.{point-count}
+use Rattle.curves.specs.Coons.{outcome-of, coons-quads}
+use Rattle.mesh.specs.Loop.{loop-of}
+use Rattle.mesh.proofs.boundary.Laws.{side-0, side-1, side-2, side-3}
+use Rattle.mesh.proofs.tile.Laws.{held, quads-by, in-four-curves}
 use borrow.Author.Needs.{needs}
 use Rattle.mesh.proofs.tile.coons_checked.Statement.{statement}
 use Rattle.mesh.proofs.tile.coons_checked.Tie as tie
 
--- The places that needs look back to, and the ways from one to an earlier one; `search` goes by the types.
-abbrev check-tile-before-else1 : tie.Else1 → tie.After-check-tile
-check-tile-before-else1 else1 = search
+-- ---- the places that needs look back to: the loop is answered; it has corners; it has quarters, of n points
 
-abbrev check-tile-before-then1 : tie.Then1 → tie.After-check-tile
-check-tile-before-then1 then1 = search
+abbrev Answered : Type 0
+Answered = tie.After-tile-loop
 
-abbrev entry-before-check-tile : tie.After-check-tile → tie.Start
-entry-before-check-tile at-check-tile = at-check-tile .before .before .before
+abbrev Corners : Type 0
+Corners = tie.After-enum-told
+
+abbrev Quarters : Type 0
+Quarters = tie.After-n
+
+abbrev entry : Answered → tie.Start
+entry c = c .before .before .before
+
+-- ---- the sides between four corners
+
+enough : (c : Corners) → 8 ≤ length (now (entry (c .before .before) .args .boundary))
+unfolding loop-of
+enough c = let h = held _ _ _ (c .before .before .tile-loop .ensures) (c .enum-told .given .1) in omega (arith, h)
+
+slice-aggregate-coons-curves : tie.Need-slice-aggregate-coons-curves
+slice-aggregate-coons-curves c =
+    let at-corners : Corners = search in
+    sym (length-take-le 4 (now (entry (at-corners .before .before) .args .boundary)) (omega (arith, enough at-corners)))
 
 returns : tie.Need-returns
+unfolding loop-of
 returns c =
-    let entry : tie.Start = search in
-    quads-refused _ _ _ (now (entry .args .out)) _ _ (c .before .cause .given .1) (c .before .before .before .check-tile .ensures)
+    let at-corners : Corners = search in
+    let here = at-corners .before .before in
+    let a = entry here .args in
+    let loop = now (a .boundary) in
+    c .before .before .coons-curves .ensures
+    ∙ in-four-curves (λ (b r t l : List Float). coons-quads b r t l (a .n-u) (a .n-v) (now (a .out))) _ _ _ _ _ _ _ _
+    (side-0 loop) (side-1 loop) (side-2 loop) (side-3 loop (enough at-corners))
+    ∙ quads-by _ _ _ (here .tile-loop .ensures) (at-corners .enum-told .given .1) (now (a .out))
 
-enum-told : tie.Need-enum-told
-enum-told c = search needs
+-- ---- the quarters
 
-quads-of-corners-requires : tie.Need-quads-of-corners-requires
-quads-of-corners-requires c κs = let u = used-few _ _ (c .before .before .points-used .ensures) in omega (arith, u, c .before .if1 .taken)
+within : (c : Quarters) → 4 * c .n .given .0 .0 ≤ point-count (now (entry (c .before .before) .args .boundary))
+unfolding loop-of
+within c = held _ _ _ (c .before .before .tile-loop .ensures) (c .n .given .1)
 
 returns-2 : tie.Need-returns-2
+unfolding loop-of
 returns-2 c =
-    let then1 : tie.Then1 = search in
-    let at-check-tile = check-tile-before-then1 then1 in
-    let entry = entry-before-check-tile at-check-tile in
-    let a = entry .args in
-    let loop = now (a .boundary) in
-    quads-follow _ _ _ _ _ _ (then1 .before .before .enum-told .given .1) (at-check-tile .check-tile .ensures)
-    (c .before .before .quads-of-corners .ensures ∙ in-four-sides (λ (b r t l : List Float). coons-quads b r t l (a .n-u) (a .n-v) (now (a .out)))
-    (corner-pair loop) (piece loop) (corner-piece loop _ (then1 .before .points-used .ensures) (then1 .if1 .taken)))
+    let at-quarter4 : tie.After-quarter4 = search in
+    let at-quarters : Quarters = search in
+    let here = at-quarters .before .before in
+    let a = entry here .args in
+    c .before .before .coons-curves2 .ensures
+    ∙ in-four-curves (λ (b r t l : List Float). coons-quads b r t l (a .n-u) (a .n-v) (now (a .out))) _ _ _ _ _ _ _ _
+    (at-quarter4 .before .before .before .quarter .ensures) (at-quarter4 .before .before .quarter2 .ensures) (at-quarter4 .before .quarter3 .ensures)
+    (at-quarter4 .quarter4 .ensures)
+    ∙ quads-by _ _ _ (here .tile-loop .ensures) (at-quarters .n .given .1) (now (a .out))
 
-quads-of-quarters-requires : tie.Need-quads-of-quarters-requires
-quads-of-quarters-requires c κs = used-few _ _ (c .before .before .points-used .ensures)
+-- ---- the refusal
 
 returns-3 : tie.Need-returns-3
+unfolding loop-of outcome-of
 returns-3 c =
-    let else1 : tie.Else1 = search in
-    let at-check-tile = check-tile-before-else1 else1 in
-    let entry = entry-before-check-tile at-check-tile in
-    let a = entry .args in
-    let loop = now (a .boundary) in
-    quads-follow _ _ _ _ _ _ (else1 .before .before .enum-told .given .1) (at-check-tile .check-tile .ensures)
-    (c .before .before .quads-of-quarters .ensures ∙ in-four-sides (λ (b r t l : List Float). coons-quads b r t l (a .n-u) (a .n-v) (now (a .out)))
-    (quarter loop (else1 .before .points-used .result)) (piece loop)
-    (quarter-piece loop _ (else1 .before .points-used .ensures) (else1 .if1 .left)))
+    let here : Answered = search in
+    quads-by _ _ _ (here .tile-loop .ensures) (c .before .cause .given .1) (now (entry here .args .out))
 
 pub coons-checked-spec : {M : Type 1} → statement M
 coons-checked-spec =
     tie.close
     (tie.spec
-    (λ c κs. search needs) (λ c. search needs) returns enum-told (λ c κs. search needs) quads-of-corners-requires (λ c. search needs)
-    returns-2 quads-of-quarters-requires (λ c. search needs) returns-3)
+    (λ c κs. search needs) (λ c. search needs) (λ c. omega (arith, enough (search))) (λ c. omega (arith, enough (search)))
+    (λ c. omega (arith, enough (search))) (λ c. omega (arith, enough (search))) slice-aggregate-coons-curves (λ c. search needs)
+    (λ c. search needs) (λ c. omega (arith, enough (search))) (λ c. search needs) (λ c. search needs) (λ c. omega (arith, enough (search)))
+    (λ c. search needs) (λ c κs. search needs) (λ c. search needs) (λ c κs. (omega arith, within (search)))
+    (λ c κs. (omega arith, within (search))) (λ c κs. (omega arith, within (search))) (λ c κs. (omega arith, within (search)))
+    (λ c κs. search needs) (λ c. search needs) (λ c. search needs) returns (λ c. search needs) returns-2 returns-3)
