@@ -381,6 +381,19 @@ fn loop_with_corners_twice() {
     assert_eq!(meshed(&[a, b, c, d, a]), Ok(mesh));
 }
 
+/// Curves may be apart by 1e-9 of the tile's size. The patch then meets left and right, and misses bottom and top: by the gap at a corner,
+/// and in proportion along the side. Let neighbouring curves end in the same point.
+#[test]
+fn curves_apart_within_the_allowance() {
+    let [a, b, c, d] = [[0.0, 0.0], [1.0, 0.0], [1.0, 1.0], [0.0, 1.0]];
+    let curves = |end| BoundaryCurves { bottom: vec![a, b], right: vec![b, c], top: vec![c, d], left: vec![d, end] };
+    let bottom_row = |end| mesh_tile_curves(&curves(end), 2, 2).map(|mesh| mesh.points[..3].to_vec()).map_err(|refusal| refusal.number);
+    let pegs = |x, middle| Ok(vec![[x, 0.0, 0.0], [middle, 0.0, 0.0], [1.0, 0.0, 0.0]]);
+    assert_eq!(bottom_row(a), pegs(0.0, 0.5));
+    assert_eq!(bottom_row([5e-10, 0.0]), pegs(5e-10, 0.50000000025));
+    assert_eq!(bottom_row([2e-9, 0.0]), Err(16));
+}
+
 /// An ideal may be so large that its first piece wins less than 1e-12, and then the count is 0 too, without a refusal.
 #[test]
 fn huge_ideal_gets_no_piece() {
