@@ -6,12 +6,15 @@ use Rattle.base.specs.Refusal.{outcome, then-test}
 use Rattle.curves.proofs.Chains.{chained}
 use Rattle.base.specs.declared.verdict.Verdict.{Verdict}
 use Rattle.curves.specs.Coons.{curves-limit, seams-limit, coons-from-parameters}
-use Rattle.curves.specs.inner.Grids.{lent-seams}
+use Rattle.curves.specs.Grid.{Seams}
+use Rattle.curves.specs.Limits.{max-curve}
+use Rattle.curves.specs.inner.Curves.{Sides, lent}
+use Rattle.curves.specs.inner.Grids.{lent-seams, TileShort}
 use Rattle.curves.proofs.coons.Laws.{turned-away, let-by, limits-passed, curves-let-by, seams-let-by}
 use Rattle.curves.proofs.coons.from_parameters.Statement.{statement}
 use Rattle.curves.proofs.coons.from_parameters.Tie as tie
 
--- ---- the place where both limits are tested, and the entry
+-- ---- the places that needs look back to: both limits are tested, and the entry
 
 abbrev Tested : Type 0
 Tested = tie.After-and
@@ -19,11 +22,22 @@ Tested = tie.After-and
 abbrev entry : Tested → tie.Start
 entry c = search
 
+abbrev tested-before : tie.After-enum-told → Tested
+tested-before c = search
+
+-- ---- what is known there
+
+abbrev points : Tested → Sides
+points c = let a = entry c .args in lent (a .bottom) (a .right) (a .top) (a .left)
+
+abbrev seams : Tested → Seams
+seams c = let a = entry c .args in lent-seams (a .bottom-u) (a .top-u) (a .left-v) (a .right-v)
+
 abbrev of-curves : Tested → Verdict
-of-curves c = let a = entry c .args in curves-limit (now (a .bottom)) (now (a .right)) (now (a .top)) (now (a .left))
+of-curves c = let p = points c in curves-limit (p .bottom) (p .right) (p .top) (p .left)
 
 abbrev of-seams : Tested → Verdict
-of-seams c = let a = entry c .args in seams-limit (lent-seams (a .bottom-u) (a .top-u) (a .left-v) (a .right-v))
+of-seams c = seams-limit (seams c)
 
 tested : (c : Tested) → outcome (c .and .result) ≡ then-test (of-curves c) (of-seams c)
 tested c = chained (c .and .ensures) (c .before .before .check-curve-limits .ensures) (c .before .check-seam-limits .ensures)
@@ -34,23 +48,41 @@ returns c =
     let here : Tested = search in
     turned-away (now (entry here .args .out)) _ (c .before .cause .given .1) (tested here)
 
-make-patch-requires : tie.Need-make-patch-requires
-make-patch-requires c κs =
-    let told = c .before in
-    let here : Tested = search in
-    let q = limits-passed (of-curves here) (of-seams here) (told .enum-told .given .1) (tested here) in
+-- ---- the limits are kept to
+
+short : (c : tie.After-enum-told) → TileShort max-curve (points (tested-before c)) (seams (tested-before c))
+short c =
+    let here = tested-before c in
+    let q = limits-passed (of-curves here) (of-seams here) (c .enum-told .given .1) (tested here) in
     record { curves = curves-let-by (q .0); seams = seams-let-by (q .1) }
+
+small-patch-requires : tie.Need-small-patch-requires
+small-patch-requires c κs =
+    let told : tie.After-enum-told = search in
+    record { curves = c .before .before .has-short-curves .ensures (c .before .if1 .taken); seams = short told .seams }
 
 returns-2 : tie.Need-returns-2
 unfolding coons-from-parameters
 returns-2 c =
     let told : tie.After-enum-told = search in
-    let here : Tested = search in
-    c .before .before .make-patch .ensures ∙ let-by (now (entry here .args .out)) _ (told .enum-told .given .1) (tested here)
+    let here = tested-before told in
+    c .before .before .small-patch .ensures ∙ let-by (now (entry here .args .out)) _ (told .enum-told .given .1) (tested here)
+
+large-patch-requires : tie.Need-large-patch-requires
+large-patch-requires c κs =
+    let told : tie.After-enum-told = search in
+    short told
+
+returns-3 : tie.Need-returns-3
+unfolding coons-from-parameters
+returns-3 c =
+    let told : tie.After-enum-told = search in
+    let here = tested-before told in
+    c .before .before .large-patch .ensures ∙ let-by (now (entry here .args .out)) _ (told .enum-told .given .1) (tested here)
 
 pub from-parameters-spec : {M : Type 1} → statement M
 from-parameters-spec =
     tie.close
     (tie.spec
-    (λ c κs. search needs) (λ c κs. search needs) (λ c κs. search needs) (λ c. search needs) returns (λ c. search needs) make-patch-requires
-    (λ c. search needs) returns-2)
+    (λ c κs. search needs) (λ c κs. search needs) (λ c κs. search needs) (λ c. search needs) returns (λ c. search needs) (λ c κs. search needs)
+    small-patch-requires (λ c. search needs) returns-2 large-patch-requires (λ c. search needs) returns-3)

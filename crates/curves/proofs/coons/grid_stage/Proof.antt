@@ -5,7 +5,7 @@ use denote.Ref.{now}
 use lib.ListN.{length}
 use Rattle.curves.specs.Boundary.{BoundaryCurves}
 use Rattle.curves.specs.Grid.{Seams, n-u, n-v, needed}
-use Rattle.curves.specs.inner.Curves.{lent-curves}
+use Rattle.curves.specs.inner.Curves.{curves-in}
 use Rattle.curves.specs.inner.Grids.{lent-seams, PairedSeams}
 use Rattle.curves.proofs.coons.Laws.{seams-paired, cells-fit, bad-seams, no-room, grid-made, grid-refused}
 use borrow.Author.Needs.{needs}
@@ -20,7 +20,7 @@ entry-before-seams c = search
 abbrev seams-before-passed : tie.After-enum-told → tie.After-check-seams
 seams-before-passed c = search
 
-abbrev room-before-grid : tie.After-coons-grid → tie.Else1
+abbrev room-before-grid : tie.After-sized-grid → tie.Else1
 room-before-grid c = search
 
 abbrev entry : tie.After-enum-told → tie.Start
@@ -33,7 +33,7 @@ passed c = c .before .before
 -- ---- what is known there
 
 abbrev curves : tie.Start → BoundaryCurves
-curves c = let a = c .args in lent-curves (a .bottom) (a .lengths0) (a .right) (a .lengths1) (a .top) (a .lengths2) (a .left) (a .lengths3)
+curves c = let a = c .args in curves-in (now (a .knots)) (a .patch .starts)
 
 abbrev seams : tie.Start → Seams
 seams c = let a = c .args in lent-seams (a .bottom-u) (a .top-u) (a .left-v) (a .right-v)
@@ -60,9 +60,6 @@ sub-n-u c = omega (arith, paired c)
 sub-n-v : tie.Need-sub-n-v
 sub-n-v c = omega (arith, paired c)
 
-needed-requires : tie.Need-needed-requires
-needed-requires c κs = omega (arith, paired c)
-
 returns-2 : tie.Need-returns-2
 returns-2 c =
     let told = c .before .before in
@@ -72,34 +69,34 @@ returns-2 c =
 
 -- ---- the grid
 
-coons-grid-requires : tie.Need-coons-grid-requires
-coons-grid-requires c κs =
+sized-grid-requires : tie.Need-sized-grid-requires
+sized-grid-requires c κs =
     let at-room : tie.Else1 = search in
     let given = entry (passed at-room) .pre in
-    record { curves = given .curves; paired = paired (passed at-room); workspace = given .workspace; room = room at-room }
+    record { patch = given .patch; paired = paired (passed at-room); room = room at-room }
 
 returns-3 : tie.Need-returns-3
 returns-3 c =
-    let at-grid : tie.After-coons-grid = search in
+    let at-grid : tie.After-sized-grid = search in
     let at-room = room-before-grid at-grid in
     let told = passed at-room in
     let start = entry told in
     grid-refused (start .args .layout) (curves start) (seams start) (now (start .args .out)) (told .enum-told .given .1)
-    (seams-before-passed told .check-seams .ensures) (room at-room) (at-grid .coons-grid .ensures) (c .before .made .given .1)
+    (seams-before-passed told .check-seams .ensures) (room at-room) (at-grid .sized-grid .ensures) (c .before .made .given .1)
 
 -- the number of quads fits
 
 mul-quads : tie.Need-mul-quads
 mul-quads c =
-    let at-grid : tie.After-coons-grid = search in
+    let at-grid : tie.After-sized-grid = search in
     let told = passed (room-before-grid at-grid) in
     let s = seams (entry told) in
     let few = cells-fit (n-u s) (n-v s) (omega (arith, paired told)) (omega (arith, paired told)) in
     omega (arith, few)
 
-cast-t39 : tie.Need-cast-t39
-cast-t39 c =
-    let at-grid : tie.After-coons-grid = search in
+cast-t22 : tie.Need-cast-t22
+cast-t22 c =
+    let at-grid : tie.After-sized-grid = search in
     let told = passed (room-before-grid at-grid) in
     let s = seams (entry told) in
     let few = cells-fit (n-u s) (n-v s) (omega (arith, paired told)) (omega (arith, paired told)) in
@@ -107,17 +104,16 @@ cast-t39 c =
 
 returns-4 : tie.Need-returns-4
 returns-4 c =
-    let at-grid : tie.After-coons-grid = search in
+    let at-grid : tie.After-sized-grid = search in
     let at-room = room-before-grid at-grid in
     let told = passed at-room in
     let start = entry told in
     grid-made (start .args .layout) (curves start) (seams start) (now (start .args .out)) (told .enum-told .given .1)
-    (seams-before-passed told .check-seams .ensures) (room at-room) (at-grid .coons-grid .ensures) (c .enum-told2 .given .1)
+    (seams-before-passed told .check-seams .ensures) (room at-room) (at-grid .sized-grid .ensures) (c .enum-told2 .given .1)
 
 pub grid-stage-spec : {M : Type 1} → statement M
 grid-stage-spec =
     tie.close
     (tie.spec
-    (λ c κs. search needs) (λ c. search needs) returns (λ c. search needs) sub-n-u sub-n-v needed-requires returns-2 coons-grid-requires
-    (λ c. search needs) (λ c. search needs) (λ c. search needs) (λ c. search needs) (λ c. search needs) returns-3 (λ c. search needs)
-    mul-quads cast-t39 (λ c. search needs) (λ c. search needs) (λ c. search needs) (λ c. search needs) returns-4)
+    (λ c κs. search needs) (λ c. search needs) returns (λ c. search needs) sub-n-u sub-n-v (λ c κs. search needs) returns-2 sized-grid-requires
+    (λ c. search needs) (λ c. search needs) returns-3 (λ c. search needs) mul-quads cast-t22 (λ c. search needs) returns-4)

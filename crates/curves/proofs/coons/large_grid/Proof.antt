@@ -1,35 +1,21 @@
+-- `coons::large_grid` meets its contract: the room is that of the longest seam. Assumes nothing.
+use native.Mathlib.Omega.{arith}
+use borrow.Author.Needs.{needs}
 use Rattle.curves.proofs.coons.large_grid.Statement.{statement}
 use Rattle.curves.proofs.coons.large_grid.Tie as tie
-use Rattle.curves.proofs.coons.large_grid.Reads as reads
-use Rattle.curves.proofs.coons.large_grid.Lts as lts
-use Rattle.curves.proofs.grid.coons_grid.Reads as coons-grid-reads
 
--- src/coons.rt:170:9
-slice-aggregate-coons-grid : tie.Need-slice-aggregate-coons-grid
-slice-aggregate-coons-grid c = ?
-
--- src/coons.rt:171:9
-slice-aggregate-coons-grid-2 : tie.Need-slice-aggregate-coons-grid-2
-slice-aggregate-coons-grid-2 c = ?
-
--- src/coons.rt:162:5
 coons-grid-requires : tie.Need-coons-grid-requires
-coons-grid-requires c κs = ?
-
--- src/coons.rt:143:1
-same-length : tie.Need-same-length
-same-length c = ?
-
--- src/coons.rt:143:1
-returns : tie.Need-returns
-returns c = ?
+coons-grid-requires c κs =
+    let entry : tie.Start = search in
+    let given = entry .pre in
+    record {
+      patch = given .patch;
+      paired = given .paired;
+      workspace = record { columns = omega (arith, given .paired .u); two-rows = omega (arith, given .paired .u) };
+      room = given .room;
+    }
 
 pub large-grid-spec : {M : Type 1} → statement M
 large-grid-spec =
     tie.close
-    (tie.spec
-    slice-aggregate-coons-grid
-    slice-aggregate-coons-grid-2
-    coons-grid-requires
-    same-length
-    returns)
+    (tie.spec (λ c. search needs) (λ c. search needs) coons-grid-requires (λ c. search needs) (λ c. search needs))
