@@ -2,3 +2,4 @@
 pub mod Laws
 pub mod Filled
 pub mod RowLaws
+pub mod TwoRows

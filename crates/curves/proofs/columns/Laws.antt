@@ -1,17 +1,22 @@
--- The table of columns: nine stores, the columns of a seam one after the other, and that each of them is the one of its parameter. Assumes nothing.
+-- The table of columns: nine stores, the columns of a seam one after the other, that each of them is the one of its parameter, and that level lines
+-- can go by them. Assumes nothing.
 use mathlib.Core.Path.{_≡_, refl, ap, _∙_}
 use mathlib.Core.List.{List, [], _∷_}
 use Prim.Native.Nat.{ℕ, _+_, _*_, _<_, _≤_}
 use native.Mathlib.Nat.{zero-add}
 use native.Mathlib.Omega.{arith}
-use lib.ListN.{length, getD, set, List·getD-append}
+use lib.ListN.{length, getD, set, take, List·getD-append}
+use lib.Seq.{length-take-le, getD-take}
 use lib.Ieee.{Float, nan}
 use Rattle.base.specs.Buffers.{concat-tabulate, splice}
 use Rattle.floats.specs.Scalar.{clamp-unit}
 use Rattle.curves.specs.Curve.{ArcCurve}
 use Rattle.curves.specs.Point.{values}
+use Rattle.curves.specs.Boundary.{BoundaryCurves}
 use Rattle.curves.specs.inner.Columns.{column-at, patch-point}
 use Rattle.curves.specs.inner.Columns.{column-values, stored-column, seam-column, Table, level-points}
+use Rattle.curves.specs.inner.Level.{Upright}
+use Rattle.curves.specs.inner.Grids.{LevelColumns}
 use Rattle.curves.specs.declared.boundary.Ends.{Ends}
 use Rattle.curves.specs.declared.patch.Column.{Column}
 use Rattle.curves.specs.declared.patch.Row.{Row}
@@ -96,6 +101,40 @@ module _ {bottom top : ArcCurve} {b t : Ends} {seam : List Float} where
 -- a table of more columns serves
 pub fewer : {bottom top : ArcCurve} {b t : Ends} {seam table : List Float} {n m : ℕ} → n ≤ m → Table bottom top b t seam m table → Table bottom top b t seam n table
 fewer h w = record { holds = λ i g. w .holds i (omega arith) }
+
+-- ---- how many values of the table level lines can go by
+
+-- a column is what its values say
+same-column : (xs ys : List Float) (from : ℕ) → ((r : ℕ) → r < 9 → getD xs (from + r) nan ≡ getD ys (from + r) nan)
+    → stored-column xs from ≡ stored-column ys from
+same-column xs ys from h =
+    rw
+    (h 1 (omega arith), h 2 (omega arith), h 3 (omega arith), h 4 (omega arith), h 5 (omega arith), h 6 (omega arith), h 7 (omega arith), h 8 (omega arith))
+
+-- the front of the table has its columns
+front : {bottom top : ArcCurve} {b t : Ends} {seam table : List Float} {n : ℕ} → Table bottom top b t seam n table → 9 * n ≤ length table
+    → Table bottom top b t seam n (take (9 * n) table)
+front {table = table} {n = n} w h =
+    let l = length-take-le (9 * n) table h in
+    record {
+      holds = λ i g.
+          let s = w .holds i g in
+          record {
+            there = omega arith;
+            parameter = getD-take (9 * n) table (9 * i) nan (omega arith) ∙ s .parameter;
+            column = same-column (take (9 * n) table) table (9 * i) (λ r q. getD-take (9 * n) table (9 * i + r) nan (omega arith)) ∙ s .column;
+          };
+    }
+
+module _ {c : BoundaryCurves} {b t : Ends} {bottom top table : List Float} where
+  -- none
+  pub no-columns : LevelColumns c b t bottom top table 0
+  no-columns = record { within = omega arith; level = record { held = λ h. absurd (omega arith); lines = λ h. absurd (omega arith) } }
+
+  -- all that the loop fills
+  pub all-columns : Table (c .bottom) (c .top) b t bottom (length bottom) table → 9 * length bottom ≤ length table → Upright bottom top
+      → LevelColumns c b t bottom top table (9 * length bottom)
+  all-columns w h u = record { within = h; level = record { held = λ g. front w h; lines = λ g. u } }
 
 -- ---- the points of a level line
 

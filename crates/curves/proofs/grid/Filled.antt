@@ -7,6 +7,7 @@ use mathlib.Core.List.{List}
 use Prim.Native.Nat.{ℕ, _+_, _-_, _*_, _≤_, _<_}
 use native.Mathlib.Omega.{arith}
 use lib.ListN.{length, take}
+use lib.Seq.{take-all}
 use lib.Dec.{T}
 use lib.Ieee.{Float}
 use Rattle.base.specs.declared.verdict.Verdict.{Verdict}
@@ -33,8 +34,10 @@ use Rattle.curves.proofs.rows.Whole.{cells-below}
 pub row-part-read : (f : PointRow) (n : ℕ) (d xs : List Float) → xs ≡ splice d 0 (row-points f n) → take (2 * (n + 1)) xs ≡ row-points f n
 row-part-read f n d xs e = ap (take (2 * (n + 1))) e ∙ take-splice d (row-points f n) (2 * (n + 1)) (length-row-points f n)
 
-pub row-read : {f : PointRow} {n : ℕ} {d row : List Float} {c : Check} → RowFilled f n d row (outcome c) → c ≡ Passed → take (2 * (n + 1)) row ≡ row-points f n
-row-read {f} {n} {d} {row} {c} s e = row-part-read f n d row (s .written (told-passed c e))
+-- a row that has passed, in a buffer just as long
+pub row-read : {f : PointRow} {n : ℕ} {d row : List Float} {c : Check} → RowFilled f n d row (outcome c) → c ≡ Passed → length row ≡ 2 * (n + 1)
+    → row ≡ row-points f n
+row-read {f} {n} {d} {row} {c} s e l = sym (take-all (2 * (n + 1)) row (omega arith)) ∙ row-part-read f n d row (s .written (told-passed c e))
 
 -- ---- the tests of the points
 
@@ -93,6 +96,17 @@ module _ {layout : Layout} {f : Grid} {n m : ℕ} {d : List Float} {j at : ℕ} 
   pub row-has-room : {high : List Float} → j ≤ m → needed layout n m ≤ length d → high ≡ row-points (f j) n → at + length (row-part layout low high n j) ≤ length d
   row-has-room {high} h k e = row-fits f n layout d m j at low high (r .below) e (r .at-is) h k
 
+  -- the same for a list that the row below is read from later
+  pub same-below : {low' : List Float} → low' ≡ low → RowsTo layout f n m d j at low' out cells
+  same-below e = record {
+    within = r .within;
+    at-is = r .at-is;
+    written = r .written;
+    below = λ h. e ∙ r .below h;
+    left = r .left;
+    tested = r .tested;
+  }
+
   -- row j is refused
   pub rows-refused : {before after : List Float} {points : Check} {cause : Refusal} → j ≤ m → RowFilled (f j) n before after (outcome points)
       → points ≡ Refused cause
@@ -106,22 +120,19 @@ module _ {layout : Layout} {f : Grid} {n m : ℕ} {d : List Float} {j at : ℕ} 
     written = r .written;
   }
 
-  -- row j has passed: it is the front of `after`, it is written and what is below it is tested
-  pub next-row : {before after copied next : List Float} {points cells' : Check} {size : ℕ} (below : Check) → j ≤ m → needed layout n m ≤ length d
-      → RowFilled (f j) n before after (outcome points) → points ≡ Passed → RowLaid layout low (take (2 * (n + 1)) after) n j at out next (outcome below)
-      → outcome cells' ≡ then-test (outcome cells) (outcome below) → size ≡ row-size layout n j → copied ≡ take (2 * (n + 1)) after
-      → RowsTo layout f n m d (j + 1) (at + size) copied next cells'
-  next-row {after = after} {copied} {next} {points} {cells'} {size} below h k s e w o z q =
-      let high : List Float = take (2 * (n + 1)) after in
-      let row = row-read s e in
-      record {
-        within = omega arith;
-        at-is = row-end f n layout j at (at + size) low high (r .below) row (r .at-is) (ap (λ (x : ℕ). at + x) z);
-        written = row-written f n layout d out next m j at low high (r .below) row (r .at-is) h k (r .written) (w .written);
-        below = row-passed f n j copied (q ∙ row);
-        left = rows-next f n m j points (r .left) h e (s .told);
-        tested = cells-step f n j low high cells below cells' (r .below) row (r .tested) (w .told) o;
-      }
+  -- row j has passed: it is `high`, it is written and what is below it is tested
+  pub next-row : {before after high next : List Float} {points cells' : Check} {size : ℕ} (below : Check) → j ≤ m → needed layout n m ≤ length d
+      → RowFilled (f j) n before after (outcome points) → points ≡ Passed → high ≡ row-points (f j) n
+      → RowLaid layout low high n j at out next (outcome below) → outcome cells' ≡ then-test (outcome cells) (outcome below) → size ≡ row-size layout n j
+      → RowsTo layout f n m d (j + 1) (at + size) high next cells'
+  next-row {high = high} {next} {points} {cells'} {size} below h k s e row w o z = record {
+    within = omega arith;
+    at-is = row-end f n layout j at (at + size) low high (r .below) row (r .at-is) (ap (λ (x : ℕ). at + x) z);
+    written = row-written f n layout d out next m j at low high (r .below) row (r .at-is) h k (r .written) (w .written);
+    below = row-passed f n j high row;
+    left = rows-next f n m j points (r .left) h e (s .told);
+    tested = cells-step f n j low high cells below cells' (r .below) row (r .tested) (w .told) o;
+  }
 
   -- there are no more rows
   pub rows-done : m < j → Laid layout f n m d out (outcome cells)

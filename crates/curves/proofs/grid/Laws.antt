@@ -1,5 +1,4 @@
--- A point of the grid from its column and row, a row of points as a loop writes and tests it, and the patch's points from crossings or from a table
--- of columns. Assumes nothing.
+-- A row of points as a loop writes and tests it, and the patch's points from crossings or from a table of columns. Assumes nothing.
 use mathlib.Core.Path.{_≡_, refl, sym, ap, subst, _∙_}
 use mathlib.Core.List.{List}
 use Prim.Native.Nat.{ℕ, _+_, _-_, _*_, _<_, _≤_}
@@ -18,7 +17,7 @@ use Rattle.base.specs.Tests.{first-of}
 use Rattle.floats.specs.Scalar.{clamp-unit}
 use Rattle.curves.specs.Point.{point, values, point-of}
 use Rattle.curves.specs.Curve.{point-at}
-use Rattle.curves.specs.Boundary.{BoundaryCurves, curve-ends}
+use Rattle.curves.specs.Boundary.{BoundaryCurves}
 use Rattle.curves.specs.Patch.{coons-point}
 use Rattle.curves.specs.inner.Columns.{column-at, row-at, patch-point}
 use Rattle.curves.specs.inner.Columns.{stored-column, Table, level-points}
@@ -26,7 +25,6 @@ use Rattle.curves.specs.Grid.{mapped, PointRow, crossings, row-of, row-t
 use Rattle.curves.specs.inner.Curves.{PatchCurves}
 use Rattle.curves.specs.inner.Rows.{coordinates, row-points, mapped-points, RowFilled}
 use Rattle.curves.specs.declared.boundary.Ends.{Ends}
-use Rattle.curves.specs.declared.patch.Column.{Column}
 use Rattle.curves.specs.declared.patch.Row.{Row as PatchRow}
 use Rattle.curves.specs.declared.point.Point.{Point}
 use Rattle.curves.specs.declared.point.PointAnswer.{PointAnswer}
@@ -34,7 +32,7 @@ use Rattle.curves.specs.declared.point.PointAnswer.the-variants.{At, Ref
 use Rattle.base.proofs.BufferLaws.{splice-none, length-concat, concat-same, pair-step, splice-past}
 use Rattle.base.proofs.TestLaws.{refused-not-passed, first-start, first-next, first-stops, first-done, first-same, first-all, first-each}
 use Rattle.curves.proofs.crossing.Laws.{There, crossing-there}
-use Rattle.curves.proofs.patch.Laws.{split-patch}
+use Rattle.curves.proofs.patch.Laws.{patched}
 use Rattle.curves.proofs.columns.Laws.{level-point}
 use Rattle.curves.proofs.rows.Whole.{value-of-row}
 
@@ -44,18 +42,6 @@ module _ (c : BoundaryCurves) where
   mapped-good : (p : Point) → mapped c (good p) ≡ good (coons-point c (p .x) (p .y))
   unfolding mapped
   mapped-good p = refl
-
-  -- the point of a column and a row
-  patched : (b t : Ends) (u v : Float) (column : Column) (row : PatchRow) (p : Point) → b ≡ curve-ends (c .bottom) → t ≡ curve-ends (c .top)
-      → column ≡ column-at (c .bottom) (c .top) b t u → row ≡ row-at (c .right) (c .left) v
-      → p ≡ patch-point column row u v → p ≡ coons-point c u v
-  patched b t u v column row p eb et ec er ep =
-      ep
-      ∙ ap (λ (x : Column). patch-point x row u v) ec
-      ∙ ap (λ (x : PatchRow). patch-point (column-at (c .bottom) (c .top) b t u) x u v) er
-      ∙ ap (λ (x : Ends). patch-point (column-at (c .bottom) (c .top) x t u) (row-at (c .right) (c .left) v) u v) eb
-      ∙ ap (λ (x : Ends). patch-point (column-at (c .bottom) (c .top) (curve-ends (c .bottom)) x u) (row-at (c .right) (c .left) v) u v) et
-      ∙ split-patch c u v
 
   mapped-verdict : (x : Answer Point) → verdict (mapped c x) ≡ verdict x
   unfolding mapped
@@ -120,11 +106,9 @@ pub record Mapped (c : BoundaryCurves) (d : List Float) (i : ℕ) (row : List Fl
   pub written : row ≡ splice d 0 (concat-tabulate (mapped-point c d) 0 i)
 
 -- a turn of the loop that puts them there: what it reads is still as it was
-pub next-mapped : {c : BoundaryCurves} {b t : Ends} {d row : List Float} {i k : ℕ} {column : Column} {across : PatchRow} {p : Point}
-    → PatchCurves c b t → Mapped c d i row → k ≡ 2 * i → k + 2 ≤ length d
-    → column ≡ column-at (c .bottom) (c .top) b t (getD row k nan) → across ≡ row-at (c .right) (c .left) (getD row (k + 1) nan)
-    → p ≡ patch-point column across (getD row k nan) (getD row (k + 1) nan) → Mapped c d (i + 1) (set (set row k (p .x)) (k + 1) (p .y))
-next-mapped {c} {b} {t} {d} {row} {i} {k} {column} {across} {p} g o e h ec er ep =
+pub next-mapped : {c : BoundaryCurves} {d row : List Float} {i k : ℕ} {p : Point} → Mapped c d i row → k ≡ 2 * i → k + 2 ≤ length d
+    → p ≡ coons-point c (getD row k nan) (getD row (k + 1) nan) → Mapped c d (i + 1) (set (set row k (p .x)) (k + 1) (p .y))
+next-mapped {c} {d} {row} {i} {k} {p} o e h ep =
     let vs : List Float = concat-tabulate (mapped-point c d) 0 i in
     let l : length vs ≡ i * 2 = length-concat (mapped-point c d) 2 0 i (λ j l. refl) in
     let u : getD row k nan ≡ getD d (2 * i) nan =
@@ -132,7 +116,7 @@ next-mapped {c} {b} {t} {d} {row} {i} {k} {column} {across} {p} g o e h ec er ep
     let v : getD row (k + 1) nan ≡ getD d (2 * i + 1) nan =
     ap (λ (x : List Float). getD x (k + 1) nan) (o .written) ∙ splice-past d vs (k + 1) nan (omega arith) ∙ ap (λ (x : ℕ). getD d (x + 1) nan) e in
     let q : values p ≡ mapped-point c d i =
-    ap values (patched c b t (getD row k nan) (getD row (k + 1) nan) column across p (g .bottom-ends) (g .top-ends) ec er ep)
+    ap values ep
     ∙ ap (λ (x : Float). values (coons-point c x (getD row (k + 1) nan))) u
     ∙ ap (λ (x : Float). values (coons-point c (getD d (2 * i) nan) x)) v in
     record { written = pair-step d (mapped-point c d) row i k (p .x) (p .y) (λ j. refl) (o .written) e h q }
@@ -185,7 +169,7 @@ module _ (c : BoundaryCurves) (bottom top : List Float) (a b : Float) (j : ℕ) 
 -- ---- a level line, whose crossings lie at the seam's values
 
 module _ (c : BoundaryCurves) (b t : Ends) (bottom top table : List Float) (v : Float) (j n : ℕ) (across : PatchRow)
-    (eb : b ≡ curve-ends (c .bottom)) (et : t ≡ curve-ends (c .top)) (w : Table (c .bottom) (c .top) b t bottom (n + 1) table)
+    (g : PatchCurves c b t) (w : Table (c .bottom) (c .top) b t bottom (n + 1) table)
     (ea : across ≡ row-at (c .right) (c .left) v)
     (h : (i : ℕ) → i ≤ n → (clamp-unit (getD bottom i nan) ≡ getD bottom i nan) × (crossings bottom top v v j i ≡ good (point (getD bottom i nan) v))) where
   level-at : (i : ℕ) → i ≤ n → row-of c bottom top v v j i ≡ good (coons-point c (getD bottom i nan) v)
@@ -199,7 +183,7 @@ module _ (c : BoundaryCurves) (b t : Ends) (bottom top table : List Float) (v : 
       let k : stored-column table (9 * i) ≡ column-at (c .bottom) (c .top) b t u =
       s .column ∙ ap (column-at (c .bottom) (c .top) b t) (h i (omega arith) .0) in
       ap (λ (x : Float). values (patch-point (stored-column table (9 * i)) across x v)) e
-      ∙ ap values (patched c b t u v (stored-column table (9 * i)) across (patch-point (stored-column table (9 * i)) across u v) eb et k ea refl)
+      ∙ ap values (patched u v g k ea refl)
       ∙ sym (ap coordinates (level-at i (omega arith)))
 
   pub level-row : (level-points table across v n ≡ row-points (row-of c bottom top v v j) n) × (row-test (row-of c bottom top v v j) n ≡ passed)

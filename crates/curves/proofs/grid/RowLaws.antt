@@ -1,6 +1,5 @@
 -- A row of the grid from its crossings, or from the columns where its lines are level and upright. Assumes nothing.
 use mathlib.Core.Path.{_≡_, sym, ap, subst, _∙_}
-use mathlib.Core.Bool.{Bool, true}
 use mathlib.Core.List.{List}
 use Prim.Native.Nat.{ℕ, _+_, _*_, _<_, _≤_}
 use native.Mathlib.Omega.{arith}
@@ -29,6 +28,7 @@ use Rattle.curves.specs.declared.patch.Row.{Row as PatchRow}
 use Rattle.base.proofs.BufferLaws.{splice-over}
 use Rattle.base.proofs.TestLaws.{told-passed, refused-not-passed}
 use Rattle.curves.proofs.level.Laws.{level-crossing}
+use Rattle.curves.proofs.columns.Laws.{fewer}
 use Rattle.curves.proofs.grid.Laws.{mapped-row, mapped-test, level-row}
 use Rattle.curves.proofs.grid.Filled.{row-part-read}
 use Rattle.curves.proofs.rows.Laws.{length-row-points}
@@ -43,13 +43,13 @@ module _ (c : BoundaryCurves) where
     ap (λ (d : Float). logical-intersection v v (getD bottom i nan) d i j) (sym (s .0)) ∙ level-crossing v (getD bottom i nan) i j p (s .1),
   )
 
-  pub level-filled : {b t : Ends} {bottom top table d row : List Float} {upright : Bool} {v0 v1 : Float} {n : ℕ} {across : PatchRow} (j : ℕ)
-      → PatchCurves c b t → LevelGiven c b t bottom top (n + 1) table upright → upright ≡ true → n < length bottom → Straight v0 v1
+  pub level-filled : {b t : Ends} {bottom top table d row : List Float} {v0 v1 : Float} {n : ℕ} {across : PatchRow} (j : ℕ) → PatchCurves c b t
+      → LevelGiven c b t bottom top (length bottom) table → 0 < length table → n < length bottom → Straight v0 v1
       → across ≡ row-at (c .right) (c .left) v0 → row ≡ splice d 0 (level-points table across v0 n)
       → RowFilled (row-of c bottom top v0 v1 j) n d row (outcome Passed)
   unfolding outcome
   level-filled {b} {t} {bottom} {top} {table} {d} {v0 = v0} {n = n} {across = across} j g w u h s ea er =
-      let l = level-row c b t bottom top table v0 j n across (g .bottom-ends) (g .top-ends) (w .columns) ea
+      let l = level-row c b t bottom top table v0 j n across g (fewer (omega arith) (w .held u)) ea
       (λ i k. crosses-there bottom top v0 i j (w .lines u i (omega arith)) (s .1)) in
       record {
         told = sym (l .1) ∙ ap (λ (x : Float). row-test (row-of c bottom top v0 x j) n) (s .0);

@@ -7,9 +7,8 @@ use Prim.Native.Nat.{ℕ, zero, suc, _+_, _-_, _*_, _<_, _≤_}
 use native.Mathlib.Nat.{mul-comm, mul-le-mul-right}
 use native.Mathlib.Numerals.{add-one}
 use native.Mathlib.Omega.{arith}
-use lib.ListN.{length, getD, set, take, length-set}
-use lib.Seq.{length-take-le, take-suc, take-all}
-use lib.Ieee.{Float, nan}
+use lib.ListN.{length, set}
+use lib.Ieee.{Float}
 use Rattle.base.specs.declared.verdict.Verdict.{Verdict}
 use Rattle.base.specs.Refusal.{passed, refused, refuse-if, outcome, then-test}
 use Rattle.base.specs.declared.refusal.Check.{Check}
@@ -26,7 +25,7 @@ use Rattle.curves.specs.inner.Rows.{QuadsRoom, NodesRoom, RowRoom, RowLa
 use Rattle.curves.specs.declared.point.Point.{Point}
 use Rattle.curves.specs.declared.rows.Layout.{Layout}
 use Rattle.curves.specs.declared.rows.Layout.the-variants.{Quads, Nodes}
-use Rattle.base.proofs.BufferLaws.{length-tabulate, length-concat, length-concat-more, concat-grows, splice-none, store-next, concat-step, splice-over, take-splice}
+use Rattle.base.proofs.BufferLaws.{length-tabulate, length-concat, length-concat-more, concat-grows, splice-none, store-next, concat-step, splice-over}
 use Rattle.base.proofs.TestLaws.{first-more}
 use Rattle.curves.proofs.rows.Whole.{cells-below, tests-of-grid, parts-of-grid}
 use Rattle.curves.specs.Limits.{max-cells}
@@ -51,33 +50,6 @@ node-stored d k p h =
     let s0 = store-next d k [] d k (p .x) (splice-none d k) (omega arith) (omega arith) in
     let s1 = store-next d k (p .x ∷ []) _ (k + 1) (p .y) s0 refl (omega arith) in
     store-next d k (p .x ∷ p .y ∷ []) _ (k + 2) nought s1 refl (omega arith)
-
--- ---- a row copied to the front of a list
-
--- its first i values
-pub record CopiedTo (row d : List Float) (i : ℕ) (out : List Float) : Type 0 where
-  pub within : i ≤ length row
-  pub same-length : length out ≡ length d
-  pub written : out ≡ splice d 0 (take i row)
-
-pub none-copied : {row d : List Float} → CopiedTo row d 0 d
-none-copied = record { within = omega arith; same-length = refl; written = refl }
-
-pub next-copied : {row d out : List Float} {i : ℕ} → CopiedTo row d i out → i < length row → length row ≤ length d → CopiedTo row d (i + 1) (set out i (getD row i nan))
-next-copied {row} {d} {out} {i} s h r =
-    let t : length (take i row) ≡ i = length-take-le i row (omega arith) in
-    record {
-      within = omega arith;
-      same-length = simp length-set (s .same-length);
-      written = store-next d 0 (take i row) out i (getD row i nan) (s .written) (omega (arith, t)) (omega arith)
-          ∙ ap (splice d 0) (sym (ap (λ (k : ℕ). take k row) (add-one i) ∙ take-suc row i nan h));
-    }
-
-pub all-copied : {row d out : List Float} {i : ℕ} → CopiedTo row d i out → length row ≤ i → out ≡ splice d 0 row
-all-copied {row} {d} s h = s .written ∙ ap (splice d 0) (take-all _ row h)
-
-pub copied-row : {row next : List Float} (low : List Float) (w : ℕ) → length row ≡ w → next ≡ splice low 0 row → take w next ≡ row
-copied-row {row} low w e n = ap (take w) n ∙ take-splice low row w e
 
 -- ---- quads between two rows, and points of one, written over d from an index on
 

@@ -1,35 +1,21 @@
+-- `columns::level_columns` meets its contract. Assumes nothing.
+use native.Mathlib.Omega.{arith}
+use borrow.Author.Needs.{needs}
+use borrow.Author.Tests.{not-false}
+use Rattle.curves.proofs.columns.Laws.{no-columns, all-columns}
 use Rattle.curves.proofs.columns.level_columns.Statement.{statement}
 use Rattle.curves.proofs.columns.level_columns.Tie as tie
-use Rattle.curves.proofs.columns.level_columns.Reads as reads
-use Rattle.curves.proofs.columns.level_columns.Lts as lts
-use Rattle.curves.proofs.columns.fill_columns.Reads as fill-columns-reads
-use Rattle.curves.proofs.level.are_upright.Reads as are-upright-reads
 
--- src/columns.rt:104:9
-are-upright-requires : tie.Need-are-upright-requires
-are-upright-requires c κs = ?
-
--- src/columns.rt:106:9
-returns : tie.Need-returns
-returns c = ?
-
--- src/columns.rt:108:5
-fill-columns-requires : tie.Need-fill-columns-requires
-fill-columns-requires c κs = ?
-
--- src/columns.rt:109:5
-mul-result : tie.Need-mul-result
-mul-result c = ?
-
--- src/columns.rt:91:1
-same-length : tie.Need-same-length
-same-length c = ?
-
--- src/columns.rt:91:1
 returns-2 : tie.Need-returns-2
-returns-2 c = ?
+returns-2 c =
+    let filled = c .before .before .fill-columns in
+    let upright : tie.Else1 = search in
+    let at-upright : tie.After-are-upright = search in
+    let entry : tie.Start = search in
+    all-columns (filled .ensures) (omega (arith, filled .kept, entry .pre .columns .room)) (at-upright .are-upright .ensures (not-false _ (upright .if1 .left)))
 
 pub level-columns-spec : {M : Type 1} → statement M
 level-columns-spec =
     tie.close
-    (tie.spec are-upright-requires returns fill-columns-requires mul-result same-length returns-2)
+    (tie.spec
+    (λ c κs. search needs) (λ c. no-columns) (λ c κs. search needs) (λ c. search needs) (λ c. search needs) returns-2)

@@ -1,46 +1,47 @@
--- `grid::grid_rows` meets its contract. Before each turn the rows below j have passed and what they give is written; `low` holds the last of them.
--- What the code was lent it still has: the buffers keep their lengths. Assumes nothing.
-use mathlib.Core.Path.{_≡_, refl, sym, _∙_}
-use mathlib.Core.Bool.{Bool}
+-- `grid::grid_rows` meets its contract. Before each turn the rows below j have passed and what they give is written; the last of them stands from `low`
+-- on, apart from the place of the next one. What the code was lent it still has: the buffers keep their lengths. Assumes nothing.
+use mathlib.Core.Logic.{inl}
+use mathlib.Core.Path.{_≡_, refl, _∙_}
 use mathlib.Core.List.{List}
 use native.Mathlib.Omega.{arith}
 use Prim.Native.Nat.{ℕ, _+_, _-_, _*_, _≤_}
-use lib.ListN.{length, take}
-use lib.Seq.{length-take-le}
+use lib.ListN.{length}
 use lib.Ieee.{Float}
 use denote.Ref.{now}
 use borrow.Author.Needs.{needs}
+use borrow.Rule.Slice.PartMut.{putMid}
 use Rattle.base.specs.declared.refusal.Check.{Check}
-use Rattle.curves.specs.Curve.{curve}
-use Rattle.curves.specs.Boundary.{BoundaryCurves, boundary}
-use Rattle.curves.specs.Grid.{Seams, seams, n-u, n-v, grid-of}
-use Rattle.curves.specs.inner.Rows.{row-part}
+use Rattle.curves.specs.Grid.{Seams, seams, n-u, n-v, Grid, grid-of}
+use Rattle.curves.specs.inner.Rows.{row-points, row-part}
+use Rattle.curves.specs.inner.Curves.{part, curves-in}
 use Rattle.curves.specs.inner.Grids.{RowsGiven}
-use Rattle.curves.specs.declared.boundary.Ends.{Ends}
+use Rattle.curves.specs.declared.boundary.Patch.{Patch}
 use Rattle.curves.specs.declared.rows.Layout.{Layout}
-use Rattle.curves.proofs.columns.Laws.{fewer}
-use Rattle.curves.proofs.rows.Laws.{size-told, copied-row}
-use Rattle.curves.proofs.grid.Filled.{RowsTo, no-rows, row-read, row-has-room, rows-refused, next-row, rows-done}
+use Rattle.curves.proofs.rows.Laws.{size-told}
+use Rattle.curves.proofs.grid.TwoRows.{TwoPlaces, same-places, turned, lower-length, upper-length, as-long, upper-read, lower-read}
+use Rattle.curves.proofs.grid.Filled.{RowsTo, no-rows, row-read, row-has-room, same-below, rows-refused, next-row, rows-done}
 use Rattle.curves.proofs.grid.grid_rows.Statement.{statement}
 use Rattle.curves.proofs.grid.grid_rows.Tie as tie
 
-record Turn (c : BoundaryCurves) (b t : Ends) (s : Seams) (layout : Layout) (table : List Float) (upright : Bool)
-    (low₀ high₀ out₀ low high out : List Float) (cells : Check) (at j : ℕ) : Type 0 where
-  pub given : RowsGiven c b t s layout table upright low high out
-  pub same-low : length low ≡ length low₀
-  pub same-high : length high ≡ length high₀
+-- how many values a row takes
+abbrev row-width : Seams → ℕ
+row-width s = 2 * (n-u s + 1)
+
+record Turn (knots : List Float) (p : Patch) (s : Seams) (layout : Layout) (columns rows₀ out₀ rows out : List Float) (cells : Check) (low high at j : ℕ)
+    : Type 0 where
+  pub given : RowsGiven knots p s layout columns rows out
+  pub same-rows : length rows ≡ length rows₀
   pub same-out : length out ≡ length out₀
-  pub rows : RowsTo layout (grid-of c s) (n-u s) (n-v s) out₀ j at (take (2 * (n-u s + 1)) low) out cells
+  pub places : TwoPlaces (row-width s) low high rows
+  pub laid : RowsTo layout (grid-of (curves-in knots (p .starts)) s) (n-u s) (n-v s) out₀ j at (part rows low (low + row-width s)) out cells
 
 abbrev Inv-loop : tie.InvT-loop
-Inv-loop bottom lengths0 right lengths1 top lengths2 left lengths3 b t table upright hints₀ bottom-u top-u left-v right-v layout low₀ high₀ out₀ n m
-    width cells₀ at₀ j₀ hints low high out cells at j =
-    Turn (boundary (curve bottom lengths0) (curve right lengths1) (curve top lengths2) (curve left lengths3)) b t (seams bottom-u top-u left-v right-v)
-    layout table upright low₀ high₀ out₀ low high out cells at j
+Inv-loop knots patch columns hints₀ bottom-u top-u left-v right-v layout rows₀ out₀ n m width cells₀ low₀ high₀ at₀ j₀ hints rows out cells low high at j =
+    Turn knots patch (seams bottom-u top-u left-v right-v) layout columns rows₀ out₀ rows out cells low high at j
 
 abbrev μ-loop : tie.MeasureT-loop
-μ-loop bottom lengths0 right lengths1 top lengths2 left lengths3 b t table upright hints₀ bottom-u top-u left-v right-v layout low₀ high₀ out₀ n m
-    width cells₀ at₀ j₀ hints low high out cells at j = m + 1 - j
+μ-loop knots patch columns hints₀ bottom-u top-u left-v right-v layout rows₀ out₀ n m width cells₀ low₀ high₀ at₀ j₀ hints rows out cells low high at j =
+    m + 1 - j
 
 -- ---- the places that needs look back to, and the ways from one to an earlier one; `search` goes by the types
 
@@ -73,65 +74,69 @@ passed c = search
 
 -- ---- what is known at these
 
+abbrev seams-at : In-loop → Seams
+seams-at c = let a = entry c .args in seams (now (a .bottom-u)) (now (a .top-u)) (now (a .left-v)) (now (a .right-v))
+
+abbrev grid-at : In-loop → Grid
+grid-at c = let a = entry c .args in grid-of (curves-in (now (a .knots)) (a .patch .starts)) (seams-at c)
+
 abbrev width : In-loop → ℕ
-width c = 2 * (length (now (entry c .args .bottom-u)) - 1 + 1)
+width c = row-width (seams-at c)
 
-lower-fits : (c : In-loop) → width c ≤ length (c .before .loop .low)
-lower-fits c = let g = c .before .loop .inv .given in omega (arith, g .rows, g .paired)
+-- row j as `fill_row` leaves it: its last parameter
+abbrev row : Row-filled → List Float
+row c = c .fill-row .last .1 .1 .1 .1 .1 .1 .1 .1 .1 .0
 
-lower-long : (c : In-loop) → length (take (width c) (c .before .loop .low)) ≡ width c
-lower-long c = length-take-le (width c) (c .before .loop .low) (lower-fits c)
+row-long : (c : Row-filled) → length (row c) ≡ width (in-loop c)
+row-long c = c .fill-row .kept .1 .1 .1 .1 .1 .1 .1 .1 .1 .0 ∙ upper-length (in-loop c .before .loop .inv .places)
 
--- `high` as `fill_row` leaves it: its last parameter
-abbrev high : Row-filled → List Float
-high c = c .fill-row .last .1 .1 .1 .1 .1 .1 .1 .1 .1 .1 .1 .1 .1 .1 .1 .1 .1 .1 .1 .0
+-- the two rows with it
+abbrev rows : Row-filled → List Float
+rows c = let l = in-loop c .before .loop in putMid (l .high) (l .high + width (in-loop c) - l .high) (l .rows) (row c)
 
-same-high : (c : Row-filled) → length (high c) ≡ length (in-loop c .before .loop .high)
-same-high c = c .fill-row .kept .1 .1 .1 .1 .1 .1 .1 .1 .1 .1 .1 .1 .1 .1 .1 .1 .1 .1 .1 .0
+abbrev lower : Row-filled → List Float
+lower c = let l = in-loop c .before .loop in part (rows c) (l .low) (l .low + width (in-loop c))
 
-upper-fits : (c : Row-filled) → width (in-loop c) ≤ length (high c)
-upper-fits c = let g = in-loop c .before .loop .inv .given in omega (arith, g .rows, g .paired, same-high c)
+abbrev upper : Row-filled → List Float
+upper c = let l = in-loop c .before .loop in part (rows c) (l .high) (l .high + width (in-loop c))
 
-upper-long : (c : Row-filled) → length (take (width (in-loop c)) (high c)) ≡ width (in-loop c)
-upper-long c = length-take-le (width (in-loop c)) (high c) (upper-fits c)
+same-rows : (c : Row-filled) → length (rows c) ≡ length (in-loop c .before .loop .rows)
+same-rows c = as-long (in-loop c .before .loop .inv .places) (row c) (row-long c)
+
+places : (c : Row-filled) → let l = in-loop c .before .loop in TwoPlaces (width (in-loop c)) (l .low) (l .high) (rows c)
+places c = same-places (in-loop c .before .loop .inv .places) (same-rows c)
+
+laid : (c : Row-filled) → let here = in-loop c in let l = here .before .loop in let s = seams-at here in let a = entry here .args in
+    RowsTo (a .layout) (grid-at here) (n-u s) (n-v s) (now (a .out)) (l .j) (l .at) (lower c) (l .out) (l .cells)
+laid c = let inv = in-loop c .before .loop .inv in same-below (inv .laid) (lower-read (inv .places) (row c) (row-long c))
+
+upper-is : (c : Row-passed) → let here = in-loop (filled c) in upper (filled c) ≡ row-points (grid-at here (here .before .loop .j)) (n-u (seams-at here))
+upper-is c =
+    let r = filled c in
+    upper-read (in-loop r .before .loop .inv .places) (row r) (row-long r) ∙ row-read (r .fill-row .ensures) (c .enum-told2 .given .1) (row-long r)
 
 -- what row j adds has room
-has-room : (c : Row-passed) → let here = in-loop (filled c) in let a = entry here .args in let l = here .before .loop in
-    l .at + length (row-part (a .layout) (take (width here) (l .low)) (take (width here) (high (filled c))) (length (now (a .bottom-u)) - 1) (l .j))
-    ≤ length (l .out)
+has-room : (c : Row-passed) → let r = filled c in let here = in-loop r in let l = here .before .loop in
+    l .at + length (row-part (entry here .args .layout) (lower r) (upper r) (n-u (seams-at here)) (l .j)) ≤ length (l .out)
 has-room c =
-    let row = filled c in
-    let here = in-loop row in
-    let l = here .before .loop in
-    let fits = row-has-room (l .inv .rows) (here .loop-test .taken) (entry here .pre .room) (row-read (row .fill-row .ensures) (c .enum-told2 .given .1)) in
-    omega (arith, fits, l .inv .same-out)
+    let r = filled c in
+    let here = in-loop r in
+    let fits = row-has-room (laid r) (here .loop-test .taken) (entry here .pre .room) (upper-is c) in
+    omega (arith, fits, here .before .loop .inv .same-out)
 
 -- ---- before the loop
-
-sub-n : tie.Need-sub-n Inv-loop μ-loop
-sub-n c =
-    let start : Entry = search in
-    omega (arith, start .pre .paired)
-
-sub-m : tie.Need-sub-m Inv-loop μ-loop
-sub-m c =
-    let start : Entry = search in
-    omega (arith, start .pre .paired)
-
-add-width : tie.Need-add-width Inv-loop μ-loop
-add-width c =
-    let start : Entry = search in
-    omega (arith, start .pre .paired)
-
-mul-width : tie.Need-mul-width Inv-loop μ-loop
-mul-width c =
-    let start : Entry = search in
-    omega (arith, start .pre .paired)
 
 loop-holds : tie.Need-loop-holds Inv-loop μ-loop
 loop-holds c =
     let start : Entry = search in
-    record { given = start .pre; same-low = refl; same-high = refl; same-out = refl; rows = no-rows }
+    let given = start .pre in
+    record {
+      given = given;
+      same-rows = refl;
+      same-out = refl;
+      places = record { room = omega arith; sum = omega arith; first = inl refl };
+      laid = no-rows;
+    }
 
 -- ---- row j is worked out
 
@@ -141,150 +146,110 @@ fill-row-requires c κs =
     let below = here .loop-test .taken in
     let g = here .before .loop .inv .given in
     let pairs = g .paired in
-    let room = g .rows in
+    let long = upper-length (here .before .loop .inv .places) in
     record {
-      curves = g .curves;
-      level = record { columns = fewer (omega arith) (g .level .columns); lines = g .level .lines };
+      patch = g .patch;
+      level = g .level;
+      some = omega arith;
       row-given = record { cells = omega arith; bottom-long = omega arith; top-long = omega arith; room = omega arith };
       index = omega arith;
     }
 
 same-length : tie.Need-same-length Inv-loop μ-loop
 same-length c =
-    let here : In-loop = search in
-    here .before .loop .inv .same-low
+    let here : Row-filled = search in
+    same-rows here ∙ in-loop here .before .loop .inv .same-rows
 
 same-length-2 : tie.Need-same-length-2 Inv-loop μ-loop
 same-length-2 c =
-    let here : Row-filled = search in
-    same-high here ∙ in-loop here .before .loop .inv .same-high
-
-same-length-3 : tie.Need-same-length-3 Inv-loop μ-loop
-same-length-3 c =
     let here : In-loop = search in
     here .before .loop .inv .same-out
 
 returns : tie.Need-returns Inv-loop μ-loop
 returns c =
-    let row : Row-filled = search in
-    let here = in-loop row in
-    rows-refused (here .before .loop .inv .rows) (here .loop-test .taken) (row .fill-row .ensures) (c .enum-told .given .1)
+    let here : Row-filled = search in
+    let turn = in-loop here in
+    rows-refused (turn .before .loop .inv .laid) (turn .loop-test .taken) (here .fill-row .ensures) (c .enum-told .given .1)
 
 -- ---- its part is written, and the cells below it are tested
 
-slice-reshare-prefix-lower : tie.Need-slice-reshare-prefix-lower Inv-loop μ-loop
-slice-reshare-prefix-lower c = lower-fits (in-loop (filled c))
+part-lower-end : tie.Need-part-lower-end Inv-loop μ-loop
+part-lower-end c = omega (arith, same-rows (filled (c .before)))
 
-slice-aggregate-lower : tie.Need-slice-aggregate-lower Inv-loop μ-loop
-slice-aggregate-lower c = sym (lower-long (in-loop (filled (c .before))))
-
-slice-reshare-prefix-upper : tie.Need-slice-reshare-prefix-upper Inv-loop μ-loop
-slice-reshare-prefix-upper c = upper-fits (filled (c .before))
-
-slice-aggregate-upper : tie.Need-slice-aggregate-upper Inv-loop μ-loop
-slice-aggregate-upper c = sym (upper-long (filled (c .before .before)))
+part-upper-end : tie.Need-part-upper-end Inv-loop μ-loop
+part-upper-end c = omega (arith, same-rows (filled (c .before .before)))
 
 write-row-requires : tie.Need-write-row-requires Inv-loop μ-loop
 write-row-requires c κs =
-    let at-passed = c .before .before .before in
-    let row = filled at-passed in
-    let here = in-loop row in
+    let at-passed : Row-passed = search in
+    let r = filled at-passed in
+    let here = in-loop r in
     let below = here .loop-test .taken in
     let pairs = here .before .loop .inv .given .paired in
     record {
       rows = record {
         cells = omega (arith, pairs);
         index = omega (arith, below, pairs);
-        low-long = omega (arith, lower-long here);
-        high-long = omega (arith, upper-long row);
+        low-long = omega (arith, lower-length (places r));
+        high-long = omega (arith, upper-length (places r));
       };
       room = has-room at-passed;
     }
 
 -- ---- the next row
 
-row-size-requires : tie.Need-row-size-requires Inv-loop μ-loop
-row-size-requires c κs =
-    let at-write : Row-written = search in
-    omega (arith, in-loop (filled (passed at-write)) .before .loop .inv .given .paired)
-
 add-at : tie.Need-add-at Inv-loop μ-loop
 add-at c =
     let at-write : Row-written = search in
     let at-passed = passed at-write in
-    let row = filled at-passed in
-    let here = in-loop row in
-    let a = entry here .args in
+    let r = filled at-passed in
+    let here = in-loop r in
     let l = here .before .loop in
-    let size = size-told (a .layout) (take (width here) (l .low)) (take (width here) (high row)) (length (now (a .bottom-u)) - 1) (l .j) in
+    let size = size-told (entry here .args .layout) (lower r) (upper r) (n-u (seams-at here)) (l .j) in
     omega (arith, has-room at-passed, size, l .inv .same-out, entry here .good, c .row-size .ensures)
-
-copy-row-requires : tie.Need-copy-row-requires Inv-loop μ-loop
-copy-row-requires c κs =
-    let at-write : Row-written = search in
-    let row = filled (passed at-write) in
-    let here = in-loop row in
-    omega (arith, upper-long row, lower-fits here)
-
-add-j : tie.Need-add-j Inv-loop μ-loop
-add-j c =
-    let at-write : Row-written = search in
-    let here = in-loop (filled (passed at-write)) in
-    omega (arith, here .loop-test .taken, here .before .loop .inv .given .paired)
-
-loop-less : tie.Need-loop-less Inv-loop μ-loop
-loop-less c =
-    let at-write : Row-written = search in
-    let here = in-loop (filled (passed at-write)) in
-    omega (arith, here .loop-test .taken)
 
 loop-again : tie.Need-loop-again Inv-loop μ-loop
 loop-again c =
-    let copy = c .before .before .copy-row in
-    let at-size : tie.After-row-size Inv-loop μ-loop = search in
     let at-write : Row-written = search in
     let at-passed = passed at-write in
-    let row = filled at-passed in
-    let here = in-loop row in
+    let r = filled at-passed in
+    let here = in-loop r in
     let inv = here .before .loop .inv in
     let g = inv .given in
-    let low-same = copy .kept .1 .0 in
     let out-same = at-write .write-row .kept .1 .1 .1 .1 .1 .1 .0 in
     record {
       given = record {
-        curves = g .curves;
+        patch = g .patch;
         level = g .level;
         paired = g .paired;
-        rows = record { low-long = omega (arith, low-same, g .rows); high-long = omega (arith, same-high row, g .rows) };
+        two-rows = omega (arith, same-rows r, g .two-rows);
         room = omega (arith, out-same, g .room);
       };
-      same-low = low-same ∙ inv .same-low;
-      same-high = same-high row ∙ inv .same-high;
+      same-rows = same-rows r ∙ inv .same-rows;
       same-out = out-same ∙ inv .same-out;
-      rows = next-row (inv .rows) _ (here .loop-test .taken) (entry here .pre .room) (row .fill-row .ensures) (at-passed .enum-told2 .given .1)
-          (at-write .write-row .ensures) (at-size .before .and .ensures) (at-size .row-size .ensures)
-          (copied-row _ (width here) (upper-long row) (copy .ensures));
+      places = turned (places r);
+      laid = next-row (laid r) _ (here .loop-test .taken) (entry here .pre .room) (r .fill-row .ensures) (at-passed .enum-told2 .given .1)
+          (upper-is at-passed) (at-write .write-row .ensures) (c .before .and .ensures) (c .row-size .ensures);
     }
 
 -- ---- after the last row
 
+same-length-3 : tie.Need-same-length-3 Inv-loop μ-loop
+same-length-3 c = c .before .loop .inv .same-rows
+
 same-length-4 : tie.Need-same-length-4 Inv-loop μ-loop
-same-length-4 c = c .before .loop .inv .same-low
-
-same-length-5 : tie.Need-same-length-5 Inv-loop μ-loop
-same-length-5 c = c .before .loop .inv .same-high
-
-same-length-6 : tie.Need-same-length-6 Inv-loop μ-loop
-same-length-6 c = c .before .loop .inv .same-out
+same-length-4 c = c .before .loop .inv .same-out
 
 returns-2 : tie.Need-returns-2 Inv-loop μ-loop
-returns-2 c = rows-done (c .before .loop .inv .rows) (c .loop-test .left)
+returns-2 c = rows-done (c .before .loop .inv .laid) (c .loop-test .left)
 
 pub grid-rows-spec : {M : Type 1} → statement M
 grid-rows-spec =
     tie.close
     (tie.spec
-    Inv-loop μ-loop sub-n sub-m add-width mul-width loop-holds (λ c. omega arith) (λ c. omega arith) (λ c. omega arith) (λ c. omega arith)
-    fill-row-requires (λ c. search needs) same-length same-length-2 same-length-3 returns (λ c. search needs) slice-reshare-prefix-lower
-    slice-aggregate-lower slice-reshare-prefix-upper slice-aggregate-upper write-row-requires (λ c κs. search needs) row-size-requires add-at
-    copy-row-requires add-j loop-less loop-again same-length-4 same-length-5 same-length-6 returns-2)
+    Inv-loop μ-loop (λ c. omega arith) (λ c. omega arith) (λ c. omega arith) (λ c. omega arith) loop-holds (λ c. omega arith) (λ c. omega arith)
+    (λ c. omega arith) (λ c. omega arith) (λ c. omega arith) (λ c. omega arith) (λ c. omega arith) (λ c. omega arith) (λ c. omega arith)
+    (λ c. omega arith) fill-row-requires (λ c. search needs) same-length same-length-2 returns (λ c. search needs) (λ c. omega arith)
+    (λ c. omega arith) (λ c. omega arith) part-lower-end (λ c. omega arith) (λ c. omega arith) (λ c. omega arith) part-upper-end
+    write-row-requires (λ c κs. search needs) (λ c κs. omega arith) add-at (λ c. omega arith) (λ c. omega arith) loop-again same-length-3
+    same-length-4 returns-2)

@@ -7,32 +7,30 @@ use lib.ListN.{length, length-set}
 use lib.Ieee.{Float}
 use denote.Ref.{now}
 use borrow.Author.Needs.{needs}
-use Rattle.curves.specs.Curve.{curve}
-use Rattle.curves.specs.Boundary.{BoundaryCurves, boundary}
+use Rattle.curves.specs.inner.Curves.{curves-in}
 use Rattle.curves.specs.inner.Grids.{PairsGiven}
-use Rattle.curves.specs.declared.boundary.Ends.{Ends}
+use Rattle.curves.specs.declared.boundary.Patch.{Patch}
 use Rattle.base.proofs.BufferLaws.{splice-none}
 use Rattle.curves.proofs.grid.Laws.{Mapped, next-mapped, mapped-done}
 use Rattle.curves.proofs.grid.map_points.Statement.{statement}
 use Rattle.curves.proofs.grid.map_points.Tie as tie
 
-record Turn (c : BoundaryCurves) (b t : Ends) (n : ℕ) (row₀ row : List Float) (i k : ℕ) : Type 0 where
+record Turn (knots : List Float) (p : Patch) (n : ℕ) (row₀ row : List Float) (i k : ℕ) : Type 0 where
   pub within : i ≤ n + 1
   pub k-is : k ≡ 2 * i
-  pub given : PairsGiven c b t n row
+  pub given : PairsGiven knots p n row
   pub same-length : length row ≡ length row₀
-  pub mapped : Mapped c row₀ i row
+  pub mapped : Mapped (curves-in knots (p .starts)) row₀ i row
 
 abbrev Inv-loop : tie.InvT-loop
-Inv-loop bottom lengths0 right lengths1 top lengths2 left lengths3 b t hints₀ n row₀ i₀ k₀ hints row i k =
-    Turn (boundary (curve bottom lengths0) (curve right lengths1) (curve top lengths2) (curve left lengths3)) b t n row₀ row i k
+Inv-loop knots patch hints₀ n row₀ i₀ k₀ hints row i k = Turn knots patch n row₀ row i k
 
 abbrev μ-loop : tie.MeasureT-loop
-μ-loop bottom lengths0 right lengths1 top lengths2 left lengths3 b t hints₀ n row₀ i₀ k₀ hints row i k = n + 1 - i
+μ-loop knots patch hints₀ n row₀ i₀ k₀ hints row i k = n + 1 - i
 
 loop-holds : tie.Need-loop-holds Inv-loop μ-loop
 loop-holds c =
-    let entry : tie.Start Inv-loop μ-loop = search in
+    let entry = c .before .before in
     record {
       within = omega arith;
       k-is = omega arith;
@@ -41,34 +39,20 @@ loop-holds c =
       mapped = record { written = splice-none (now (entry .args .row)) 0 };
     }
 
-column-at-requires : tie.Need-column-at-requires Inv-loop μ-loop
-column-at-requires c κs =
-    let turn : tie.At-loop Inv-loop μ-loop = search in
-    let curves = turn .loop .inv .given .curves .curves in
-    record { one = curves .bottom; other = curves .top }
-
-row-at-requires : tie.Need-row-at-requires Inv-loop μ-loop
-row-at-requires c κs =
-    let turn : tie.At-loop Inv-loop μ-loop = search in
-    let curves = turn .loop .inv .given .curves .curves in
-    record { one = curves .right; other = curves .left }
-
 slice-write-row-2 : tie.Need-slice-write-row-2 Inv-loop μ-loop
 slice-write-row-2 c = simp length-set (omega arith)
 
 loop-again : tie.Need-loop-again Inv-loop μ-loop
 loop-again c =
-    let in-loop : tie.In-loop Inv-loop μ-loop = search in
-    let below = in-loop .loop-test .taken in
-    let l = in-loop .before .loop in
+    let turn : tie.At-loop Inv-loop μ-loop = search in
+    let l = turn .loop in
     let g = l .inv .given in
     record {
       within = omega arith;
       k-is = omega (arith, l .inv .k-is);
-      given = record { curves = g .curves; cells = g .cells; room = simp length-set (g .room) };
+      given = record { patch = g .patch; cells = g .cells; room = simp length-set (g .room) };
       same-length = simp length-set (l .inv .same-length);
-      mapped = next-mapped (g .curves) (l .inv .mapped) (l .inv .k-is) (omega arith) (c .before .before .before .column-at .ensures)
-          (c .before .row-at .ensures) (c .patch-point .ensures);
+      mapped = next-mapped (l .inv .mapped) (l .inv .k-is) (omega arith) (c .coons-point .ensures);
     }
 
 same-length : tie.Need-same-length Inv-loop μ-loop
@@ -82,5 +66,5 @@ map-points-spec =
     tie.close
     (tie.spec
     Inv-loop μ-loop loop-holds (λ c. omega arith) (λ c. omega arith) (λ c. omega arith) (λ c. omega arith) (λ c. omega arith)
-    column-at-requires row-at-requires (λ c κs. search needs) (λ c. omega arith) (λ c. omega arith) (λ c. omega arith) (λ c. omega arith)
-    slice-write-row-2 (λ c. omega arith) (λ c. omega arith) (λ c. omega arith) loop-again same-length returns)
+    (λ c κs. search needs) (λ c. omega arith) (λ c. omega arith) (λ c. omega arith) (λ c. omega arith) slice-write-row-2
+    (λ c. omega arith) (λ c. omega arith) (λ c. omega arith) loop-again same-length returns)

@@ -4,16 +4,6 @@ use borrow.Author.Needs.{needs}
 use Rattle.curves.proofs.patch.row_at.Statement.{statement}
 use Rattle.curves.proofs.patch.row_at.Tie as tie
 
-curve-near-requires : tie.Need-curve-near-requires
-curve-near-requires c κs =
-    let entry : tie.Start = search in
-    entry .pre .one
-
-curve-near-requires-2 : tie.Need-curve-near-requires-2
-curve-near-requires-2 c κs =
-    let entry : tie.Start = search in
-    entry .pre .other
-
 returns : tie.Need-returns
 unfolding row-at
 returns c =
@@ -24,4 +14,6 @@ pub row-at-spec : {M : Type 1} → statement M
 row-at-spec =
     tie.close
     (tie.spec
-    (λ c. search needs) curve-near-requires (λ c. search needs) (λ c. search needs) curve-near-requires-2 (λ c. search needs) returns)
+    (λ c. search needs) (λ c. search needs) (λ c. search needs) (λ c. search needs) (λ c. search needs) (λ c κs. search needs)
+    (λ c. search needs) (λ c. search needs) (λ c. search needs) (λ c. search needs) (λ c. search needs) (λ c. search needs)
+    (λ c κs. search needs) (λ c. search needs) returns)
