@@ -73,16 +73,21 @@ pub fn race<A, B>(
     Ok(best)
 }
 
-/// Seconds of one call, seconds of all, the last value.
+/// Seconds of one call, seconds of all, the last value. Calls are made in rows of 1, 2, 4, .., so that reading the clock, which takes as long as a
+/// small grid, does not count.
 fn repeated<T>(turn: f64, work: &mut impl FnMut() -> T) -> (f64, f64, T) {
     let start = now();
-    let mut calls = 0.0;
+    let (mut calls, mut row) = (0.0, 1);
     loop {
-        let value = std::hint::black_box(work());
-        calls += 1.0;
+        let mut value = std::hint::black_box(work());
+        for _ in 1..row {
+            value = std::hint::black_box(work());
+        }
+        calls += f64::from(row);
         let spent = now() - start;
         if spent >= turn {
             return (spent / calls, spent, value);
         }
+        row *= 2;
     }
 }

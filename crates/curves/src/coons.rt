@@ -2,7 +2,7 @@
 ghost use mathlib.Core.Path.{_≡_};
 ghost use mathlib.Core.Bool.{true};
 ghost use Prim.Native.Nat.{_≤_};
-ghost use Rattle.base.specs.Refusal.{outcome};
+ghost use Rattle.base.specs.Refusal.{outcome, then-test};
 ghost use Rattle.curves.specs.Grid.{seams, n-u, n-v, grid-of};
 ghost use Rattle.curves.specs.Limits.{max-curve, max-cells};
 ghost use Rattle.curves.specs.Coons.{outcome-of, grid-stage, patch, seam-limit, seams-limit, curve-limit, curves-limit, cells-limit};
@@ -52,16 +52,23 @@ fn check_curve_limit(points: &[f64]) -> Check
     Check::Passed
 }
 
+// All of them are within their limits as a rule, so the first that is not ends it: outcomes that are joined are copied.
 pub(crate) fn check_curve_limits(bottom: &[f64], right: &[f64], top: &[f64], left: &[f64]) -> Check
     ensures { λ r. ⌜ outcome r ≡ curves-limit (now (bottom .entry)) (now (right .entry)) (now (top .entry)) (now (left .entry)) ⌝ }
 {
     let of_bottom = check_curve_limit(bottom);
+    if let Check::Refused(_) = of_bottom {
+        return of_bottom;
+    }
     let of_right = check_curve_limit(right);
+    if let Check::Refused(_) = of_right {
+        return of_right;
+    }
     let of_top = check_curve_limit(top);
-    let of_left = check_curve_limit(left);
-    let from_top = of_top.and(of_left);
-    let from_right = of_right.and(from_top);
-    of_bottom.and(from_right)
+    if let Check::Refused(_) = of_top {
+        return of_top;
+    }
+    check_curve_limit(left)
 }
 
 // 1, of a seam.
@@ -78,12 +85,18 @@ fn check_seam_limits(bottom: &[f64], top: &[f64], left: &[f64], right: &[f64]) -
     ensures { λ r. ⌜ outcome r ≡ seams-limit (lent-seams (bottom .entry) (top .entry) (left .entry) (right .entry)) ⌝ }
 {
     let of_bottom = check_seam_limit(bottom);
+    if let Check::Refused(_) = of_bottom {
+        return of_bottom;
+    }
     let of_top = check_seam_limit(top);
+    if let Check::Refused(_) = of_top {
+        return of_top;
+    }
     let of_left = check_seam_limit(left);
-    let of_right = check_seam_limit(right);
-    let from_left = of_left.and(of_right);
-    let from_top = of_top.and(from_left);
-    of_bottom.and(from_top)
+    if let Check::Refused(_) = of_left {
+        return of_left;
+    }
+    check_seam_limit(right)
 }
 
 // 1 and 26, of the numbers of cells.
@@ -103,6 +116,49 @@ fn check_cell_limits(n_u: u32, n_v: u32) -> Check
         return Check::Refused(Refusal::NoCells);
     }
     Check::Passed
+}
+
+// 1, of curves and seams.
+fn check_seamed_limits(
+    bottom: &[f64],
+    right: &[f64],
+    top: &[f64],
+    left: &[f64],
+    bottom_u: &[f64],
+    top_u: &[f64],
+    left_v: &[f64],
+    right_v: &[f64],
+) -> Check
+    ensures { λ r.
+        let of-curves = curves-limit (now (bottom .entry)) (now (right .entry)) (now (top .entry)) (now (left .entry)) in
+        let of-seams = seams-limit (lent-seams («bottom_u» .entry) («top_u» .entry) («left_v» .entry) («right_v» .entry)) in
+        ⌜ outcome r ≡ then-test of-curves of-seams ⌝ }
+{
+    let of_curves = check_curve_limits(bottom, right, top, left);
+    if let Check::Refused(_) = of_curves {
+        return of_curves;
+    }
+    check_seam_limits(bottom_u, top_u, left_v, right_v)
+}
+
+// 1 and 26, of curves and numbers of cells.
+fn check_even_limits(
+    bottom: &[f64],
+    right: &[f64],
+    top: &[f64],
+    left: &[f64],
+    n_u: u32,
+    n_v: u32,
+) -> Check
+    ensures { λ r.
+        let of-curves = curves-limit (now (bottom .entry)) (now (right .entry)) (now (top .entry)) (now (left .entry)) in
+        ⌜ outcome r ≡ then-test of-curves (cells-limit «n_u» «n_v») ⌝ }
+{
+    let of_curves = check_curve_limits(bottom, right, top, left);
+    if let Check::Refused(_) = of_curves {
+        return of_curves;
+    }
+    check_cell_limits(n_u, n_v)
 }
 
 // The grid of a small tile: most are, and to clear room for the largest ones would take longer than their grid.
@@ -368,9 +424,16 @@ fn from_parameters(
         outcome-of r (now (out .exit)) ≡ coons-from-parameters layout
         (now (bottom .entry)) (now (right .entry)) (now (top .entry)) (now (left .entry)) s (now (out .entry)) ⌝ }
 {
-    let of_curves = check_curve_limits(bottom, right, top, left);
-    let of_seams = check_seam_limits(bottom_u, top_u, left_v, right_v);
-    if let Check::Refused(cause) = of_curves.and(of_seams) {
+    if let Check::Refused(cause) = check_seamed_limits(
+        bottom,
+        right,
+        top,
+        left,
+        bottom_u,
+        top_u,
+        left_v,
+        right_v,
+    ) {
         return GridAnswer::Refused(cause);
     }
     let short = has_short_curves(bottom, right, top, left);
@@ -539,9 +602,7 @@ fn from_cells(
         outcome-of r (now (out .exit)) ≡ coons-curves layout (now (bottom .entry)) (now (right .entry))
         (now (top .entry)) (now (left .entry)) «n_u» «n_v» (now (out .entry)) ⌝ }
 {
-    let of_curves = check_curve_limits(bottom, right, top, left);
-    let of_cells = check_cell_limits(n_u, n_v);
-    if let Check::Refused(cause) = of_curves.and(of_cells) {
+    if let Check::Refused(cause) = check_even_limits(bottom, right, top, left, n_u, n_v) {
         return GridAnswer::Refused(cause);
     }
     if n_u < SMALL_CELLS {

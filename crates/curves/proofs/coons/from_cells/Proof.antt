@@ -5,7 +5,6 @@ use denote.Ref.{now}
 use borrow.Author.Needs.{needs}
 use Rattle.base.specs.Refusal.{outcome, then-test}
 use Rattle.base.specs.declared.verdict.Verdict.{Verdict}
-use Rattle.curves.proofs.Chains.{chained}
 use Rattle.curves.specs.Coons.{curves-limit, cells-limit, coons-curves}
 use Rattle.curves.specs.Limits.{max-cells}
 use Rattle.curves.proofs.coons.Laws.{turned-away, let-by, limits-passed, cells-let-by}
@@ -15,7 +14,7 @@ use Rattle.curves.proofs.coons.from_cells.Tie as tie
 -- ---- the places that needs look back to: both limits are tested, they are passed, and the entry
 
 abbrev Tested : Type 0
-Tested = tie.After-and
+Tested = tie.After-check-even-limits
 
 abbrev Passed : Type 0
 Passed = tie.After-enum-told
@@ -34,8 +33,8 @@ of-curves c = let a = entry c .args in curves-limit (now (a .bottom)) (now (a .r
 abbrev of-cells : Tested → Verdict
 of-cells c = let a = entry c .args in cells-limit (a .n-u) (a .n-v)
 
-tested : (c : Tested) → outcome (c .and .result) ≡ then-test (of-curves c) (of-cells c)
-tested c = chained (c .and .ensures) (c .before .before .check-curve-limits .ensures) (c .before .check-cell-limits .ensures)
+tested : (c : Tested) → outcome (c .check-even-limits .result) ≡ then-test (of-curves c) (of-cells c)
+tested c = c .check-even-limits .ensures
 
 few : (c : Passed) → let a = entry (tested-before c) .args in (a .n-u ≤ max-cells) × (a .n-v ≤ max-cells)
 few c =
@@ -77,5 +76,5 @@ pub from-cells-spec : {M : Type 1} → statement M
 from-cells-spec =
     tie.close
     (tie.spec
-    (λ c κs. search needs) (λ c κs. search needs) (λ c κs. search needs) (λ c. search needs) returns (λ c. search needs)
+    (λ c κs. search needs) (λ c. search needs) returns (λ c. search needs)
     (λ c κs. search needs) (λ c. search needs) returns-2 large-even-patch-requires (λ c. search needs) returns-3)

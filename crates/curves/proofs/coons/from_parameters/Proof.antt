@@ -3,7 +3,6 @@ use mathlib.Core.Path.{_≡_, _∙_}
 use denote.Ref.{now}
 use borrow.Author.Needs.{needs}
 use Rattle.base.specs.Refusal.{outcome, then-test}
-use Rattle.curves.proofs.Chains.{chained}
 use Rattle.base.specs.declared.verdict.Verdict.{Verdict}
 use Rattle.curves.specs.Coons.{curves-limit, seams-limit, coons-from-parameters}
 use Rattle.curves.specs.Grid.{Seams}
@@ -17,7 +16,7 @@ use Rattle.curves.proofs.coons.from_parameters.Tie as tie
 -- ---- the places that needs look back to: both limits are tested, and the entry
 
 abbrev Tested : Type 0
-Tested = tie.After-and
+Tested = tie.After-check-seamed-limits
 
 abbrev entry : Tested → tie.Start
 entry c = search
@@ -39,8 +38,8 @@ of-curves c = let p = points c in curves-limit (p .bottom) (p .right) (p .top) (
 abbrev of-seams : Tested → Verdict
 of-seams c = seams-limit (seams c)
 
-tested : (c : Tested) → outcome (c .and .result) ≡ then-test (of-curves c) (of-seams c)
-tested c = chained (c .and .ensures) (c .before .before .check-curve-limits .ensures) (c .before .check-seam-limits .ensures)
+tested : (c : Tested) → outcome (c .check-seamed-limits .result) ≡ then-test (of-curves c) (of-seams c)
+tested c = c .check-seamed-limits .ensures
 
 returns : tie.Need-returns
 unfolding coons-from-parameters
@@ -84,5 +83,4 @@ pub from-parameters-spec : {M : Type 1} → statement M
 from-parameters-spec =
     tie.close
     (tie.spec
-    (λ c κs. search needs) (λ c κs. search needs) (λ c κs. search needs) (λ c. search needs) returns (λ c. search needs) (λ c κs. search needs)
-    small-patch-requires (λ c. search needs) returns-2 large-patch-requires (λ c. search needs) returns-3)
+    (λ c κs. search needs) (λ c. search needs) returns (λ c. search needs) (λ c κs. search needs) small-patch-requires (λ c. search needs) returns-2 large-patch-requires (λ c. search needs) returns-3)
