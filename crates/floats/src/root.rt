@@ -5,6 +5,7 @@ ghost use Prim.Native.Nat.{_*_, _^_, _≤_, _<_};
 ghost use lib.Ieee.{binary64};
 ghost use Rattle.floats.specs.Root.{root-of, root-answer, root as ieee-root, rounded as rounded-root, parted};
 ghost use Rattle.floats.specs.inner.RootSteps.{Whole, NewtonGiven, NotBelow, Normal, Splits, RoundingGiven, Taken};
+ghost use Rattle.floats.specs.inner.RootSteps.{ToNearest, Found};
 use base::refusal::Refusal;
 
 pub enum RootAnswer {
@@ -52,12 +53,17 @@ pub fn sqrt(x: f64) -> f64
         return x;
     }
     let b = f64::to_bits(x);
-    // +0, -0 and +infinity
-    if b == 0 || b == 0x8000_0000_0000_0000 || b == 0x7ff0_0000_0000_0000 {
-        return x;
-    }
-    if b > 0x8000_0000_0000_0000 {
+    if b == 0 || b >= 0x7ff0_0000_0000_0000 {
+        // +0, -0 and +infinity are their own roots, and what is below zero has none
+        if b == 0 || b == 0x8000_0000_0000_0000 || b == 0x7ff0_0000_0000_0000 {
+            return x;
+        }
         return 0.0 / 0.0;
+    }
+    // the same by a guess, in most cases
+    let quick = quick_root(b);
+    if quick > 0 {
+        return f64::from_bits(quick);
     }
     rounded(take_apart(b))
 }
@@ -165,4 +171,72 @@ fn rounded(a: Apart) -> f64
     };
     let bits = (a.exponent + 1) * 0x10_0000_0000_0000 + d;
     f64::from_bits(bits)
+}
+
+// The rounded root of the float with the bits b, which is above zero and finite: its bits, where a guess shows itself right, and else 0. So
+// whatever is guessed, what is returned is what taking apart and rounding would return.
+fn quick_root(b: u64) -> u64
+    requires { ⌜ (0 < b) × (b < 0x7ff0_0000_0000_0000) ⌝ }
+    ensures { λ r. ⌜ (0 < r → Found b r) ⌝ }
+{
+    let x = digits_of(b);
+    let m = x.m;
+    let p = x.p;
+    let odd = p % 2;
+    let n = m * (1 + odd);
+    let s = first_digits(m, odd);
+    let d = nearest(n, s);
+    if d == 0 {
+        return 0;
+    }
+    let exponent = (p - 54) / 2;
+    (exponent + 1) * 0x10_0000_0000_0000 + d
+}
+
+// The whole number nearest to the root of n * 2^52, if s is its first 32 digits or a little less, else 0. The division gives the other 21
+// digits, to the nearest; where the square of these could turn the rounding, the answer is 0 (one time in a thousand).
+fn nearest(n: u64, s: u64) -> u64
+    requires { ⌜ (2 ^ 52 ≤ n) × (n < 2 ^ 54) × (s < 2 ^ 32) ⌝ }
+    ensures { λ r. ⌜ (0 < r → ToNearest n r) ⌝ }
+{
+    let whole = n * 0x400;
+    let square = s * s;
+    if whole < square {
+        return 0;
+    }
+    let left = whole - square;
+    if left >= 0x3_0000_0000 {
+        return 0;
+    }
+    let v = left * 0x20_0000 + s;
+    let d = s * 2;
+    let q = v / d;
+    let u = v % d;
+    if u <= q * 4 {
+        return 0;
+    }
+    s * 0x20_0000 + q
+}
+
+// The first 32 digits of the root of m, or of 2 * m, or a little less: a polynomial of degree 4, and one step of Newton's in f64. How good
+// they are matters to the speed alone.
+fn first_digits(m: u64, odd: u64) -> u64
+    requires { ⌜ m < 2 ^ 53 ⌝ }
+    ensures { λ r. ⌜ r < 2 ^ 32 ⌝ }
+{
+    // m / 2^52, between 1 and 2
+    let x = f64::from_bits(m + 0x3fe0_0000_0000_0000);
+    let xx = x * x;
+    let y = 0.32395383 + 0.91971188 * x + xx * (0.088572551 * x - 0.32149351 - 0.010736388 * xx);
+    // a half, or a half of the root of 2, and a little less
+    let half = if odd == 0 {
+        0.49999999995
+    } else {
+        0.70710678111
+    };
+    let guess = half * (y + x / y);
+    if guess != guess {
+        return 0;
+    }
+    f64::to_bits(guess) / 0x20_0000 % 0x1_0000_0000
 }
