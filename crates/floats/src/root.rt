@@ -53,7 +53,9 @@ pub fn sqrt(x: f64) -> f64
         return x;
     }
     let b = f64::to_bits(x);
-    if b == 0 || b >= 0x7ff0_0000_0000_0000 {
+    // the sign and the exponent's field
+    let e = b / 0x10_0000_0000_0000;
+    if b == 0 || e >= 2047 {
         // +0, -0 and +infinity are their own roots, and what is below zero has none
         if b == 0 || b == 0x8000_0000_0000_0000 || b == 0x7ff0_0000_0000_0000 {
             return x;
@@ -179,9 +181,12 @@ fn quick_root(b: u64) -> u64
     requires { ⌜ (0 < b) × (b < 0x7ff0_0000_0000_0000) ⌝ }
     ensures { λ r. ⌜ (0 < r → Found b r) ⌝ }
 {
-    let x = digits_of(b);
-    let m = x.m;
-    let p = x.p;
+    let e = b / 0x10_0000_0000_0000;
+    if e == 0 {
+        return 0;
+    }
+    let m = b % 0x10_0000_0000_0000 + 0x10_0000_0000_0000;
+    let p = e + 1073;
     let odd = p % 2;
     let n = m * (1 + odd);
     let s = first_digits(m, odd);
@@ -193,10 +198,10 @@ fn quick_root(b: u64) -> u64
     (exponent + 1) * 0x10_0000_0000_0000 + d
 }
 
-// The whole number nearest to the root of n * 2^52, if s is its first 32 digits or a little less, else 0. The division gives the other 21
-// digits, to the nearest; where the square of these could turn the rounding, the answer is 0 (one time in a thousand).
+// The whole number nearest to the root of n * 2^52, if s is its first 32 digits or one less, else 0. One division gives the other 21 digits,
+// to the nearest. Their square could turn the rounding only where the remainder is small: there the answer is 0, about once in 1,000.
 fn nearest(n: u64, s: u64) -> u64
-    requires { ⌜ (2 ^ 52 ≤ n) × (n < 2 ^ 54) × (s < 2 ^ 32) ⌝ }
+    requires { ⌜ (2 ^ 52 ≤ n) × (n < 2 ^ 54) × (2 ^ 31 ≤ s) × (s < 2 ^ 32) ⌝ }
     ensures { λ r. ⌜ (0 < r → ToNearest n r) ⌝ }
 {
     let whole = n * 0x400;
@@ -205,38 +210,36 @@ fn nearest(n: u64, s: u64) -> u64
         return 0;
     }
     let left = whole - square;
-    if left >= 0x3_0000_0000 {
+    if left >= s * 4 {
         return 0;
     }
     let v = left * 0x20_0000 + s;
     let d = s * 2;
     let q = v / d;
     let u = v % d;
-    if u <= q * 4 {
+    if u < 0x80_0000 {
         return 0;
     }
     s * 0x20_0000 + q
 }
 
-// The first 32 digits of the root of m, or of 2 * m, or a little less: a polynomial of degree 4, and one step of Newton's in f64. How good
-// they are matters to the speed alone.
+// The first 32 digits of the root of m or of 2 * m, or one less, in f64: a polynomial of degree 4 and one step of Newton's. How good they
+// are matters to the speed alone.
 fn first_digits(m: u64, odd: u64) -> u64
     requires { ⌜ m < 2 ^ 53 ⌝ }
-    ensures { λ r. ⌜ r < 2 ^ 32 ⌝ }
+    ensures { λ r. ⌜ (2 ^ 31 ≤ r) × (r < 2 ^ 32) ⌝ }
 {
-    // m / 2^52, between 1 and 2
+    // m / 2^52, from 1 to 2
     let x = f64::from_bits(m + 0x3fe0_0000_0000_0000);
     let xx = x * x;
     let y = 0.32395383 + 0.91971188 * x + xx * (0.088572551 * x - 0.32149351 - 0.010736388 * xx);
-    // a half, or a half of the root of 2, and a little less
+    // a half, or half the root of 2, and a little less
     let half = if odd == 0 {
         0.49999999995
     } else {
         0.70710678111
     };
-    let guess = half * (y + x / y);
-    if guess != guess {
-        return 0;
-    }
-    f64::to_bits(guess) / 0x20_0000 % 0x1_0000_0000
+    let root = half * (y + x / y);
+    let near = if root > 1.0 { root } else { 1.0 };
+    f64::to_bits(near) / 0x20_0000 % 0x8000_0000 + 0x8000_0000
 }

@@ -1,6 +1,6 @@
--- The quick way. A number s whose square is a little below n * 2 ^ 10, and the quotient q of what is left by 2 * s, to the nearest, make d = s * 2 ^ 21 + q, the whole number nearest to the
--- root of n * 2 ^ 52 (`to-nearest`): n * 2 ^ 52 is d * d - q * q + (u - s) * 2 ^ 21, where u is the remainder. And what is nearest is what taking apart and rounding give (`found`): the
--- whole root of 54 digits is 2 * d, or 2 * d - 1 with a rest. Assumes nothing.
+-- The quick way. Where s * s is a little below n * 2 ^ 10, and q is the quotient of what is left by 2 * s, to the nearest, d = s * 2 ^ 21 + q is the whole number nearest to the root of
+-- n * 2 ^ 52 (`to-nearest`): with the remainder u, n * 2 ^ 52 is d * d - q * q + (u - s) * 2 ^ 21, and u is from 0 to 2 * s, q * q small. And the nearest whole number is what taking apart
+-- and rounding give (`found`): the whole root of 54 digits is 2 * d, or it is 2 * d - 1 and there is a rest. Assumes nothing.
 use mathlib.Core.Path.{_≡_, ap, _∙_, subst}
 use Prim.Native.Nat.{ℕ, zero, suc, _+_, _-_, _*_, _/_, _%_, _^_, _≤_, _<_}
 use native.Mathlib.Decide.{decLe}
@@ -9,43 +9,35 @@ use native.Mathlib.Omega.{arith}
 use lib.Ieee.{binary64, ofBits}
 use Rattle.floats.specs.Root.{Apart, rounded, parted}
 use Rattle.floats.specs.inner.RootSteps.{Normal, Splits, Taken, ToNearest, Found}
-use Rattle.floats.proofs.root.Squares.{square-add, square-suc, square-mul, less-of-squares, at-most}
+use Rattle.floats.proofs.root.Squares.{square-add, square-suc, square-mul, at-most}
 use Rattle.floats.proofs.root.Assembled.{scaled, taken, Keeps, keeps-even, keeps-more, rounded-bits}
 
--- ---- the first digits, and the division
+-- ---- the division, and the nearest whole number
 
--- s is the first digits, or a little less; q and u are the quotient and the remainder
 pub record Quotient (n s left q u : ℕ) : Type 0 where
-  pub lead : 2 ^ 30 ≤ s
   pub sum : s * s + left ≡ n * 2 ^ 10
   pub split : q * (s * 2) + u ≡ left * 2 ^ 21 + s
   pub less : u < s * 2
-  pub few : q ≤ 2 ^ 23
+  pub few : q ≤ 2 ^ 22
 
-lead-of : (n s left : ℕ) → 2 ^ 52 ≤ n → s * s + left ≡ n * 2 ^ 10 → left < 3 * 2 ^ 32 → 2 ^ 31 - 4 < s
-lead-of n s left lo e h = less-of-squares (2 ^ 31 - 4) s (omega arith)
-
-pub quotient : (n s left : ℕ) → 2 ^ 52 ≤ n → s * s + left ≡ n * 2 ^ 10 → left < 3 * 2 ^ 32
+pub quotient : (n s left : ℕ) → 2 ^ 31 ≤ s → s * s + left ≡ n * 2 ^ 10 → left < s * 4
     → Quotient n s left ((left * 2 ^ 21 + s) / (s * 2)) ((left * 2 ^ 21 + s) % (s * 2))
 quotient n s left lo e h =
     let v = left * 2 ^ 21 + s in
     let d = s * 2 in
-    let l : 2 ^ 31 - 4 < s = lead-of n s left lo e h in
     let D : 0 < d = omega arith in
-    let f : v < (2 ^ 23 + 1) * d = omega arith in
-    record { lead = omega arith; sum = e; split = div-add-mod' v d; less = mod-lt v D; few = at-most (v / d) (2 ^ 23) (div-lt-iff-lt-mul D .1 f) }
+    let f : v < (2 ^ 22 + 1) * d = omega arith in
+    record { sum = e; split = div-add-mod' v d; less = mod-lt v D; few = at-most (v / d) (2 ^ 22) (div-lt-iff-lt-mul D .1 f) }
 
--- ---- the nearest whole number
-
-pub to-nearest : (n s left q u : ℕ) → Quotient n s left q u → q * 4 < u → ToNearest n (s * 2 ^ 21 + q)
+pub to-nearest : (n s left q u : ℕ) → Quotient n s left q u → 2 ^ 23 ≤ u → ToNearest n (s * 2 ^ 21 + q)
 to-nearest n s left q u k h =
     let S = s * 2 ^ 21 in
     let e : (S + q) * (S + q) ≡ S * S + 2 * (S * q) + q * q = square-add S q in
     let f : S * S ≡ s * s * 2 ^ 42 = square-mul s (2 ^ 21) in
     let g : S * q ≡ 2 ^ 21 * (s * q) = ap (λ (x : ℕ). x * q) (mul-comm s (2 ^ 21)) ∙ mul-assoc (2 ^ 21) s q in
     let i : q * (s * 2) ≡ 2 * (s * q) = ap (λ (x : ℕ). q * x) (mul-comm s 2) ∙ mul-left-comm q 2 s ∙ ap (λ (x : ℕ). 2 * x) (mul-comm q s) in
-    let j : q * q ≤ q * 2 ^ 23 = mul-le-mul-left q (k .few) in
-    record { above = omega (arith, k .sum, k .split); below = omega (arith, k .sum, k .split, k .less) }
+    let j : q * q ≤ q * 2 ^ 22 = mul-le-mul-left q (k .few) in
+    record { above = omega (arith, k .sum, k .split, k .few); below = omega (arith, k .sum, k .split, k .less) }
 
 -- ---- it is what rounding gives
 

@@ -9,7 +9,7 @@ use Rattle.floats.proofs.root.nearest.Statement.{statement}
 use Rattle.floats.proofs.root.nearest.Tie as tie
 
 mul-square : tie.Need-mul-square
-mul-square c = omega (arith, square-mono (c .args .s) (2 ^ 32 - 1) (small (c .args .s) (c .pre .2)))
+mul-square c = omega (arith, square-mono (c .args .s) (2 ^ 32 - 1) (small (c .args .s) (c .pre .3)))
   where
     small : (s : ℕ) → s < 2 ^ 32 → s ≤ 2 ^ 32 - 1
     small s h = omega arith
@@ -25,19 +25,16 @@ facts c =
     let e = c .before .before in
     let n = e .args .n in
     let s = e .args .s in
-    quotient n s (left-of n s) (e .pre .0) (whole n s (c .before .if1 .left)) (c .if2 .left)
+    quotient n s (left-of n s) (e .pre .2) (whole n s (c .before .if1 .left)) (c .if2 .left)
   where
     whole : (n s : ℕ) → s * s ≤ n * 2 ^ 10 → s * s + left-of n s ≡ n * 2 ^ 10
     whole n s h = omega arith
 
 div-q : tie.Need-div-q
-div-q c = omega (arith, facts c .lead)
+div-q c = omega arith
 
 rem-u : tie.Need-rem-u
-rem-u c = omega (arith, facts c .lead)
-
-mul-if3 : tie.Need-mul-if3
-mul-if3 c = omega (arith, facts c .few)
+rem-u c = omega arith
 
 add-result : tie.Need-add-result
 add-result c = omega (arith, facts (c .before) .few)
@@ -54,4 +51,4 @@ nearest-spec =
     tie.close
     (tie.spec
     (λ c. search needs) mul-square (λ c. search needs) (λ c. search needs) (λ c. search needs) (λ c. search needs) (λ c. search needs)
-    div-q rem-u mul-if3 (λ c. search needs) (λ c. search needs) add-result returns-4)
+    (λ c. search needs) div-q rem-u (λ c. search needs) (λ c. search needs) add-result returns-4)

@@ -1,6 +1,6 @@
 -- `root::sqrt` meets its contract. Assumes nothing.
 use mathlib.Core.Path.{_≡_, sym, ap, _∙_, subst}
-use Prim.Native.Nat.{ℕ, _<_, _≤_}
+use Prim.Native.Nat.{ℕ, _/_, _<_, _≤_}
 use mathlib.Core.Logic.{⊎-elim}
 use native.Mathlib.Omega.{arith}
 use lib.Dec.{T}
@@ -27,10 +27,13 @@ float-to-bits-b c = no-nan (c .before .args .x) (c .if1 .left)
 range : (c : tie.Else3) → (0 < toBits binary64 (c .before .before .before .args .x)) × (toBits binary64 (c .before .before .before .args .x) < 0x7ff0_0000_0000_0000)
 range c =
     let b = toBits binary64 (c .before .before .before .args .x) in
-    (above b (c .before .if2 .left), leb-false 0x7ff0_0000_0000_0000 b (c .if3 .left))
+    (above b (c .before .if2 .left), under b (leb-false 2047 (b / 0x10_0000_0000_0000) (c .if3 .left)))
   where
     above : (b : ℕ) → (b ≡ 0 → ⊥) → 0 < b
     above b h = omega arith
+
+    under : (b : ℕ) → b / 0x10_0000_0000_0000 < 2047 → b < 0x7ff0_0000_0000_0000
+    under b h = omega arith
 
 returns-2 : tie.Need-returns-2
 returns-2 c =
@@ -48,10 +51,13 @@ returns-3 c =
     let s = outer .before .before in
     let x = s .args .x in
     let b = toBits binary64 x in
-    let above : 0x7ff0_0000_0000_0000 ≤ b = ⊎-elim (λ w. absurd (c .before .before .if4 .left (w .taken))) (λ w. leb-true 0x7ff0_0000_0000_0000 b (w .1 .taken)) (outer .if2 .came) in
+    let above : 0x7ff0_0000_0000_0000 ≤ b = ⊎-elim (λ w. absurd (c .before .before .if4 .left (w .taken))) (λ w. over b (leb-true 2047 (b / 0x10_0000_0000_0000) (w .1 .taken))) (outer .if2 .came) in
     quotient-nan ∙ root-below x (held s)
     (pattern-below x (held s) (no-nan x (outer .before .if1 .left)) above
     (eqb-false b 0x8000_0000_0000_0000 (c .before .if5 .left)) (eqb-false b 0x7ff0_0000_0000_0000 (c .if6 .left)))
+  where
+    over : (b : ℕ) → 2047 ≤ b / 0x10_0000_0000_0000 → 0x7ff0_0000_0000_0000 ≤ b
+    over b h = omega arith
 
 quick-root-requires : tie.Need-quick-root-requires
 quick-root-requires c κs = range c
