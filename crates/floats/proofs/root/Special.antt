@@ -49,18 +49,6 @@ is-nan (fin s m e) h = absurd h
 pub no-nan : (x : Float) → ne x x ≡ false → T (not (isNan x))
 no-nan x h = not-T (isNan x) (λ (t : T (isNan x)). subst T (sym (subst (λ (y : Float). ne y y ≡ true) (sym (is-nan x t)) nan-differs) ∙ h) tt)
 
-pub above-no-nan : (a x : Float) → lt a x ≡ true → T (not (isNan x))
-unfolding lt isNan
-above-no-nan nan nan h = absurd (subst T (sym h) tt)
-above-no-nan (inf s) nan h = absurd (subst T (sym h) tt)
-above-no-nan (fin s m e) nan h = absurd (subst T (sym h) tt)
-above-no-nan nan (inf t) h = tt
-above-no-nan (inf s) (inf t) h = tt
-above-no-nan (fin s m e) (inf t) h = tt
-above-no-nan nan (fin t n d) h = tt
-above-no-nan (inf s) (fin t n d) h = tt
-above-no-nan (fin s m e) (fin t n d) h = tt
-
 -- ---- the zeros and +infinity
 
 own-root : (x : Float) (b : ℕ) → T (fits binary64 x) → toBits binary64 x ≡ b → ofBits binary64 b ≡ root binary64 (ofBits binary64 b) → x ≡ root binary64 x

@@ -48,6 +48,13 @@ pub record Taken (b h s r : ℕ) : Type 0 where
   pub full : s < 2 ^ 54
   pub reach : h ≤ 1532
 
+-- a number, and 32 digits that may be the first of its root
+pub record NearestGiven (n s : ℕ) : Type 0 where
+  pub lead : 2 ^ 52 ≤ n
+  pub full : n < 2 ^ 54
+  pub high : 2 ^ 31 ≤ s
+  pub near : s < 2 ^ 32
+
 -- d is the whole number nearest to the root of n * 2 ^ 52: the squares of d - 1/2 and d + 1/2 are d * d - d and d * d + d, and a quarter
 pub record ToNearest (n d : ℕ) : Type 0 where
   pub above : d * d < n * 2 ^ 52 + d

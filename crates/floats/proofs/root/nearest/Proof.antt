@@ -9,7 +9,7 @@ use Rattle.floats.proofs.root.nearest.Statement.{statement}
 use Rattle.floats.proofs.root.nearest.Tie as tie
 
 mul-square : tie.Need-mul-square
-mul-square c = omega (arith, square-mono (c .args .s) (2 ^ 32 - 1) (small (c .args .s) (c .pre .3)))
+mul-square c = omega (arith, square-mono (c .args .s) (2 ^ 32 - 1) (small (c .args .s) (c .pre .near)))
   where
     small : (s : ℕ) → s < 2 ^ 32 → s ≤ 2 ^ 32 - 1
     small s h = omega arith
@@ -25,7 +25,7 @@ facts c =
     let e = c .before .before in
     let n = e .args .n in
     let s = e .args .s in
-    quotient n s (left-of n s) (e .pre .2) (whole n s (c .before .if1 .left)) (c .if2 .left)
+    quotient n s (left-of n s) (e .pre .high) (whole n s (c .before .if1 .left)) (c .if2 .left)
   where
     whole : (n s : ℕ) → s * s ≤ n * 2 ^ 10 → s * s + left-of n s ≡ n * 2 ^ 10
     whole n s h = omega arith

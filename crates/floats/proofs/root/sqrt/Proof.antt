@@ -6,7 +6,7 @@ use native.Mathlib.Omega.{arith}
 use lib.Dec.{T}
 use lib.Ieee.{Float, binary64, fits, toBits, ofBits}
 use lib.Ieee.Bits.{ofBits-toBits}
-use borrow.Author.Tests.{eqb-true, eqb-false, leb-true, leb-false}
+use borrow.Author.Tests.{eqb-true, eqb-false}
 use Rattle.floats.specs.Root.{Apart, apart, rounded, root}
 use Rattle.floats.proofs.root.Special.{root-nan, no-nan, root-zero, root-minus-zero, root-infinity, root-below, quotient-nan, pattern-below, no-nan-bits}
 use Rattle.floats.proofs.root.Correct.{root-above}
@@ -23,11 +23,35 @@ returns c = root-nan (c .before .args .x) (c .if1 .taken)
 float-to-bits-b : tie.Need-float-to-bits-b
 float-to-bits-b c = no-nan (c .before .args .x) (c .if1 .left)
 
+returns-2 : tie.Need-returns-2
+returns-2 c =
+    let s = c .before .before .before in
+    let x = s .args .x in
+    ⊎-elim (λ w. root-minus-zero x (held s) (w .taken)) (λ w. root-infinity x (held s) (eqb-true (toBits binary64 x) 0x7ff0_0000_0000_0000 (w .1 .taken))) (c .if3 .came)
+
+returns-3 : tie.Need-returns-3
+returns-3 c =
+    let high = c .before .before in
+    let s = high .before .before in
+    let x = s .args .x in
+    let b = toBits binary64 x in
+    quotient-nan ∙ root-below x (held s)
+    (pattern-below x (held s) (no-nan x (high .before .if1 .left)) (over b (high .if2 .taken))
+    (c .before .if3 .left) (eqb-false b 0x7ff0_0000_0000_0000 (c .if4 .left)))
+  where
+    over : (b : ℕ) → 2047 ≤ b / 0x10_0000_0000_0000 → 0x7ff0_0000_0000_0000 ≤ b
+    over b h = omega arith
+
+returns-4 : tie.Need-returns-4
+returns-4 c =
+    let s = c .before .before .before in
+    root-zero (s .args .x) (held s) (c .if5 .taken)
+
 -- the operand is above zero and finite
-range : (c : tie.Else3) → (0 < toBits binary64 (c .before .before .before .args .x)) × (toBits binary64 (c .before .before .before .args .x) < 0x7ff0_0000_0000_0000)
+range : (c : tie.Else5) → (0 < toBits binary64 (c .before .before .before .args .x)) × (toBits binary64 (c .before .before .before .args .x) < 0x7ff0_0000_0000_0000)
 range c =
     let b = toBits binary64 (c .before .before .before .args .x) in
-    (above b (c .before .if2 .left), under b (leb-false 2047 (b / 0x10_0000_0000_0000) (c .if3 .left)))
+    (above b (c .if5 .left), under b (c .before .if2 .left))
   where
     above : (b : ℕ) → (b ≡ 0 → ⊥) → 0 < b
     above b h = omega arith
@@ -35,35 +59,12 @@ range c =
     under : (b : ℕ) → b / 0x10_0000_0000_0000 < 2047 → b < 0x7ff0_0000_0000_0000
     under b h = omega arith
 
-returns-2 : tie.Need-returns-2
-returns-2 c =
-    let s = c .before .before .before in
-    let x = s .args .x in
-    let b = toBits binary64 x in
-    ⊎-elim
-    (λ w. root-zero x (held s) (w .taken))
-    (⊎-elim (λ w. root-minus-zero x (held s) (eqb-true b 0x8000_0000_0000_0000 (w .1 .taken))) (λ w. root-infinity x (held s) (eqb-true b 0x7ff0_0000_0000_0000 (w .2 .taken))))
-    (c .if4 .came)
-
-returns-3 : tie.Need-returns-3
-returns-3 c =
-    let outer = c .before .before .before in
-    let s = outer .before .before in
-    let x = s .args .x in
-    let b = toBits binary64 x in
-    let above : 0x7ff0_0000_0000_0000 ≤ b = ⊎-elim (λ w. absurd (c .before .before .if4 .left (w .taken))) (λ w. over b (leb-true 2047 (b / 0x10_0000_0000_0000) (w .1 .taken))) (outer .if2 .came) in
-    quotient-nan ∙ root-below x (held s)
-    (pattern-below x (held s) (no-nan x (outer .before .if1 .left)) above
-    (eqb-false b 0x8000_0000_0000_0000 (c .before .if5 .left)) (eqb-false b 0x7ff0_0000_0000_0000 (c .if6 .left)))
-  where
-    over : (b : ℕ) → 2047 ≤ b / 0x10_0000_0000_0000 → 0x7ff0_0000_0000_0000 ≤ b
-    over b h = omega arith
-
 quick-root-requires : tie.Need-quick-root-requires
 quick-root-requires c κs = range c
 
 -- rounding the exact root taken apart gives the root
-root-is : (c : tie.Else3) (r : Float) → r ≡ rounded binary64 (apart binary64 (ofBits binary64 (toBits binary64 (c .before .before .before .args .x)))) → r ≡ root binary64 (c .before .before .before .args .x)
+root-is : (c : tie.Else5) (r : Float) → r ≡ rounded binary64 (apart binary64 (ofBits binary64 (toBits binary64 (c .before .before .before .args .x))))
+    → r ≡ root binary64 (c .before .before .before .args .x)
 root-is c r e =
     let s = c .before .before .before in
     let x = s .args .x in
@@ -71,10 +72,10 @@ root-is c r e =
     e ∙ root-above binary64 (ofBits binary64 (toBits binary64 x)) (p .held) (p .above) ∙ ap (λ (y : Float). root binary64 y) (ofBits-toBits binary64 x (held s))
 
 float-from-bits-result : tie.Need-float-from-bits-result
-float-from-bits-result c = no-nan-bits _ (c .before .quick-root .ensures (c .if7 .taken) .finite)
+float-from-bits-result c = no-nan-bits _ (c .before .quick-root .ensures (c .if6 .taken) .finite)
 
-returns-4 : tie.Need-returns-4
-returns-4 c = root-is (c .before .before) _ (c .before .quick-root .ensures (c .if7 .taken) .is)
+returns-5 : tie.Need-returns-5
+returns-5 c = root-is (c .before .before) _ (c .before .quick-root .ensures (c .if6 .taken) .is)
 
 take-apart-requires : tie.Need-take-apart-requires
 take-apart-requires c κs = range (c .before .before)
@@ -84,8 +85,8 @@ rounded-requires c κs =
     let t = c .take-apart .ensures in
     record { lead = t .lead; full = t .full; reach = omega (arith, t .reach) }
 
-returns-5 : tie.Need-returns-5
-returns-5 c =
+returns-6 : tie.Need-returns-6
+returns-6 c =
     let a = c .before in
     root-is (a .before .before .before) _ (c .rounded .ensures ∙ ap (λ (y : Apart). rounded binary64 y) (a .take-apart .ensures .is))
 
@@ -93,5 +94,5 @@ pub sqrt-spec : {M : Type 1} → statement M
 sqrt-spec =
     tie.close
     (tie.spec
-    returns float-to-bits-b returns-2 returns-3 quick-root-requires float-from-bits-result returns-4 take-apart-requires rounded-requires
-    returns-5)
+    returns float-to-bits-b returns-2 returns-3 returns-4 quick-root-requires float-from-bits-result returns-5 take-apart-requires
+    rounded-requires returns-6)
