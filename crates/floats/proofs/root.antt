@@ -14,3 +14,4 @@ pub mod Special
 pub mod Newton
 pub mod Karatsuba
 pub mod Assembled
+pub mod Quick

@@ -156,12 +156,11 @@ told-below x h = refused-told x (below-is x h)
 pub told-value : (x : Float) → ne x x ≡ false → lt x (ofBits binary64 0) ≡ false → root-of (Value (root binary64 x)) ≡ root-answer x
 told-value x n h = value-told x (not-below x n h)
 
--- ---- the patterns that are left are those of finite values above zero, and no such pattern is a NaN's
+-- ---- from +infinity's pattern up there are -0 and what is below zero, and no NaN has a pattern below it
 
-pub pattern-range : (x : Float) → T (fits binary64 x) → T (not (isNan x)) → toBits binary64 x ≤ 0x8000_0000_0000_0000 → (toBits binary64 x ≡ 0 → ⊥)
-    → (toBits binary64 x ≡ 0x8000_0000_0000_0000 → ⊥) → (toBits binary64 x ≡ 0x7ff0_0000_0000_0000 → ⊥)
-    → (0 < toBits binary64 x) × (toBits binary64 x < 0x7ff0_0000_0000_0000)
-pattern-range x h n u a b c =
+pub pattern-below : (x : Float) → T (fits binary64 x) → T (not (isNan x)) → 0x7ff0_0000_0000_0000 ≤ toBits binary64 x
+    → (toBits binary64 x ≡ 0x8000_0000_0000_0000 → ⊥) → (toBits binary64 x ≡ 0x7ff0_0000_0000_0000 → ⊥) → 0x8000_0000_0000_0000 < toBits binary64 x
+pattern-below x h n u b c =
     let p = toBits binary64 x in
     let e : ltb 0x7ff0_0000_0000_0000 (p % 0x8000_0000_0000_0000) ≡ isNan x = sym (nanBits-above binary64 p) ∙ nanBits-is binary64 p ∙ ap isNan (ofBits-toBits binary64 x h) in
     let l : p % 0x8000_0000_0000_0000 ≤ 0x7ff0_0000_0000_0000 = nltb→le 0x7ff0_0000_0000_0000 (p % 0x8000_0000_0000_0000) (subst (λ (t : Bool). T (not t)) (sym e) n) in

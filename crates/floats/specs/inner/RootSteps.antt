@@ -2,7 +2,7 @@
 use mathlib.Core.Path.{_≡_}
 use Prim.Native.Nat.{ℕ, _+_, _*_, _^_, _≤_, _<_}
 use lib.Ieee.{binary64, ofBits}
-use Rattle.floats.specs.Root.{radicand, apart, parted}
+use Rattle.floats.specs.Root.{radicand, apart, rounded, parted}
 
 -- s is the whole part of the root of n
 pub record Whole (n s : ℕ) : Type 0 where
@@ -47,3 +47,20 @@ pub record Taken (b h s r : ℕ) : Type 0 where
   pub lead : 2 ^ 53 ≤ s
   pub full : s < 2 ^ 54
   pub reach : h ≤ 1532
+
+-- a number, and 32 digits that may be the first of its root
+pub record NearestGiven (n s : ℕ) : Type 0 where
+  pub lead : 2 ^ 52 ≤ n
+  pub full : n < 2 ^ 54
+  pub high : 2 ^ 31 ≤ s
+  pub near : s < 2 ^ 32
+
+-- d is the whole number nearest to the root of n * 2 ^ 52: the squares of d - 1/2 and d + 1/2 are d * d - d and d * d + d, and a quarter
+pub record ToNearest (n d : ℕ) : Type 0 where
+  pub above : d * d < n * 2 ^ 52 + d
+  pub below : n * 2 ^ 52 ≤ d * d + d
+
+-- r are the bits of the rounded root of the float with the bits b
+pub record Found (b r : ℕ) : Type 0 where
+  pub finite : r < 0x7ff0_0000_0000_0000
+  pub is : ofBits binary64 r ≡ rounded binary64 (apart binary64 (ofBits binary64 b))
