@@ -7,6 +7,5 @@ pub mod Integers
 pub mod Transfer
 pub mod Unrounded
 pub mod Edges
-pub mod Sums
 pub mod Bound
 pub mod Cases

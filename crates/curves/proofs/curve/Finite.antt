@@ -10,69 +10,16 @@ use native.Mathlib.Omega.{arith}
 use borrow.Author.Tests.{le-ltb}
 use lib.ListN.{length, getD, drop}
 use lib.Dec.{T, ltb}
-use lib.Ieee.{Float, nan, inf, fin, Format, binary64, add, sub, mul, neg}
+use lib.Ieee.{Float, nan, binary64, add, sub, mul}
 use lib.Ieee.Fits.{and-l}
 use Rattle.base.specs.Refusal.{passed, refused, then-test, refuse-if}
 use Rattle.base.proofs.BoolLaws.{T-true, true-T}
-use Rattle.floats.specs.Root.{root}
-use Rattle.floats.specs.Scalar.{nought, is-finite, is-positive}
+use Rattle.floats.specs.Scalar.{is-finite, is-positive}
 use Rattle.curves.specs.Curve.{point-count, point-at, distance, length-to, total-length, all-finite, total-test, curve-test}
 use Rattle.curves.specs.inner.Segments.{SoundLength}
 use Rattle.curves.specs.declared.point.Point.{Point}
+use Rattle.floats.proofs.scalar.Finite.{sum-first, sum-second, difference-first, difference-second, square-finite, root-finite}
 use Rattle.curves.proofs.curve.Laws.{finite-next, finite-end, measured}
-
--- ---- one operation
-
-pub sum-first : (f : Format) (x d : Float) → T (is-finite (add f x d)) → T (is-finite x)
-unfolding add is-finite
-sum-first f nan d t = t
-sum-first f (inf s) nan t = t
-sum-first f (inf true) (inf true) t = t
-sum-first f (inf true) (inf false) t = t
-sum-first f (inf false) (inf true) t = t
-sum-first f (inf false) (inf false) t = t
-sum-first f (inf s) (fin z n k) t = t
-sum-first f (fin s m e) d t = tt
-
-sum-second : (f : Format) (x d : Float) → T (is-finite (add f x d)) → T (is-finite d)
-unfolding add is-finite
-sum-second f nan d t = absurd t
-sum-second f (inf s) nan t = t
-sum-second f (inf true) (inf true) t = t
-sum-second f (inf true) (inf false) t = t
-sum-second f (inf false) (inf true) t = t
-sum-second f (inf false) (inf false) t = t
-sum-second f (inf s) (fin z n k) t = tt
-sum-second f (fin s m e) nan t = t
-sum-second f (fin s m e) (inf z) t = t
-sum-second f (fin s m e) (fin z n k) t = tt
-
-neg-finite : (x : Float) → T (is-finite (neg x)) → T (is-finite x)
-unfolding neg is-finite
-neg-finite nan t = t
-neg-finite (inf s) t = t
-neg-finite (fin s m e) t = tt
-
-difference-first : (f : Format) (x y : Float) → T (is-finite (sub f x y)) → T (is-finite x)
-unfolding sub
-difference-first f x y t = sum-first f x (neg y) t
-
-difference-second : (f : Format) (x y : Float) → T (is-finite (sub f x y)) → T (is-finite y)
-unfolding sub
-difference-second f x y t = neg-finite y (sum-second f x (neg y) t)
-
-square-finite : (f : Format) (x : Float) → T (is-finite (mul f x x)) → T (is-finite x)
-unfolding mul is-finite
-square-finite f nan t = t
-square-finite f (inf s) t = t
-square-finite f (fin s m e) t = tt
-
-root-finite : (f : Format) (x : Float) → T (is-finite (root f x)) → T (is-finite x)
-unfolding root is-finite
-root-finite f nan t = t
-root-finite f (inf true) t = t
-root-finite f (inf false) t = t
-root-finite f (fin s m e) t = tt
 
 -- ---- a distance
 

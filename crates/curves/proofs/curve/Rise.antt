@@ -24,7 +24,8 @@ use Rattle.curves.specs.inner.Segments.{Rising, Sampled}
 use Rattle.curves.specs.declared.point.Point.{Point}
 use Rattle.floats.proofs.root.Amounts.{among-of}
 use Rattle.floats.proofs.scalar.Exact.{round-own}
-use Rattle.curves.proofs.curve.Finite.{sum-first, before}
+use Rattle.floats.proofs.scalar.Finite.{sum-first}
+use Rattle.curves.proofs.curve.Finite.{before}
 use Rattle.curves.proofs.curve.Laws.{knot-count-arc, length-in-arc}
 
 -- ---- a distance is not below zero

@@ -14,7 +14,7 @@ use Rattle.curves.specs.Boundary.{BoundaryCurves, curve-ends}
 use Rattle.curves.specs.Patch.{rounded, curves-of, coons-point, lerp2, combined}
 use Rattle.curves.specs.declared.point.Point.{Point}
 use Rattle.curves.proofs.formula.Unrounded.{Held}
-use Rattle.curves.proofs.formula.Sums.{unit, CombinedWithin, Within, sub-within, second-off, first-off}
+use Rattle.floats.proofs.scalar.Sums.{unit, CombinedWithin, Within, sub-within, second-off, first-off}
 use Rattle.curves.proofs.formula.Edges.{ColumnOrdinary, RowOrdinary, low-line, high-line, left-line, right-line, curve-held, line-held}
 use Rattle.curves.proofs.formula.Edges.{at-bottom, at-top, back-on-bottom, back-on-right, back-on-top, back-on-left}
 

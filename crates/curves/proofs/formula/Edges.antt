@@ -13,7 +13,8 @@ use Rattle.curves.specs.Patch.{rounded, curves-of, coons-point, lerp2, c
 use Rattle.curves.specs.declared.point.Point.{Point}
 use Rattle.curves.specs.declared.curve.Segment.{Segment}
 use Rattle.curves.proofs.patch.Laws.{in-steps}
-use Rattle.curves.proofs.formula.Unrounded.{Held, Ordinary, lerp2-nought, lerp2-one, rest-nought, rest-one}
+use Rattle.floats.proofs.scalar.Blends.{rest-nought, rest-one}
+use Rattle.curves.proofs.formula.Unrounded.{Held, Ordinary, lerp2-nought, lerp2-one}
 
 -- ---- what binary64 holds: the sums that curves and blends end in
 
