@@ -9,7 +9,7 @@ ghost use Rattle.curves.specs.Coons.{outcome-of, grid-stage, patch, seam
 ghost use Rattle.curves.specs.Coons.{even-seams, coons-from-parameters, coons-seamed, coons-curves, coons-quads, coons-nodes};
 ghost use Rattle.curves.specs.inner.Curves.{lent, curves-in, ShortCurves};
 ghost use Rattle.curves.specs.inner.Grids.{lent-seams, AnyGrid, SmallGrid, Gridded, StageGiven, TileGiven, TileShort, EvenRoom, FewCells};
-ghost use Rattle.curves.specs.inner.Small.{small-curve};
+ghost use Rattle.curves.specs.inner.Small.{tiny-curve, tiny-seam, small-curve, small-seam};
 use crate::boundary::BoundaryAnswer;
 use crate::boundary::Patch;
 use crate::boundary::checked_curves;
@@ -26,6 +26,11 @@ use crate::limits::SMALL_CURVE;
 use crate::limits::SMALL_KNOTS;
 use crate::limits::SMALL_ROWS;
 use crate::limits::SMALL_SEAM;
+use crate::limits::TINY_COLUMNS;
+use crate::limits::TINY_CURVE;
+use crate::limits::TINY_KNOTS;
+use crate::limits::TINY_ROWS;
+use crate::limits::TINY_SEAM;
 use crate::rows::Layout;
 use crate::rows::needed;
 use crate::seam::check_seams;
@@ -161,7 +166,41 @@ fn check_even_limits(
     check_cell_limits(n_u, n_v)
 }
 
-// The grid of a small tile: most are, and to clear room for the largest ones would take longer than their grid.
+// A grid with few columns. Most are small, and to clear room for the largest ones would take longer than their grid.
+fn tiny_grid(
+    knots: &[f64],
+    patch: Patch,
+    bottom_u: &[f64],
+    top_u: &[f64],
+    left_v: &[f64],
+    right_v: &[f64],
+    layout: Layout,
+    out: &mut [f64],
+) -> Check
+    requires { let s = lent-seams «bottom_u» «top_u» «left_v» «right_v» in
+        ⌜ SmallGrid tiny-seam (now knots) patch s layout (now out) ⌝ }
+    ensures { λ r.
+        let c = curves-in (now (knots .entry)) (patch .starts) in
+        let s = lent-seams («bottom_u» .entry) («top_u» .entry) («left_v» .entry) («right_v» .entry) in
+        ⌜ Gridded layout (grid-of c s) (n-u s) (n-v s) (now (out .entry)) (now (out .exit)) (outcome r) ⌝ }
+{
+    let mut table = [0.0; TINY_COLUMNS];
+    let mut rows = [0.0; TINY_ROWS];
+    coons_grid(
+        knots,
+        patch,
+        bottom_u,
+        top_u,
+        left_v,
+        right_v,
+        layout,
+        &mut table,
+        &mut rows,
+        out,
+    )
+}
+
+// One with more.
 fn small_grid(
     knots: &[f64],
     patch: Patch,
@@ -173,7 +212,7 @@ fn small_grid(
     out: &mut [f64],
 ) -> Check
     requires { let s = lent-seams «bottom_u» «top_u» «left_v» «right_v» in
-        ⌜ SmallGrid (now knots) patch s layout (now out) ⌝ }
+        ⌜ SmallGrid small-seam (now knots) patch s layout (now out) ⌝ }
     ensures { λ r.
         let c = curves-in (now (knots .entry)) (patch .starts) in
         let s = lent-seams («bottom_u» .entry) («top_u» .entry) («left_v» .entry) («right_v» .entry) in
@@ -246,6 +285,9 @@ fn sized_grid(
         let s = lent-seams («bottom_u» .entry) («top_u» .entry) («left_v» .entry) («right_v» .entry) in
         ⌜ Gridded layout (grid-of c s) (n-u s) (n-v s) (now (out .entry)) (now (out .exit)) (outcome r) ⌝ }
 {
+    if bottom_u.len() <= TINY_SEAM {
+        return tiny_grid(knots, patch, bottom_u, top_u, left_v, right_v, layout, out);
+    }
     if bottom_u.len() <= SMALL_SEAM {
         return small_grid(knots, patch, bottom_u, top_u, left_v, right_v, layout, out);
     }
@@ -316,7 +358,43 @@ fn patch_in(
     }
 }
 
-// A patch of short curves, with room for their knots.
+// A patch of curves with few points, with room for their knots.
+fn tiny_patch(
+    bottom: &[f64],
+    right: &[f64],
+    top: &[f64],
+    left: &[f64],
+    bottom_u: &[f64],
+    top_u: &[f64],
+    left_v: &[f64],
+    right_v: &[f64],
+    layout: Layout,
+    out: &mut [f64],
+) -> GridAnswer
+    requires { ⌜ TileShort tiny-curve (lent bottom right top left) (lent-seams «bottom_u» «top_u» «left_v» «right_v») ⌝ }
+    ensures { λ r.
+        let s = lent-seams («bottom_u» .entry) («top_u» .entry) («left_v» .entry) («right_v» .entry) in
+        ⌜
+        outcome-of r (now (out .exit)) ≡ patch layout
+        (now (bottom .entry)) (now (right .entry)) (now (top .entry)) (now (left .entry)) s (now (out .entry)) ⌝ }
+{
+    let mut knots = [0.0; TINY_KNOTS];
+    patch_in(
+        bottom,
+        right,
+        top,
+        left,
+        bottom_u,
+        top_u,
+        left_v,
+        right_v,
+        layout,
+        &mut knots,
+        out,
+    )
+}
+
+// One of longer curves.
 fn small_patch(
     bottom: &[f64],
     right: &[f64],
@@ -352,7 +430,7 @@ fn small_patch(
     )
 }
 
-// A patch of any curves.
+// And of any.
 fn large_patch(
     bottom: &[f64],
     right: &[f64],
@@ -388,21 +466,22 @@ fn large_patch(
     )
 }
 
-fn has_short_curves(bottom: &[f64], right: &[f64], top: &[f64], left: &[f64]) -> bool
+// Whether no curve has more values than so many.
+fn has_short_curves(limit: usize, bottom: &[f64], right: &[f64], top: &[f64], left: &[f64]) -> bool
     ensures { λ r.
         let points = lent (bottom .entry) (right .entry) (top .entry) (left .entry) in
-        ⌜ (r ≡ true → ShortCurves small-curve points) ⌝ }
+        ⌜ (r ≡ true → ShortCurves limit points) ⌝ }
 {
-    if bottom.len() > SMALL_CURVE {
+    if bottom.len() > limit {
         return false;
     }
-    if right.len() > SMALL_CURVE {
+    if right.len() > limit {
         return false;
     }
-    if top.len() > SMALL_CURVE {
+    if top.len() > limit {
         return false;
     }
-    left.len() <= SMALL_CURVE
+    left.len() <= limit
 }
 
 // A grid from four seams, in either layout.
@@ -436,8 +515,23 @@ fn from_parameters(
     ) {
         return GridAnswer::Refused(cause);
     }
-    let short = has_short_curves(bottom, right, top, left);
-    if short {
+    let tiny = has_short_curves(TINY_CURVE, bottom, right, top, left);
+    if tiny {
+        return tiny_patch(
+            bottom,
+            right,
+            top,
+            left,
+            bottom_u,
+            top_u,
+            left_v,
+            right_v,
+            layout,
+            out,
+        );
+    }
+    let small = has_short_curves(SMALL_CURVE, bottom, right, top, left);
+    if small {
         return small_patch(
             bottom,
             right,

@@ -26,7 +26,20 @@ pub(crate) const MAX_COLUMNS: usize = COLUMN_SIZE * MAX_SEAM;
 
 pub(crate) const MAX_ROWS: usize = 2 * POINT_SIZE * MAX_SEAM;
 
-// Most tiles are small: curves of at most 64 points, and less than 64 cells. They get room of their own size, since room is cleared first.
+// Room is cleared before its use, which takes longer than a small grid if it is of the largest size. So there are two smaller sizes: curves of
+// at most 16 points and seams of at most 16 values, or 64.
+pub(crate) const TINY_POINTS: usize = 16;
+
+pub(crate) const TINY_CURVE: usize = 2 * TINY_POINTS;
+
+pub(crate) const TINY_SEAM: usize = 16;
+
+pub(crate) const TINY_KNOTS: usize = 4 * KNOT_SIZE * TINY_POINTS;
+
+pub(crate) const TINY_COLUMNS: usize = COLUMN_SIZE * TINY_SEAM;
+
+pub(crate) const TINY_ROWS: usize = 2 * POINT_SIZE * TINY_SEAM;
+
 pub(crate) const SMALL_POINTS: usize = 64;
 
 pub(crate) const SMALL_CURVE: usize = 2 * SMALL_POINTS;

@@ -13,7 +13,7 @@ use Rattle.curves.specs.Limits.{max-curve, max-seam, max-cells}
 use Rattle.curves.specs.inner.Columns.{Table, ColumnsGiven}
 use Rattle.curves.specs.inner.Level.{Upright}
 use Rattle.curves.specs.inner.Curves.{Sides, ShortCurves, curves-in, KnotsFit, PatchGiven}
-use Rattle.curves.specs.inner.Small.{small-curve, small-seam}
+use Rattle.curves.specs.inner.Small.{small-seam}
 use Rattle.curves.specs.declared.boundary.Ends.{Ends}
 use Rattle.curves.specs.declared.boundary.Patch.{Patch}
 use Rattle.curves.specs.declared.rows.Layout.{Layout}
@@ -112,10 +112,10 @@ pub record AnyGrid (knots : List Float) (p : Patch) (s : Seams) (layout : Layout
   pub paired : PairedSeams s
   pub room : needed layout (n-u s) (n-v s) ≤ length out
 
--- such a grid, with few cells along the bottom
-pub record SmallGrid (knots : List Float) (p : Patch) (s : Seams) (layout : Layout) (out : List Float) : Type 0 where
+-- such a grid, with at most so many values of the bottom seam
+pub record SmallGrid (limit : ℕ) (knots : List Float) (p : Patch) (s : Seams) (layout : Layout) (out : List Float) : Type 0 where
   pub any : AnyGrid knots p s layout out
-  pub few : length (s .bottom) ≤ small-seam
+  pub few : length (s .bottom) ≤ limit
 
 -- the same before the seams and the output's room are tested
 pub record StageGiven (knots : List Float) (p : Patch) (s : Seams) : Type 0 where

@@ -55,14 +55,26 @@ short c =
     let q = limits-passed (of-curves here) (of-seams here) (c .enum-told .given .1) (tested here) in
     record { curves = curves-let-by (q .0); seams = seams-let-by (q .1) }
 
-small-patch-requires : tie.Need-small-patch-requires
-small-patch-requires c κs =
+tiny-patch-requires : tie.Need-tiny-patch-requires
+tiny-patch-requires c κs =
     let told : tie.After-enum-told = search in
     record { curves = c .before .before .has-short-curves .ensures (c .before .if1 .taken); seams = short told .seams }
 
 returns-2 : tie.Need-returns-2
 unfolding coons-from-parameters
 returns-2 c =
+    let told : tie.After-enum-told = search in
+    let here = tested-before told in
+    c .before .before .tiny-patch .ensures ∙ let-by (now (entry here .args .out)) _ (told .enum-told .given .1) (tested here)
+
+small-patch-requires : tie.Need-small-patch-requires
+small-patch-requires c κs =
+    let told : tie.After-enum-told = search in
+    record { curves = c .before .before .has-short-curves2 .ensures (c .before .if2 .taken); seams = short told .seams }
+
+returns-3 : tie.Need-returns-3
+unfolding coons-from-parameters
+returns-3 c =
     let told : tie.After-enum-told = search in
     let here = tested-before told in
     c .before .before .small-patch .ensures ∙ let-by (now (entry here .args .out)) _ (told .enum-told .given .1) (tested here)
@@ -72,9 +84,9 @@ large-patch-requires c κs =
     let told : tie.After-enum-told = search in
     short told
 
-returns-3 : tie.Need-returns-3
+returns-4 : tie.Need-returns-4
 unfolding coons-from-parameters
-returns-3 c =
+returns-4 c =
     let told : tie.After-enum-told = search in
     let here = tested-before told in
     c .before .before .large-patch .ensures ∙ let-by (now (entry here .args .out)) _ (told .enum-told .given .1) (tested here)
@@ -83,4 +95,5 @@ pub from-parameters-spec : {M : Type 1} → statement M
 from-parameters-spec =
     tie.close
     (tie.spec
-    (λ c κs. search needs) (λ c. search needs) returns (λ c. search needs) (λ c κs. search needs) small-patch-requires (λ c. search needs) returns-2 large-patch-requires (λ c. search needs) returns-3)
+    (λ c κs. search needs) (λ c. search needs) returns (λ c. search needs) (λ c κs. search needs) tiny-patch-requires (λ c. search needs)
+    returns-2 (λ c κs. search needs) small-patch-requires (λ c. search needs) returns-3 large-patch-requires (λ c. search needs) returns-4)
