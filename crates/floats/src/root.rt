@@ -207,8 +207,9 @@ fn quick_root(b: u64) -> u64
     (exponent + 1) * 0x10_0000_0000_0000 + d
 }
 
-// The whole number nearest to the root of n * 2^52, if s is its first 32 digits or one less, else 0. One division gives the other 21 digits,
-// to the nearest. Their square could turn the rounding only where the remainder is small: there the answer is 0, about once in 1,000.
+// The whole number nearest to the root of n * 2^52, found if s is its first 32 digits or one less, and 0 if not found. One division gives
+// the other 21 digits, to the nearest. Their square could turn the rounding only where the remainder is small, which is not found either:
+// about once in 600.
 fn nearest(n: u64, s: u64) -> u64
     requires { ⌜ NearestGiven n s ⌝ }
     ensures { λ r. ⌜ (0 < r → ToNearest n r) ⌝ }
