@@ -166,15 +166,13 @@ fn rounded(a: Apart) -> f64
     ensures { λ r. ⌜ r ≡ rounded-root binary64 (parted (a .exponent) (a .whole) (a .rest)) ⌝ }
 {
     let s = a.whole;
+    let rest = a.rest;
+    let exponent = a.exponent;
     let q = s / 2;
-    let d = if s % 2 == 0 {
-        q
-    } else if a.rest > 0 {
-        q + 1
-    } else {
-        q + q % 2
-    };
-    let bits = (a.exponent + 1) * 0x10_0000_0000_0000 + d;
+    // what is added if the last digit is 1: numbers, and no branch, as in `whole_root`
+    let up = if rest > 0 { 1 } else { q % 2 };
+    let d = q + s % 2 * up;
+    let bits = (exponent + 1) * 0x10_0000_0000_0000 + d;
     f64::from_bits(bits)
 }
 
