@@ -166,15 +166,13 @@ fn rounded(a: Apart) -> f64
     ensures { λ r. ⌜ r ≡ rounded-root binary64 (parted (a .exponent) (a .whole) (a .rest)) ⌝ }
 {
     let s = a.whole;
+    let rest = a.rest;
+    let exponent = a.exponent;
     let q = s / 2;
-    let d = if s % 2 == 0 {
-        q
-    } else if a.rest > 0 {
-        q + 1
-    } else {
-        q + q % 2
-    };
-    let bits = (a.exponent + 1) * 0x10_0000_0000_0000 + d;
+    // what is added if the last digit is 1: numbers, and no branch, as in `whole_root`
+    let up = if rest > 0 { 1 } else { q % 2 };
+    let d = q + s % 2 * up;
+    let bits = (exponent + 1) * 0x10_0000_0000_0000 + d;
     f64::from_bits(bits)
 }
 
@@ -207,8 +205,9 @@ fn quick_root(b: u64) -> u64
     (exponent + 1) * 0x10_0000_0000_0000 + d
 }
 
-// The whole number nearest to the root of n * 2^52, if s is its first 32 digits or one less, else 0. One division gives the other 21 digits,
-// to the nearest. Their square could turn the rounding only where the remainder is small: there the answer is 0, about once in 1,000.
+// The whole number nearest to the root of n * 2^52, found if s is its first 32 digits or one less, and 0 if not found. One division gives
+// the other 21 digits, to the nearest. Their square could turn the rounding only where the remainder is small, which is not found either:
+// about once in 600.
 fn nearest(n: u64, s: u64) -> u64
     requires { ⌜ NearestGiven n s ⌝ }
     ensures { λ r. ⌜ (0 < r → ToNearest n r) ⌝ }

@@ -5,7 +5,7 @@ use mathlib.Core.Logic.{_⊎_, inl, inr}
 use mathlib.Core.Bool.{false}
 use Prim.Native.Nat.{ℕ, zero, suc, _+_, _-_, _*_, _/_, _%_, _^_, _≤_, _<_, min, compare}
 use native.Mathlib.Decide.{decLe}
-use native.Mathlib.Nat.{le-antisymm, mul-le-mul-right, lt-of-not-le, lt-irrefl, lt-of-le-of-lt, le-of-eq, mul-comm, mul-assoc, mul-one, pow-succ'}
+use native.Mathlib.Nat.{le-antisymm, mul-le-mul-right, lt-of-not-le, lt-irrefl, lt-of-le-of-lt, le-of-eq, mul-comm, mul-assoc, mul-one, one-mul, zero-mul, pow-succ'}
 use native.Mathlib.Omega.{arith}
 use lib.Dec.{lit<, lit≤}
 use lib.Arith.{digits-div, digits-mod}
@@ -145,12 +145,39 @@ keeps-more s (suc r) e h = record { least = omega arith; most = omega arith; is 
     one : (q : ℕ) → q + 1 ≡ suc q
     one q = omega arith
 
-pub keeps-tie : (s r : ℕ) → (s % 2 ≡ 0 → ⊥) → r ≤ 0 → Keeps s r (s / 2 + s / 2 % 2)
+keeps-tie : (s r : ℕ) → (s % 2 ≡ 0 → ⊥) → r ≤ 0 → Keeps s r (s / 2 + s / 2 % 2)
 keeps-tie s zero e h = record { least = omega arith; most = omega arith; is = sym (kept-tie s (s / 2) (odd s e)) }
 keeps-tie s (suc r) e h = absurd (no r h)
   where
     no : (r : ℕ) → suc r ≤ 0 → ⊥
     no r h = omega arith
+
+-- as the code has it: u is what is added if the last digit is 1
+by-digit : (s r u : ℕ) → ((s % 2 ≡ 0 → ⊥) → Keeps s r (s / 2 + u)) → Keeps s r (s / 2 + s % 2 * u)
+by-digit s r u k = go (s % 2) refl
+  where
+    none : (q u : ℕ) → q ≡ q + 0 * u
+    none q u = omega (arith, zero-mul u)
+
+    all : (q u : ℕ) → q + u ≡ q + 1 * u
+    all q u = omega (arith, one-mul u)
+
+    go : (t : ℕ) → s % 2 ≡ t → Keeps s r (s / 2 + s % 2 * u)
+    go zero e = subst (λ (x : ℕ). Keeps s r (s / 2 + x * u)) (sym e) (subst (λ (x : ℕ). Keeps s r x) (none (s / 2) u) (keeps-even s r e))
+    go (suc zero) e = subst (λ (x : ℕ). Keeps s r (s / 2 + x * u)) (sym e) (subst (λ (x : ℕ). Keeps s r x) (all (s / 2) u) (k (one s e)))
+      where
+        one : (s : ℕ) → s % 2 ≡ 1 → s % 2 ≡ 0 → ⊥
+        one s e f = omega arith
+    go (suc (suc t)) e = absurd (no s t e)
+      where
+        no : (s t : ℕ) → s % 2 ≡ suc (suc t) → ⊥
+        no s t e = omega arith
+
+pub keeps-rest : (s r : ℕ) → 0 < r → Keeps s r (s / 2 + s % 2 * 1)
+keeps-rest s r h = by-digit s r 1 (λ o. keeps-more s r o h)
+
+pub keeps-no-rest : (s r : ℕ) → r ≤ 0 → Keeps s r (s / 2 + s % 2 * (s / 2 % 2))
+keeps-no-rest s r h = by-digit s r (s / 2 % 2) (λ o. keeps-tie s r o h)
 
 -- ---- the pattern is the rounded root's
 

@@ -6,8 +6,8 @@ use Prim.Native.Nat.{ℕ, zero, suc, _+_, _-_, _*_, _/_, _%_, _^_, _≤_, _<_}
 use native.Mathlib.Decide.{decLe}
 use native.Mathlib.Nat.{lt-of-not-le, mul-comm, mul-assoc, mul-left-comm, mul-le-mul-left, div-add-mod', mod-lt, div-lt-iff-lt-mul}
 use native.Mathlib.Omega.{arith}
-use lib.Ieee.{binary64, ofBits}
-use Rattle.floats.specs.Root.{Apart, rounded, parted}
+use lib.Ieee.{binary64}
+use Rattle.floats.specs.Root.{Apart, rounded}
 use Rattle.floats.specs.inner.RootSteps.{Normal, Splits, Taken, ToNearest, Found}
 use Rattle.floats.proofs.root.Squares.{square-add, square-suc, square-mul, at-most}
 use Rattle.floats.proofs.root.Assembled.{scaled, taken, Keeps, keeps-even, keeps-more, rounded-bits}

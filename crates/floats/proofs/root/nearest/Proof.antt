@@ -1,4 +1,4 @@
--- `root::nearest` meets its contract. Assumes nothing.
+-- `root::nearest` meets its contract. Each return of 0 tells nothing; the last one is `to-nearest`. Assumes nothing.
 use mathlib.Core.Path.{_≡_}
 use Prim.Native.Nat.{ℕ, _+_, _-_, _*_, _/_, _%_, _≤_, _<_, _^_}
 use native.Mathlib.Omega.{arith}
@@ -30,12 +30,6 @@ facts c =
     whole : (n s : ℕ) → s * s ≤ n * 2 ^ 10 → s * s + left-of n s ≡ n * 2 ^ 10
     whole n s h = omega arith
 
-div-q : tie.Need-div-q
-div-q c = omega arith
-
-rem-u : tie.Need-rem-u
-rem-u c = omega arith
-
 add-result : tie.Need-add-result
 add-result c = omega (arith, facts (c .before) .few)
 
@@ -51,4 +45,4 @@ nearest-spec =
     tie.close
     (tie.spec
     (λ c. search needs) mul-square (λ c. search needs) (λ c. search needs) (λ c. search needs) (λ c. search needs) (λ c. search needs)
-    (λ c. search needs) div-q rem-u (λ c. search needs) (λ c. search needs) add-result returns-4)
+    (λ c. search needs) (λ c. omega arith) (λ c. omega arith) (λ c. search needs) (λ c. search needs) add-result returns-4)

@@ -31,6 +31,7 @@ nearest-requires c κs =
     let r = range (c .before .before) in
     record { lead = r .0; full = omega (arith, r .1); high = omega arith; near = omega arith }
 
+-- a return of 0 tells nothing
 none : {A : Type 0} → 0 < 0 → A
 none h = absurd (no h)
   where
