@@ -11,8 +11,8 @@
  *                pointer is NULL, not even with length 0; each is aligned for its type; each list lies within one object, and has less
  *                than 2^63 bytes; a list or array that is written overlaps no other one of the call. They call nothing back, keep no
  *                pointer, use no heap and no global variable, and end. Any values are fine: what is wrong with them is refused; `limit` is
- *                read only if `stated`. Several threads may call at once, each with at least 256 KB of stack (rust/tests/stack.rs makes
- *                the largest calls in that).
+ *                read only if `stated`. Several threads may call at once, each with at least 256 KB of stack left (rust/tests/stack.rs
+ *                makes the largest calls in that).
  *
  * Lists
  * -----
