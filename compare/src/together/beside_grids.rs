@@ -1,11 +1,12 @@
 //! Grids, meshes and roots by two builds of this library in turn, with equal results. The tiles are those of `speed`. These functions take
-//! the same in every version.
+//! the same in every version. Both builds write to one buffer: of two, one may lie better in memory, by some percent of a large grid.
 
 use super::beside::{found, mean, open, EFFORT};
 use super::call::Sides;
 use super::clock::{race, Effort, Pair};
 use super::random::Random;
 use super::speed::{bent, seams, seconds, CELLS};
+use std::cell::RefCell;
 use std::ffi::c_void;
 use std::mem::transmute;
 
@@ -130,18 +131,28 @@ fn same<A: PartialEq>(old: &A, new: &A) -> Result<(), String> {
 }
 
 fn quads(old: &Grids, new: &Grids, effort: Effort, curves: &Sides, seams: &Sides, cells: usize) -> Result<Pair, String> {
-    let (mut a, mut b) = (vec![f64::NAN; 8 * cells * cells], vec![f64::NAN; 8 * cells * cells]);
-    let pair = race(effort, || old.quads(curves, seams, &mut a), || new.quads(curves, seams, &mut b), same)?;
-    same(&bits(&a), &bits(&b))?;
-    Ok(pair)
+    let written = |build: &Grids| {
+        let mut out = vec![f64::NAN; 8 * cells * cells];
+        (build.quads(curves, seams, &mut out), bits(&out))
+    };
+    same(&written(old), &written(new))?;
+    let out = RefCell::new(vec![f64::NAN; 8 * cells * cells]);
+    race(effort, || old.quads(curves, seams, &mut out.borrow_mut()), || new.quads(curves, seams, &mut out.borrow_mut()), same)
 }
 
 fn mesh(old: &Grids, new: &Grids, effort: Effort, curves: &Sides, cells: usize) -> Result<Pair, String> {
     let lent = || (vec![f64::NAN; 3 * (cells + 1) * (cells + 1)], vec![u32::MAX; 4 * cells * cells]);
-    let (mut a, mut b) = (lent(), lent());
-    let pair = race(effort, || old.mesh(curves, cells, &mut a.0, &mut a.1), || new.mesh(curves, cells, &mut b.0, &mut b.1), same)?;
-    same(&(bits(&a.0), &a.1), &(bits(&b.0), &b.1))?;
-    Ok(pair)
+    let written = |build: &Grids| {
+        let (mut points, mut indices) = lent();
+        (build.mesh(curves, cells, &mut points, &mut indices), bits(&points), indices)
+    };
+    same(&written(old), &written(new))?;
+    let out = RefCell::new(lent());
+    let run = |build: &Grids| {
+        let (points, indices) = &mut *out.borrow_mut();
+        build.mesh(curves, cells, points, indices)
+    };
+    race(effort, || run(old), || run(new), same)
 }
 
 fn bits(values: &[f64]) -> Vec<u64> {
