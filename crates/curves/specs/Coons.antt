@@ -16,8 +16,8 @@ use Rattle.curves.specs.Quad.{zeros}
 use Rattle.curves.specs.Grid.{Seams, seams, n-u, n-v, Grid, grid-of, grid-test, grid-values, needed}
 use Rattle.curves.specs.declared.rows.Layout.{Layout}
 use Rattle.curves.specs.declared.rows.Layout.the-variants.{Quads, Nodes}
-use Rattle.curves.specs.declared.coons.GridAnswer.{GridAnswer}
-use Rattle.curves.specs.declared.coons.GridAnswer.the-variants.{Made, Refused}
+use Rattle.curves.specs.declared.answer.GridAnswer.{GridAnswer}
+use Rattle.curves.specs.declared.answer.GridAnswer.the-variants.{Made, Refused}
 use Rattle.curves.specs.Limits.{max-curve, max-seam, max-cells}
 
 -- "a grid, a lay and a mesh answer the number of quads", or the refusal; and the output that they leave

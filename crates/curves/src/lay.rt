@@ -7,7 +7,7 @@ ghost use Rattle.curves.specs.Coons.{outcome-of};
 ghost use Rattle.curves.specs.Lay.{tile-input, record-test, edges-test, breaks-test, lay-test, lay};
 ghost use Rattle.curves.specs.Limits.{max-seam};
 ghost use Rattle.curves.specs.inner.Lays.{EdgesGiven, Counted, SideGiven, SideLaid, FourShort};
-use crate::coons::GridAnswer;
+use crate::answer::GridAnswer;
 use crate::coons::check_curve_limits;
 use crate::coons::coons_from_parameters;
 use crate::limits::MAX_SEAM;

@@ -1,5 +1,6 @@
 // The geometry above the counts: points, curves, their seams, the patch between them, its grid of points and quads, and lay, which grids a
-// region by its counts. Public are `coons` and `lay`, and `limits` for the mesh.
+// region by its counts. Public are `coons` and `lay`, with `answer`, and `limits` for the mesh.
+pub mod answer;
 mod boundary;
 mod columns;
 pub mod coons;
@@ -12,5 +13,7 @@ pub mod limits;
 mod patch;
 mod point;
 mod quad;
+mod room;
 mod rows;
 mod seam;
+mod stage;

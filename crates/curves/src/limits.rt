@@ -26,13 +26,13 @@ pub(crate) const MAX_COLUMNS: usize = COLUMN_SIZE * MAX_SEAM;
 
 pub(crate) const MAX_ROWS: usize = 2 * POINT_SIZE * MAX_SEAM;
 
-// Room is cleared before its use, which takes longer than a small grid if it is of the largest size. So there are two smaller sizes: curves of
-// at most 16 points and seams of at most 16 values, or 64.
-pub(crate) const TINY_POINTS: usize = 16;
+// Room is cleared before its use, which takes longer than a small grid if it is of the largest size. So there are two smaller sizes: for curves of
+// at most 32 points or 128, and for seams of at most 16 cells or 64.
+pub(crate) const TINY_POINTS: usize = 32;
 
 pub(crate) const TINY_CURVE: usize = 2 * TINY_POINTS;
 
-pub(crate) const TINY_SEAM: usize = 16;
+pub(crate) const TINY_SEAM: usize = 17;
 
 pub(crate) const TINY_KNOTS: usize = 4 * KNOT_SIZE * TINY_POINTS;
 
@@ -40,13 +40,13 @@ pub(crate) const TINY_COLUMNS: usize = COLUMN_SIZE * TINY_SEAM;
 
 pub(crate) const TINY_ROWS: usize = 2 * POINT_SIZE * TINY_SEAM;
 
-pub(crate) const SMALL_POINTS: usize = 64;
+pub(crate) const SMALL_POINTS: usize = 128;
 
 pub(crate) const SMALL_CURVE: usize = 2 * SMALL_POINTS;
 
 pub(crate) const SMALL_CELLS: u32 = 64;
 
-pub(crate) const SMALL_SEAM: usize = SMALL_CELLS as usize;
+pub(crate) const SMALL_SEAM: usize = SMALL_CELLS as usize + 1;
 
 pub(crate) const SMALL_KNOTS: usize = 4 * KNOT_SIZE * SMALL_POINTS;
 

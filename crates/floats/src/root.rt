@@ -247,5 +247,5 @@ fn guess_root(m: u64, odd: u64) -> f64
     } else {
         0.70710678116
     };
-    half * (y + x / y)
+    half * y + half * x / y
 }

@@ -19,8 +19,8 @@ use Rattle.counts.specs.declared.answer.HoldAnswer.the-variants as hold-answer
 use Rattle.base.specs.Answers.{Answer, verdict}
 use Rattle.floats.specs.Root.{root-of}
 use Rattle.curves.specs.Coons.{Outcome, outcome-of}
-use Rattle.curves.specs.declared.coons.GridAnswer.{GridAnswer}
-use Rattle.curves.specs.declared.coons.GridAnswer.the-variants as grid-answer
+use Rattle.curves.specs.declared.answer.GridAnswer.{GridAnswer}
+use Rattle.curves.specs.declared.answer.GridAnswer.the-variants as grid-answer
 use Rattle.floats.specs.declared.root.RootAnswer.{RootAnswer}
 use Rattle.floats.specs.declared.root.RootAnswer.the-variants as root-answer
 use Rattle.mesh.specs.Mesh.{Mesh, mesh-of}

@@ -10,7 +10,7 @@ use counts::answer::EnergyAnswer;
 use counts::answer::HoldAnswer;
 use counts::answer::RoundAnswer;
 use counts::answer::SolveAnswer;
-use curves::coons::GridAnswer;
+use curves::answer::GridAnswer;
 use floats::root::RootAnswer;
 
 // Both places and one value.

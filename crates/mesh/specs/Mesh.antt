@@ -9,7 +9,7 @@ use Rattle.base.specs.declared.verdict.Verdict.{Verdict}
 use Rattle.base.specs.Refusal.{is-passed}
 use Rattle.base.specs.Buffers.{tabulate, concat-tabulate, splice}
 use Rattle.curves.specs.Coons.{Outcome, outcome-of, coons-curves-beside, coons-nodes-beside}
-use Rattle.curves.specs.declared.coons.GridAnswer.{GridAnswer}
+use Rattle.curves.specs.declared.answer.GridAnswer.{GridAnswer}
 
 -- what a call answers, with the points that it leaves as the output of the grid; and the indices that it leaves
 pub record Mesh : Type 0 where

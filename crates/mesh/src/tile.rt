@@ -14,7 +14,7 @@ use crate::cells::clear;
 use crate::cells::write_cells;
 use crate::cells::zeroes;
 use base::refusal::Refusal;
-use curves::coons::GridAnswer;
+use curves::answer::GridAnswer;
 use curves::coons::coons_curves;
 use curves::coons::coons_nodes;
 use curves::limits::MAX_CELLS;

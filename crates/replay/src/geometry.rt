@@ -3,7 +3,7 @@
 use crate::reading;
 use crate::reading::INPUT;
 use base::verdict::Verdict;
-use curves::coons::GridAnswer;
+use curves::answer::GridAnswer;
 use floats::root::RootAnswer;
 use regions::region::PLACES;
 use regions::region::RECORD_SIZE;

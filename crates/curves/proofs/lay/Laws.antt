@@ -30,9 +30,9 @@ use Rattle.curves.specs.Grid.{Seams, seams}
 use Rattle.curves.specs.Coons.{Outcome, outcome-of, curves-limit, seam-limit, seams-limit, coons-from-parameters}
 use Rattle.curves.specs.Lay.{TileInput, counts-along, seam-of, seams-of, record-test, edges-test, breaks-test, sides-test, lay-test, lay}
 use Rattle.curves.specs.declared.rows.Layout.the-variants.{Quads}
-use Rattle.curves.specs.declared.coons.GridAnswer.the-variants as grid-answer
+use Rattle.curves.specs.declared.answer.GridAnswer.the-variants as grid-answer
 use Rattle.base.proofs.BufferLaws.{part-written, set-splice, take-splice}
-use Rattle.curves.proofs.coons.Laws.{turned-away, goes-on}
+use Rattle.curves.proofs.stage.Laws.{turned-away, goes-on}
 use Rattle.curves.proofs.seam.Laws.{length-edge}
 use Rattle.curves.specs.Limits.{max-seam}
 use Rattle.curves.specs.inner.Lays.{Counted, SidePassed, SideLaid, FourShort}

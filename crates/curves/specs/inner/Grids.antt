@@ -13,7 +13,7 @@ use Rattle.curves.specs.Limits.{max-curve, max-seam, max-cells}
 use Rattle.curves.specs.inner.Columns.{Table, ColumnsGiven}
 use Rattle.curves.specs.inner.Level.{Upright}
 use Rattle.curves.specs.inner.Curves.{Sides, ShortCurves, curves-in, KnotsFit, PatchGiven}
-use Rattle.curves.specs.inner.Small.{small-seam}
+use Rattle.curves.specs.inner.Small.{tiny-curve, tiny-seam, small-seam}
 use Rattle.curves.specs.declared.boundary.Ends.{Ends}
 use Rattle.curves.specs.declared.boundary.Patch.{Patch}
 use Rattle.curves.specs.declared.rows.Layout.{Layout}
@@ -106,20 +106,10 @@ pub record GridGiven (knots : List Float) (p : Patch) (s : Seams) (layout : Layo
   pub workspace : Workspace (s .bottom) table rows
   pub room : needed layout (n-u s) (n-v s) ≤ length out
 
--- the same without room for columns and rows
-pub record AnyGrid (knots : List Float) (p : Patch) (s : Seams) (layout : Layout) (out : List Float) : Type 0 where
-  pub patch : PatchGiven knots p
-  pub paired : PairedSeams s
-  pub room : needed layout (n-u s) (n-v s) ≤ length out
-
--- such a grid, with at most so many values of the bottom seam
-pub record SmallGrid (limit : ℕ) (knots : List Float) (p : Patch) (s : Seams) (layout : Layout) (out : List Float) : Type 0 where
-  pub any : AnyGrid knots p s layout out
-  pub few : length (s .bottom) ≤ limit
-
 -- the same before the seams and the output's room are tested
-pub record StageGiven (knots : List Float) (p : Patch) (s : Seams) : Type 0 where
+pub record StageGiven (knots : List Float) (p : Patch) (s : Seams) (table rows : List Float) : Type 0 where
   pub patch : PatchGiven knots p
+  pub workspace : Workspace (s .bottom) table rows
   pub short : ShortSeams s
 
 -- n by m cells that are to be cleared
@@ -135,26 +125,48 @@ pub record Gridded (layout : Layout) (f : Grid) (n m : ℕ) (before after : List
 
 -- ---- tiles
 
--- what a patch is made from: curves with room for their knots, and seams
-pub record TileGiven (points : Sides) (s : Seams) (knots : List Float) : Type 0 where
+-- what a patch is made from: curves with room for their knots, and seams with room for what goes by them
+pub record TileGiven (points : Sides) (s : Seams) (knots table rows : List Float) : Type 0 where
+  pub knots-fit : KnotsFit points knots
+  pub workspace : Workspace (s .bottom) table rows
+  pub short : ShortSeams s
+
+-- the same before there is room for columns and rows
+pub record KnotsGiven (points : Sides) (s : Seams) (knots : List Float) : Type 0 where
   pub knots-fit : KnotsFit points knots
   pub short : ShortSeams s
+
+-- such curves and seams, with at most so many columns
+pub record ColumnsFit (limit : ℕ) (points : Sides) (s : Seams) (knots : List Float) : Type 0 where
+  pub given : KnotsGiven points s knots
+  pub few : length (s .bottom) ≤ limit
 
 -- curves and seams within a limit of the curves
 pub record TileShort (limit : ℕ) (points : Sides) (s : Seams) : Type 0 where
   pub curves : ShortCurves limit points
   pub seams : ShortSeams s
 
+-- the same where the smallest rooms will do
+pub record TinyTile (points : Sides) (s : Seams) : Type 0 where
+  pub short : TileShort tiny-curve points s
+  pub few : length (s .bottom) ≤ tiny-seam
+
 -- ---- even seams
 
--- room for two seams of so many cells
-pub record EvenRoom (n m : ℕ) (us vs : List Float) : Type 0 where
+-- curves and numbers of cells within their limits
+pub record CellsGiven (points : Sides) (n m : ℕ) : Type 0 where
+  pub curves : ShortCurves max-curve points
   pub columns : n ≤ max-cells
   pub rows : m ≤ max-cells
-  pub us-long : n < length us
-  pub vs-long : m < length vs
 
--- few cells, for the smaller room
-pub record FewCells (n m : ℕ) : Type 0 where
+-- the same with few cells, for the smaller room
+pub record FewCells (points : Sides) (n m : ℕ) : Type 0 where
+  pub curves : ShortCurves max-curve points
   pub columns : n < small-seam
   pub rows : m < small-seam
+
+-- and with room for the two seams of so many cells
+pub record EvenRoom (points : Sides) (n m : ℕ) (us vs : List Float) : Type 0 where
+  pub cells : CellsGiven points n m
+  pub us-long : n < length us
+  pub vs-long : m < length vs

@@ -1,14 +1,14 @@
--- Small tiles, which get less room, in two sizes: curves of at most 16 points and seams of at most 16 values, or 64. Assumes nothing.
+-- Small tiles, which get less room, in two sizes: curves of at most 32 points or 128, seams of at most 16 cells or 64. Assumes nothing.
 use Prim.Native.Nat.{ℕ, _*_}
 
 abbrev pub tiny-curve : ℕ
-tiny-curve = 2 * 16
+tiny-curve = 2 * 32
 
 abbrev pub tiny-seam : ℕ
-tiny-seam = 16
+tiny-seam = 17
 
 abbrev pub small-curve : ℕ
-small-curve = 2 * 64
+small-curve = 2 * 128
 
 abbrev pub small-seam : ℕ
-small-seam = 64
+small-seam = 65

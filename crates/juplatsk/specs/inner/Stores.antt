@@ -14,7 +14,7 @@ use Rattle.counts.specs.declared.answer.RoundAnswer.{RoundAnswer}
 use Rattle.counts.specs.declared.answer.EnergyAnswer.{EnergyAnswer}
 use Rattle.counts.specs.declared.answer.HoldAnswer.{HoldAnswer}
 use Rattle.curves.specs.Coons.{outcome-of}
-use Rattle.curves.specs.declared.coons.GridAnswer.{GridAnswer}
+use Rattle.curves.specs.declared.answer.GridAnswer.{GridAnswer}
 use Rattle.juplatsk.specs.Stored.{solve-stored, hold-stored, grid-stored, energy-stored, round-stored, cost-of, root-value}
 
 abbrev pub Stores : ℕ → List ℕ → Verdict → List ℕ → Type 0

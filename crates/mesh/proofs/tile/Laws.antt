@@ -19,8 +19,8 @@ use Rattle.base.proofs.TestLaws.{refusal-number}
 use Rattle.base.specs.Buffers.{splice}
 use Rattle.curves.specs.Curve.{point-count}
 use Rattle.curves.specs.Coons.{Outcome, outcome-of, refusal, coons-quads, coons-nodes, coons-nodes-beside}
-use Rattle.curves.specs.declared.coons.GridAnswer.{GridAnswer}
-use Rattle.curves.specs.declared.coons.GridAnswer.the-variants as grid-answer
+use Rattle.curves.specs.declared.answer.GridAnswer.{GridAnswer}
+use Rattle.curves.specs.declared.answer.GridAnswer.the-variants as grid-answer
 use Rattle.curves.proofs.coons.Laws.{cells-of-nodes, leaving, nodes-alone, short-nodes}
 use Rattle.curves.proofs.Clear.{short-stopped}
 use Rattle.mesh.specs.declared.boundary.LoopAnswer.{LoopAnswer}

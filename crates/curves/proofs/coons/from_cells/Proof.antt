@@ -1,13 +1,15 @@
 -- `coons::from_cells` meets its contract. Assumes nothing.
 use mathlib.Core.Path.{_≡_, _∙_}
-use Prim.Native.Nat.{_≤_}
 use denote.Ref.{now}
+use native.Mathlib.Omega.{arith}
 use borrow.Author.Needs.{needs}
 use Rattle.base.specs.Refusal.{outcome, then-test}
 use Rattle.base.specs.declared.verdict.Verdict.{Verdict}
-use Rattle.curves.specs.Coons.{curves-limit, cells-limit, coons-curves}
-use Rattle.curves.specs.Limits.{max-cells}
-use Rattle.curves.proofs.coons.Laws.{turned-away, let-by, limits-passed, cells-let-by}
+use Rattle.curves.specs.Coons.{Outcome, curves-limit, cells-limit, patch, even-seams, coons-curves}
+use Rattle.curves.specs.inner.Curves.{Sides, lent}
+use Rattle.curves.specs.inner.Grids.{CellsGiven}
+use Rattle.curves.proofs.stage.Laws.{turned-away, let-by, limits-passed}
+use Rattle.curves.proofs.coons.Laws.{curves-let-by, cells-let-by, even-within}
 use Rattle.curves.proofs.coons.from_cells.Statement.{statement}
 use Rattle.curves.proofs.coons.from_cells.Tie as tie
 
@@ -36,10 +38,30 @@ of-cells c = let a = entry c .args in cells-limit (a .n-u) (a .n-v)
 tested : (c : Tested) → outcome (c .check-even-limits .result) ≡ then-test (of-curves c) (of-cells c)
 tested c = c .check-even-limits .ensures
 
-few : (c : Passed) → let a = entry (tested-before c) .args in (a .n-u ≤ max-cells) × (a .n-v ≤ max-cells)
-few c =
+abbrev points : Tested → Sides
+points c = let a = entry c .args in lent (a .bottom) (a .right) (a .top) (a .left)
+
+within : (c : Passed) → let here = tested-before c in CellsGiven (points here) (entry here .args .n-u) (entry here .args .n-v)
+within c =
     let here = tested-before c in
-    cells-let-by _ _ (limits-passed (of-curves here) (of-cells here) (c .enum-told .given .1) (tested here) .1)
+    let q = limits-passed (of-curves here) (of-cells here) (c .enum-told .given .1) (tested here) in
+    let few = cells-let-by _ _ (q .1) in
+    record { curves = curves-let-by (q .0); columns = few .0; rows = few .1 }
+
+-- the grid of even seams is what the definition says, the limits being passed
+as-defined : (c : Passed) (x : Outcome)
+    → (let here = tested-before c in let a = entry here .args in let p = points here in
+    x ≡ patch (a .layout) (p .bottom) (p .right) (p .top) (p .left) (even-seams (a .n-u) (a .n-v)) (now (a .out))
+    → x ≡ coons-curves (a .layout) (p .bottom) (p .right) (p .top) (p .left) (a .n-u) (a .n-v) (now (a .out)))
+unfolding coons-curves
+as-defined c x h =
+    let here = tested-before c in
+    let a = entry here .args in
+    let p = points here in
+    let q = limits-passed (of-curves here) (of-cells here) (c .enum-told .given .1) (tested here) in
+    h
+    ∙ even-within (a .layout) (p .bottom) (p .right) (p .top) (p .left) (a .n-u) (a .n-v) (now (a .out)) (q .0) (cells-let-by _ _ (q .1))
+    ∙ let-by (now (a .out)) _ (c .enum-told .given .1) (tested here)
 
 -- ---- a limit is exceeded
 
@@ -51,30 +73,31 @@ returns c =
 
 -- ---- few cells
 
+small-even-patch-requires : tie.Need-small-even-patch-requires
+small-even-patch-requires c κs =
+    let told : Passed = search in
+    record { curves = within told .curves; columns = omega arith; rows = omega arith }
+
 returns-2 : tie.Need-returns-2
-unfolding coons-curves
 returns-2 c =
     let told : Passed = search in
-    let here = tested-before told in
-    c .before .before .small-even-patch .ensures ∙ let-by (now (entry here .args .out)) _ (told .enum-told .given .1) (tested here)
+    as-defined told _ (c .before .before .small-even-patch .ensures)
 
 -- ---- any number of them
 
 large-even-patch-requires : tie.Need-large-even-patch-requires
 large-even-patch-requires c κs =
     let told : Passed = search in
-    few told
+    within told
 
 returns-3 : tie.Need-returns-3
-unfolding coons-curves
 returns-3 c =
     let told : Passed = search in
-    let here = tested-before told in
-    c .before .before .large-even-patch .ensures ∙ let-by (now (entry here .args .out)) _ (told .enum-told .given .1) (tested here)
+    as-defined told _ (c .before .before .large-even-patch .ensures)
 
 pub from-cells-spec : {M : Type 1} → statement M
 from-cells-spec =
     tie.close
     (tie.spec
     (λ c κs. search needs) (λ c. search needs) returns (λ c. search needs)
-    (λ c κs. search needs) (λ c. search needs) returns-2 large-even-patch-requires (λ c. search needs) returns-3)
+    small-even-patch-requires (λ c. search needs) returns-2 large-even-patch-requires (λ c. search needs) returns-3)

@@ -9,7 +9,9 @@ use Rattle.curves.specs.Grid.{Seams}
 use Rattle.curves.specs.Limits.{max-curve}
 use Rattle.curves.specs.inner.Curves.{Sides, lent}
 use Rattle.curves.specs.inner.Grids.{lent-seams, TileShort}
-use Rattle.curves.proofs.coons.Laws.{turned-away, let-by, limits-passed, curves-let-by, seams-let-by}
+use Rattle.curves.specs.inner.Small.{tiny-curve}
+use Rattle.curves.proofs.stage.Laws.{turned-away, let-by, limits-passed}
+use Rattle.curves.proofs.coons.Laws.{curves-let-by, seams-let-by}
 use Rattle.curves.proofs.coons.from_parameters.Statement.{statement}
 use Rattle.curves.proofs.coons.from_parameters.Tie as tie
 
@@ -49,16 +51,22 @@ returns c =
 
 -- ---- the limits are kept to
 
-short : (c : tie.After-enum-told) → TileShort max-curve (points (tested-before c)) (seams (tested-before c))
-short c =
+within : (c : tie.After-enum-told) → TileShort max-curve (points (tested-before c)) (seams (tested-before c))
+within c =
     let here = tested-before c in
     let q = limits-passed (of-curves here) (of-seams here) (c .enum-told .given .1) (tested here) in
     record { curves = curves-let-by (q .0); seams = seams-let-by (q .1) }
 
+-- the limit of the smallest room for knots is too
+
+abbrev told-before : tie.After-has-short-curves → tie.After-enum-told
+told-before c = search
+
+tiny : (c : tie.Then1) → let here = tested-before (told-before (c .before)) in TileShort tiny-curve (points here) (seams here)
+tiny c = record { curves = c .before .has-short-curves .ensures (c .if1 .taken); seams = within (told-before (c .before)) .seams }
+
 tiny-patch-requires : tie.Need-tiny-patch-requires
-tiny-patch-requires c κs =
-    let told : tie.After-enum-told = search in
-    record { curves = c .before .before .has-short-curves .ensures (c .before .if1 .taken); seams = short told .seams }
+tiny-patch-requires c κs = record { short = tiny (c .before .before); few = c .before .if2 .taken }
 
 returns-2 : tie.Need-returns-2
 unfolding coons-from-parameters
@@ -67,33 +75,33 @@ returns-2 c =
     let here = tested-before told in
     c .before .before .tiny-patch .ensures ∙ let-by (now (entry here .args .out)) _ (told .enum-told .given .1) (tested here)
 
-small-patch-requires : tie.Need-small-patch-requires
-small-patch-requires c κs =
-    let told : tie.After-enum-told = search in
-    record { curves = c .before .before .has-short-curves2 .ensures (c .before .if2 .taken); seams = short told .seams }
+tiny-knots-requires : tie.Need-tiny-knots-requires
+tiny-knots-requires c κs = tiny (c .before .before)
 
 returns-3 : tie.Need-returns-3
 unfolding coons-from-parameters
 returns-3 c =
     let told : tie.After-enum-told = search in
     let here = tested-before told in
-    c .before .before .small-patch .ensures ∙ let-by (now (entry here .args .out)) _ (told .enum-told .given .1) (tested here)
+    c .before .before .tiny-knots .ensures ∙ let-by (now (entry here .args .out)) _ (told .enum-told .given .1) (tested here)
 
-large-patch-requires : tie.Need-large-patch-requires
-large-patch-requires c κs =
+-- it is not
+
+larger-knots-requires : tie.Need-larger-knots-requires
+larger-knots-requires c κs =
     let told : tie.After-enum-told = search in
-    short told
+    within told
 
 returns-4 : tie.Need-returns-4
 unfolding coons-from-parameters
 returns-4 c =
     let told : tie.After-enum-told = search in
     let here = tested-before told in
-    c .before .before .large-patch .ensures ∙ let-by (now (entry here .args .out)) _ (told .enum-told .given .1) (tested here)
+    c .before .before .larger-knots .ensures ∙ let-by (now (entry here .args .out)) _ (told .enum-told .given .1) (tested here)
 
 pub from-parameters-spec : {M : Type 1} → statement M
 from-parameters-spec =
     tie.close
     (tie.spec
     (λ c κs. search needs) (λ c. search needs) returns (λ c. search needs) (λ c κs. search needs) tiny-patch-requires (λ c. search needs)
-    returns-2 (λ c κs. search needs) small-patch-requires (λ c. search needs) returns-3 large-patch-requires (λ c. search needs) returns-4)
+    returns-2 tiny-knots-requires (λ c. search needs) returns-3 larger-knots-requires (λ c. search needs) returns-4)

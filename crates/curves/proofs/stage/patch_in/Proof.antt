@@ -1,4 +1,4 @@
--- `coons::patch_in` meets its contract: the curves are refused, or they join, the definition's curves stand in the list of knots, and the rest
+-- `stage::patch_in` meets its contract: the curves are refused, or they join, the definition's curves stand in the list of knots, and the rest
 -- follows. Assumes nothing.
 use mathlib.Core.Path.{refl, ap, _∙_}
 use mathlib.Core.List.{List}
@@ -9,10 +9,10 @@ use Rattle.curves.specs.Coons.{patch, grid-stage}
 use Rattle.curves.specs.inner.Curves.{Sides, lent, checked-on, joined-of}
 use Rattle.curves.specs.inner.Grids.{lent-seams}
 use Rattle.curves.proofs.boundary.Laws.{still-fit, told-refused, JoinedCurves, joined, joined-patch}
-use Rattle.curves.proofs.coons.Laws.{turned-away, goes-on}
+use Rattle.curves.proofs.stage.Laws.{turned-away, goes-on}
 use borrow.Author.Needs.{needs}
-use Rattle.curves.proofs.coons.patch_in.Statement.{statement}
-use Rattle.curves.proofs.coons.patch_in.Tie as tie
+use Rattle.curves.proofs.stage.patch_in.Statement.{statement}
+use Rattle.curves.proofs.stage.patch_in.Tie as tie
 
 -- ---- the places that needs look back to, and the ways from one to an earlier one; `search` goes by the types
 
@@ -56,7 +56,7 @@ grid-stage-requires c κs =
     let here = checked at-joined in
     let given = entry here .pre in
     let fit = still-fit (given .knots-fit) (here .checked-curves .kept .1 .1 .1 .1 .0) in
-    record { patch = joined-patch (curves-joined at-joined) fit; short = given .short }
+    record { patch = joined-patch (curves-joined at-joined) fit; workspace = given .workspace; short = given .short }
 
 -- ---- the grid
 
@@ -78,4 +78,4 @@ patch-in-spec =
     tie.close
     (tie.spec
     (λ c κs. search needs) (λ c. search needs) (λ c. search needs) grid-stage-requires (λ c. search needs) returns (λ c. search needs)
-    (λ c. search needs) returns-2)
+    (λ c. search needs) (λ c. search needs) (λ c. search needs) returns-2)

@@ -1,8 +1,8 @@
--- `coons::has_short_curves` meets its contract. Assumes nothing.
+-- `room::has_short_curves` meets its contract. Assumes nothing.
 use Rattle.floats.proofs.scalar.Laws.{impossible}
 use borrow.Author.Needs.{needs}
-use Rattle.curves.proofs.coons.has_short_curves.Statement.{statement}
-use Rattle.curves.proofs.coons.has_short_curves.Tie as tie
+use Rattle.curves.proofs.room.has_short_curves.Statement.{statement}
+use Rattle.curves.proofs.room.has_short_curves.Tie as tie
 
 returns : tie.Need-returns
 returns c = impossible

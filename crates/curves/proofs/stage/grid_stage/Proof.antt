@@ -1,4 +1,4 @@
--- `coons::grid_stage` meets its contract: the seams are refused, or the room, or there is the grid. Assumes nothing.
+-- `stage::grid_stage` meets its contract: the seams are refused, or the room, or there is the grid. Assumes nothing.
 use Prim.Native.Nat.{_≤_}
 use native.Mathlib.Omega.{arith}
 use denote.Ref.{now}
@@ -7,10 +7,10 @@ use Rattle.curves.specs.Boundary.{BoundaryCurves}
 use Rattle.curves.specs.Grid.{Seams, n-u, n-v, needed}
 use Rattle.curves.specs.inner.Curves.{curves-in}
 use Rattle.curves.specs.inner.Grids.{lent-seams, PairedSeams}
-use Rattle.curves.proofs.coons.Laws.{seams-paired, cells-fit, bad-seams, no-room, grid-made, grid-refused}
+use Rattle.curves.proofs.stage.Laws.{seams-paired, cells-fit, bad-seams, no-room, grid-made, grid-refused}
 use borrow.Author.Needs.{needs}
-use Rattle.curves.proofs.coons.grid_stage.Statement.{statement}
-use Rattle.curves.proofs.coons.grid_stage.Tie as tie
+use Rattle.curves.proofs.stage.grid_stage.Statement.{statement}
+use Rattle.curves.proofs.stage.grid_stage.Tie as tie
 
 -- ---- the places that needs look back to, and the ways from one to an earlier one; `search` goes by the types
 
@@ -20,7 +20,7 @@ entry-before-seams c = search
 abbrev seams-before-passed : tie.After-enum-told → tie.After-check-seams
 seams-before-passed c = search
 
-abbrev room-before-grid : tie.After-sized-grid → tie.Else1
+abbrev room-before-grid : tie.After-coons-grid → tie.Else1
 room-before-grid c = search
 
 abbrev entry : tie.After-enum-told → tie.Start
@@ -69,34 +69,34 @@ returns-2 c =
 
 -- ---- the grid
 
-sized-grid-requires : tie.Need-sized-grid-requires
-sized-grid-requires c κs =
+coons-grid-requires : tie.Need-coons-grid-requires
+coons-grid-requires c κs =
     let at-room : tie.Else1 = search in
     let given = entry (passed at-room) .pre in
-    record { patch = given .patch; paired = paired (passed at-room); room = room at-room }
+    record { patch = given .patch; paired = paired (passed at-room); workspace = given .workspace; room = room at-room }
 
 returns-3 : tie.Need-returns-3
 returns-3 c =
-    let at-grid : tie.After-sized-grid = search in
+    let at-grid : tie.After-coons-grid = search in
     let at-room = room-before-grid at-grid in
     let told = passed at-room in
     let start = entry told in
     grid-refused (start .args .layout) (curves start) (seams start) (now (start .args .out)) (told .enum-told .given .1)
-    (seams-before-passed told .check-seams .ensures) (room at-room) (at-grid .sized-grid .ensures) (c .before .made .given .1)
+    (seams-before-passed told .check-seams .ensures) (room at-room) (at-grid .coons-grid .ensures) (c .before .made .given .1)
 
 -- the number of quads fits
 
 mul-quads : tie.Need-mul-quads
 mul-quads c =
-    let at-grid : tie.After-sized-grid = search in
+    let at-grid : tie.After-coons-grid = search in
     let told = passed (room-before-grid at-grid) in
     let s = seams (entry told) in
     let few = cells-fit (n-u s) (n-v s) (omega (arith, paired told)) (omega (arith, paired told)) in
     omega (arith, few)
 
-cast-t22 : tie.Need-cast-t22
-cast-t22 c =
-    let at-grid : tie.After-sized-grid = search in
+cast-t28 : tie.Need-cast-t28
+cast-t28 c =
+    let at-grid : tie.After-coons-grid = search in
     let told = passed (room-before-grid at-grid) in
     let s = seams (entry told) in
     let few = cells-fit (n-u s) (n-v s) (omega (arith, paired told)) (omega (arith, paired told)) in
@@ -104,16 +104,17 @@ cast-t22 c =
 
 returns-4 : tie.Need-returns-4
 returns-4 c =
-    let at-grid : tie.After-sized-grid = search in
+    let at-grid : tie.After-coons-grid = search in
     let at-room = room-before-grid at-grid in
     let told = passed at-room in
     let start = entry told in
     grid-made (start .args .layout) (curves start) (seams start) (now (start .args .out)) (told .enum-told .given .1)
-    (seams-before-passed told .check-seams .ensures) (room at-room) (at-grid .sized-grid .ensures) (c .enum-told2 .given .1)
+    (seams-before-passed told .check-seams .ensures) (room at-room) (at-grid .coons-grid .ensures) (c .enum-told2 .given .1)
 
 pub grid-stage-spec : {M : Type 1} → statement M
 grid-stage-spec =
     tie.close
     (tie.spec
-    (λ c κs. search needs) (λ c. search needs) returns (λ c. search needs) sub-n-u sub-n-v (λ c κs. search needs) returns-2 sized-grid-requires
-    (λ c. search needs) (λ c. search needs) returns-3 (λ c. search needs) mul-quads cast-t22 (λ c. search needs) returns-4)
+    (λ c κs. search needs) (λ c. search needs) returns (λ c. search needs) sub-n-u sub-n-v (λ c κs. search needs) returns-2 coons-grid-requires
+    (λ c. search needs) (λ c. search needs) (λ c. search needs) (λ c. search needs) returns-3 (λ c. search needs) mul-quads cast-t28
+    (λ c. search needs) (λ c. search needs) (λ c. search needs) returns-4)

@@ -1,0 +1,2 @@
+-- The laws of what is tested of a patch. Assumes nothing.
+pub mod Laws
