@@ -104,8 +104,10 @@ pub fn tables(old: &Grids, new: &Grids) -> Result<(), String> {
         println!("| {what} | {length} | {} | {} | **{:.3}** |", seconds(pair.rust), seconds(pair.here), pair.ratio());
         ratios.push(pair.ratio());
     };
-    let sizes = [(CELLS, &[2, 64, 1024][..], LARGE), (1, &[2, 16], EFFORT), (4, &[16], EFFORT), (16, &[16], EFFORT), (64, &[16], EFFORT)];
-    for (cells, lengths, effort) in sizes {
+    // long curves with few cells and short ones with more have rooms of different sizes for the two
+    let small = [(1, &[2, 16, 32, 100][..]), (4, &[16, 32, 100]), (16, &[16]), (32, &[2, 16, 100]), (64, &[16])];
+    let small = small.map(|(cells, lengths)| (cells, lengths, EFFORT));
+    for (cells, lengths, effort) in [(CELLS, &[2, 64, 1024][..], LARGE)].into_iter().chain(small) {
         for &length in lengths {
             let curves = bent(length);
             for (name, slanted) in [("even", false), ("slanted", true)] {

@@ -34,8 +34,11 @@ pub fn seconds(time: f64) -> String {
     }
 }
 
+/// Near 1 the ratio has two digits, so that it says which of the two is faster.
 pub fn times(pair: Pair) -> String {
-    format!("{} | {} | **{:.1}**", seconds(pair.rust), seconds(pair.here), pair.ratio())
+    let ratio = pair.ratio();
+    let digits = if ratio < 2.0 { 2 } else { 1 };
+    format!("{} | {} | **{ratio:.digits$}**", seconds(pair.rust), seconds(pair.here))
 }
 
 fn yes_or_no(cut: bool) -> &'static str {
@@ -346,18 +349,22 @@ pub fn grids() -> Result<(), String> {
 
 /// Tiles of the size that the farms have.
 fn small_grids() -> Result<(), String> {
-    println!("\nSmall grids, on curves of 16 points.\n");
-    println!("| cells | function | seams | Rust | here | ratio |");
-    println!("|---|---|---|---|---|---|");
-    let curves = bent(16);
-    for cells in [1, 4, 8, 16, 64] {
-        let mut out = vec![0.0; 8 * cells * cells];
-        let row = |function: &str, seams: &str, pair: Pair| println!("| {cells} by {cells} | {function} | {seams} | {} |", times(pair));
-        row("coons_from_parameters", "even", from_parameters(SHORT, &curves, &seams(cells, false), &mut out)?);
-        row("coons_from_parameters", "slanted", from_parameters(SHORT, &curves, &seams(cells, true), &mut out)?);
-        row("coons_curves", "even", coons_curves(SHORT, &curves, cells, &mut out)?);
-        row("mesh_tile_curves", "even", mesh_tile_curves(SHORT, &curves, cells)?);
-        row("mesh_tile", "even", mesh_tile(SHORT, &curves, cells)?);
+    println!("\nSmall grids, on curves of 16 and of 100 points.\n");
+    println!("| cells | function | seams | points of a curve | Rust | here | ratio |");
+    println!("|---|---|---|---|---|---|---|");
+    for (length, sizes) in [(16, &[1, 4, 8, 16, 64][..]), (100, &[1, 4, 16])] {
+        let curves = bent(length);
+        for &cells in sizes {
+            let mut out = vec![0.0; 8 * cells * cells];
+            let row = |function: &str, seams: &str, pair: Pair| {
+                println!("| {cells} by {cells} | {function} | {seams} | {length} | {} |", times(pair));
+            };
+            row("coons_from_parameters", "even", from_parameters(SHORT, &curves, &seams(cells, false), &mut out)?);
+            row("coons_from_parameters", "slanted", from_parameters(SHORT, &curves, &seams(cells, true), &mut out)?);
+            row("coons_curves", "even", coons_curves(SHORT, &curves, cells, &mut out)?);
+            row("mesh_tile_curves", "even", mesh_tile_curves(SHORT, &curves, cells)?);
+            row("mesh_tile", "even", mesh_tile(SHORT, &curves, cells)?);
+        }
     }
     Ok(())
 }
