@@ -1,5 +1,5 @@
-//! Grids, meshes and roots by two builds of this library in turn, with equal results. The tiles are those of `speed`. These functions take
-//! the same in every version. Both builds write to one buffer: of two, one may lie better in memory, by some percent of a large grid.
+//! Grids, meshes and roots by two builds of this library in turn, with equal results. The tile is that of `speed`. These functions take the
+//! same in every version. Both builds write to one buffer: of two, one may lie better in memory, by some percent of a large grid.
 
 use super::beside::{found, mean, open, EFFORT};
 use super::call::Sides;
