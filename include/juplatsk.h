@@ -62,7 +62,7 @@
  * Curves
  * ------
  * A curve is a list x, y, x, y, .. of 2 to 1,024 points. bottom runs from left to right, right from bottom to top, top from right to
- * left, left from top to bottom: counter-clockwise around the tile.
+ * left, left from top to bottom: counter-clockwise around the tile. A curve begins at its first point and ends at its last, bit for bit.
  *
  * Before pegs are set
  * -------------------
@@ -77,6 +77,9 @@
  *   Two tiles work out the pegs of their common edge each for itself, and the last bits may differ; a peg at half a millimetre may then be
  *     rounded up in one and down in the other. Tiles of 31.502 by 9 m above each other, four pieces: 7.875499999999998 and 7.8755.
  *     Take the pegs of a common edge from one of its tiles.
+ *   Where the two curves that meet at a corner have the same point there, bit for bit, and the seams run from 0 to 1, the corner peg is that
+ *     point, bit for bit (but -0 may become +0). Where they end a bit apart it may be neither end: bottom from 1.0000000000000002, left to
+ *     1.0000000000000004, peg at 1.0000000000000007. Give neighbouring curves the same point where they meet.
  *   On wide farms the searches of a solve are cut, edges that want many pieces may be left at 0, and the solve does not tell: 13 strips of
  *     45 by 9 m side by side, each border between two cut into 9, 9 and 27 m, leave all 12 edges of 27 m at 0 if no limit is stated, and
  *     none with 100,000; 16 strips leave all 15 with either. After a solve make one jp_round on its counts with its own limit
@@ -150,10 +153,10 @@ enum {
 
 enum { JP_SIDES = 4, JP_RECORD = JP_SIDES * (JP_PLACES + 1) };
 
-/* The version of this header, as one number JP_VERSION. A new major or minor may take other arguments, or read lists, records or answers in
- * another way, and is not called by a header of another one; a new patch is called and read as before. */
+/* The version of this header, as one number JP_VERSION. A new major or minor may take other arguments, read lists or records in another
+ * way, or answer otherwise, and is not called by a header of another one; a new patch is called and answers as before. */
 #define JP_VERSION_MAJOR 0
-#define JP_VERSION_MINOR 4
+#define JP_VERSION_MINOR 5
 #define JP_VERSION_PATCH 0
 #define JP_VERSION (10000 * JP_VERSION_MAJOR + 100 * JP_VERSION_MINOR + JP_VERSION_PATCH)
 

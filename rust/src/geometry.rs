@@ -13,7 +13,7 @@ pub type Point = [f64; 2];
 pub type Quad = [Point; 4];
 
 /// The four boundary curves of a tile, each a list of 2 to 1,024 points, counter-clockwise around it. Each starts where the one before
-/// it ends.
+/// it ends. A curve begins at its first point and ends at its last, bit for bit.
 #[derive(Clone, Debug, Default, PartialEq)]
 pub struct BoundaryCurves {
     /// From left to right.

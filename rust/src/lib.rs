@@ -64,6 +64,18 @@
 //! - **A peg on a common edge has two versions**, one of each tile, and their last bits may differ. Two tiles of 31.502 m by 9 m, one above the other,
 //!   in four pieces: 7.875499999999998 and 7.8755 m, which round to 7,875 and 7,876 mm. Take the pegs of a common edge from one of its tiles, as
 //!   `examples/farm` does.
+//! - **A corner peg is the surveyed stone, bit for bit,** where the two curves that meet there have the same point, bit for bit, and the seams run from
+//!   0 to 1; only -0 may become +0. Where they end apart, by a bit even, the peg may be neither end. Give neighbouring curves the same point.
+//!
+//!   ```
+//!   use juplatsk::{mesh_tile_curves, BoundaryCurves};
+//!
+//!   let [a, b, c, d] = [[0.1, -0.2], [0.9, -0.3], [1.1, 0.7], [0.3, 0.6]];
+//!   let curves = BoundaryCurves { bottom: vec![a, [0.5, -0.1], b], right: vec![b, c], top: vec![c, [0.7, 0.9], d], left: vec![d, a] };
+//!   let points = mesh_tile_curves(&curves, 3, 2)?.points;
+//!   assert_eq!([points[0], points[3], points[11], points[8]], [a, b, c, d].map(|[x, y]| [x, y, 0.0]));
+//!   # Ok::<(), juplatsk::Refusal>(())
+//!   ```
 //! - **A solve may be cut, and does not tell.** On wide farms its searches are turned back at their limit ([`SearchLimit`]), and edges that want
 //!   many pieces may be left at 0. Of 13 strips of 45 m by 9 m side by side, each border between two cut into edges of 9, 9 and 27 m, all 12 edges
 //!   of 27 m are if no limit is stated, and none with 100,000; of 16 strips all 15 are with either. After a solve make one [`round`] on its counts

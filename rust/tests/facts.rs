@@ -220,7 +220,7 @@ fn one_peg_two_millimetres() {
 }
 
 /// It is no rare case. Of 1,000 farms of three tiles, each corner moved from a plan of 100 m by 60 m by up to 10 m each way, in whole
-/// millimetres, all have a common peg whose two versions differ, and 371 one whose versions round to different millimetres.
+/// millimetres, all have a common peg whose two versions differ, and 373 one whose versions round to different millimetres.
 #[test]
 fn millimetres_may_differ() {
     const PLAN: [[i64; 2]; 8] = [[0, 0], [100, 0], [0, 30], [50, 30], [100, 30], [0, 60], [50, 60], [100, 60]];
@@ -246,7 +246,7 @@ fn millimetres_may_differ() {
         differ_rounded += usize::from(pairs().any(|(&p, &q)| millimetres(p) != millimetres(q)));
         farthest = pairs().map(|(&p, &q)| distance(p, q)).fold(farthest, f64::max);
     }
-    assert_eq!((differ, differ_rounded), (1000, 371));
+    assert_eq!((differ, differ_rounded), (1000, 373));
     assert!(farthest < 1e-13, "{farthest}");
 }
 
@@ -392,6 +392,51 @@ fn curves_apart_within_the_allowance() {
     assert_eq!(bottom_row(a), pegs(0.0, 0.5));
     assert_eq!(bottom_row([5e-10, 0.0]), pegs(5e-10, 0.50000000025));
     assert_eq!(bottom_row([2e-9, 0.0]), Err(16));
+}
+
+/// Each curve begins at its first point and ends at its last, bit for bit. So a corner peg is the point that both curves have there, if they
+/// do have one: on even seams, whatever the points between, and where a curve begins or ends with points too close to be measured.
+#[test]
+fn corner_pegs_are_the_stones() {
+    let [a, b, c, d] = [[0.1, -0.2], [0.9, -0.3], [1.1, 0.7], [0.3, 0.6]];
+    let near = |p: Point| [p[0], p[1] + f64::from_bits(1)];
+    let curves = BoundaryCurves {
+        bottom: vec![a, near(a), [0.5, -0.1], near(b), b],
+        right: vec![b, [1.0, 0.1], c],
+        top: vec![c, c, [0.7, 0.9], d, d],
+        left: vec![d, a],
+    };
+    for (n_u, n_v) in [(1, 1), (2, 3), (7, 5), (64, 1), (100, 65)] {
+        let points = mesh_tile_curves(&curves, n_u, n_v).unwrap().points;
+        let corners = [0, n_u, points.len() - 1, points.len() - 1 - n_u].map(|k| [points[k][0], points[k][1]]);
+        assert_eq!(corners.map(|p| p.map(f64::to_bits)), [a, b, c, d].map(|p| p.map(f64::to_bits)));
+    }
+}
+
+/// Where the two curves end apart, by a bit even, a corner peg may be neither point, and a coordinate -0 may become +0.
+#[test]
+fn corner_pegs_beside_the_stones() {
+    let lower_left = |start: Point, end: Point| {
+        let [b, c, d] = [[2.0, 0.0], [2.0, 1.0], [1.0, 1.0]];
+        let curves = BoundaryCurves { bottom: vec![start, b], right: vec![b, c], top: vec![c, d], left: vec![d, end] };
+        mesh_tile_curves(&curves, 1, 1).unwrap().points[0]
+    };
+    assert_eq!(lower_left([1.0000000000000002, 0.0], [1.0000000000000004, 0.0]), [1.0000000000000007, 0.0, 0.0]);
+    assert_eq!(lower_left([1.0, -0.0], [1.0, -0.0]).map(f64::to_bits), [1.0, 0.0, 0.0].map(f64::to_bits));
+}
+
+/// By a curve's last point two tiles come to another refusal than by a blend, which misses it where a curve runs far out.
+#[test]
+fn joins_by_the_last_point() {
+    let tile = |width: f64, bottom: Vec<Point>, right: Vec<Point>| {
+        let (corner, end) = ([width, 1.0], [0.0, 0.0]);
+        let curves = BoundaryCurves { bottom, right, top: vec![corner, [0.0, 1.0]], left: vec![[0.0, 1.0], end] };
+        coons_curves(&curves, 1, 1).map(|quads| quads.len()).map_err(|refusal| (refusal.number, refusal.first))
+    };
+    let far = f64::powi(2.0, 25);
+    assert_eq!(tile(0.1, vec![[0.0, 0.0], [0.1, 0.0]], vec![[0.1, 0.0], [far, 0.5], [0.1, 1.0]]), Ok(1));
+    let bottom = vec![[0.0, 0.0], [far, 0.0], [1.0, 0.0], [1.0 + 2e-9, 0.0]];
+    assert_eq!(tile(1.0, bottom, vec![[1.0, 0.0], [1.0, 1.0]]), Err((16, 0)));
 }
 
 /// An ideal may be so large that its first piece wins less than 1e-12, and then the count is 0 too, without a refusal.

@@ -5,3 +5,4 @@ pub mod Clear
 pub mod Demand
 pub mod Filling
 pub mod formula
+pub mod Stones

@@ -1,5 +1,6 @@
 -- The laws of the curves. Assumes nothing.
 pub mod Halving
+pub mod Ends
 pub mod Laws
 pub mod Near
 pub mod Cases

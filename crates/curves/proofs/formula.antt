@@ -8,4 +8,5 @@ pub mod Transfer
 pub mod Unrounded
 pub mod Edges
 pub mod Bound
+pub mod Corners
 pub mod Cases

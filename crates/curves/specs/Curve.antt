@@ -1,15 +1,16 @@
 -- 000's `ArcCurve`: "`ArcCurve::new` holds each point with the length run so far", "`at` clamps, halves down to a segment (equal goes right) and
--- blends as in 000", each operation rounded once; and what is refused of one curve. Assumes nothing.
-use mathlib.Core.Bool.{Bool, true, false, not, _&&_, cond}
+-- blends as in 000", each operation rounded once, but for the ends, which are the points that were given (02, item 12); and what is refused of one
+-- curve. Assumes nothing.
+use mathlib.Core.Bool.{Bool, true, false, not, _&&_, _||_, cond}
 use mathlib.Core.List.{List, [], _∷_}
 use Prim.Native.Nat.{ℕ, zero, suc, _+_, _-_, _*_, _/_}
 use lib.ListN.{length, getD}
 use lib.Dec.{ltb}
-use lib.Ieee.{Float, nan, binary64, add, sub, mul, div, lt, le}
+use lib.Ieee.{Float, nan, binary64, add, sub, mul, div, lt, le, eq}
 use Rattle.base.specs.declared.verdict.Verdict.{Verdict}
 use Rattle.base.specs.Refusal.{refused, then-test, refuse-if}
 use Rattle.base.specs.Answers.{Answer, good, turned-away}
-use Rattle.floats.specs.Scalar.{nought, is-finite, is-positive, clamp-unit}
+use Rattle.floats.specs.Scalar.{nought, one, is-finite, is-positive, clamp-unit}
 use Rattle.floats.specs.Root.{root}
 use Rattle.curves.specs.Point.{point}
 use Rattle.base.specs.Buffers.{concat-tabulate}
@@ -71,6 +72,10 @@ length-at c k = getD c (3 * k + 2) nan
 abbrev pub knot : ArcCurve → ℕ → Knot
 knot c k = record { x = getD c (3 * k) nan; y = getD c (3 * k + 1) nan; length = length-at c k }
 
+-- the knot's point, as it was given
+abbrev pub stored-point : ArcCurve → ℕ → Point
+stored-point c k = point (getD c (3 * k) nan) (getD c (3 * k + 1) nan)
+
 -- ---- a segment, and the blend of its two ends
 
 abbrev pub segment : ArcCurve → ℕ → Segment
@@ -83,7 +88,7 @@ toward p q f = point (add binary64 (p .x) (mul binary64 (sub binary64 (q .x) (p 
 abbrev pub span : Segment → Float
 span s = sub binary64 (s .end .length) (s .start .length)
 
--- "a last segment of length 0 yields its first point"
+-- of a segment of length 0, its first point
 unfoldable pub fraction : Segment → Float → Float
 unfolding sub div lt
 fraction s target = cond (lt nought (span s)) (div binary64 (sub binary64 target (s .start .length)) (span s)) nought
@@ -112,15 +117,30 @@ unfoldable pub segment-at : ArcCurve → Float → ℕ
 unfolding halve
 segment-at c target = let last = knot-count c - 1 in halve c target last (ltb 1 last) 0 last
 
--- the length to run to the clamped parameter t: a fraction of 000's `total`, which is the last knot's length
+-- the length to run to a clamped parameter: a fraction of 000's `total`, which is the last knot's length
 unfoldable pub target-of : ArcCurve → Float → Float
-unfolding mul clamp-unit
-target-of c t = mul binary64 (clamp-unit t) (getD c (length c - 1) nan)
+unfolding mul
+target-of c clamped = mul binary64 clamped (getD c (length c - 1) nan)
 
--- 000's `ArcCurve::at`
-unfoldable pub curve-at : ArcCurve → Float → Point
+-- "values between go as before": halved down to a segment, and blended
+unfoldable pub between : ArcCurve → Float → Point
 unfolding target-of segment-at blend
-curve-at c t = let target = target-of c t in blend (segment c (segment-at c target)) target
+between c clamped = let target = target-of c clamped in blend (segment c (segment-at c target)) target
+
+-- where a curve ends: at 0, of either sign, and at 1
+unfoldable pub at-end : Float → Bool
+unfolding eq
+at-end clamped = eq clamped nought || eq clamped one
+
+-- "the clamped parameter 0 now returns the first point and 1 the last, bit for bit"
+unfoldable pub end-point : ArcCurve → Float → Point
+unfolding eq
+end-point c clamped = cond (eq clamped nought) (stored-point c 0) (stored-point c (knot-count c - 1))
+
+-- 000's `ArcCurve::at`, with the two returns of 02's item 12 behind its clamp
+unfoldable pub curve-at : ArcCurve → Float → Point
+unfolding clamp-unit at-end end-point between
+curve-at c t = let clamped = clamp-unit t in cond (at-end clamped) (end-point c clamped) (between c clamped)
 
 -- and its refusal: "a curve point (..) stands in the good case", and a curve without a segment is 13, at its side
 unfoldable pub at-answer : ArcCurve → ℕ → Float → Answer Point

@@ -9,6 +9,7 @@ pub mod CoonsFormula
 pub mod Patch
 pub mod Quad
 pub mod Grid
+pub mod Stones
 pub mod Coons
 pub mod Lay
 pub mod Demand

@@ -1,22 +1,22 @@
 // A boundary curve: a polyline, sampled by the length run along it. Its points are lent as x, y in turn, at most 1,024 of them. A curve that is
-// made of them is a list of knots, each as x, y and the length run so far.
+// made of them is a list of knots, each as x, y and the length run so far. Its ends are the first and the last point that were lent, bit for bit.
 ghost use mathlib.Core.Path.{_≡_};
 ghost use mathlib.Core.Bool.{true};
-ghost use Prim.Native.Nat.{_+_, _*_, _<_, _≤_};
+ghost use Prim.Native.Nat.{_+_, _-_, _*_, _<_, _≤_};
 ghost use lib.ListN.{length};
 ghost use Rattle.base.specs.Refusal.{outcome};
 ghost use Rattle.base.specs.Buffers.{splice};
 ghost use Rattle.curves.specs.Point.{point-of};
-ghost use Rattle.curves.specs.Curve.{point-count, point-at, distance, total-length, arc-curve, knot-count, knot-values, length-at, knot, toward, span};
-ghost use Rattle.curves.specs.Curve.{fraction, blend, segment, segment-at, target-of, curve-at, at-answer, all-finite, total-test};
-ghost use Rattle.curves.specs.inner.Segments.{Sampled, InSegment, KnotsRoom, SoundLength, Measured};
+ghost use Rattle.curves.specs.Curve.{point-count, point-at, distance, total-length, arc-curve, knot-count, knot-values, length-at, knot, stored-point};
+ghost use Rattle.curves.specs.Curve.{toward, span, fraction, blend, segment, segment-at, target-of, curve-at};
+ghost use Rattle.curves.specs.Curve.{at-answer, all-finite, total-test};
+ghost use Rattle.curves.specs.inner.Segments.{Hinted, InSegment, KnotsRoom, SoundLength, Measured};
 use crate::limits::KNOT_SIZE;
 use crate::point::Point;
 use crate::point::PointAnswer;
 use base::refusal::Check;
 use base::refusal::Refusal;
 use floats::root::sqrt;
-use floats::scalar::clamp_unit;
 use floats::scalar::is_finite;
 use floats::scalar::is_positive;
 
@@ -194,15 +194,28 @@ fn length_at(curve: &[f64], k: usize) -> f64
     curve[i]
 }
 
-fn knot_at(curve: &[f64], k: usize) -> Knot
+// The point of a knot, as it was lent.
+fn stored_point(curve: &[f64], k: usize) -> Point
     requires { ⌜ 3 * k + 2 < length (now curve) ⌝ }
-    ensures { λ r. ⌜ r ≡ knot (now (curve .entry)) k ⌝ }
+    ensures { λ r. ⌜ r ≡ stored-point (now (curve .entry)) k ⌝ }
 {
     let i = KNOT_SIZE * k;
     let x = curve[i];
     let y = curve[i + 1];
-    let length = curve[i + 2];
-    Knot { x, y, length }
+    Point { x, y }
+}
+
+fn knot_at(curve: &[f64], k: usize) -> Knot
+    requires { ⌜ 3 * k + 2 < length (now curve) ⌝ }
+    ensures { λ r. ⌜ r ≡ knot (now (curve .entry)) k ⌝ }
+{
+    let p = stored_point(curve, k);
+    let length = length_at(curve, k);
+    Knot {
+        x: p.x,
+        y: p.y,
+        length,
+    }
 }
 
 // The number of the segment in which the length `target` lies, by halving; an equal length goes right.
@@ -243,7 +256,7 @@ fn in_segment(curve: &[f64], k: usize, target: f64) -> bool
 
 // The same segment, looked for at the hint `near` and on either side of it before halving: along a seam the next target lies close by.
 fn segment_near(curve: &[f64], target: f64, near: usize) -> usize
-    requires { ⌜ Sampled (now curve) ⌝ }
+    requires { ⌜ Hinted (now curve) near ⌝ }
     ensures { λ r. ⌜ r ≡ segment-at (now (curve .entry)) target ⌝ }
     ensures { λ r. ⌜ r + 1 < knot-count (now (curve .entry)) ⌝ }
 {
@@ -278,15 +291,14 @@ fn blend_at(curve: &[f64], k: usize, target: f64) -> Point
     segment.blend(target)
 }
 
-// The length at the fraction t of the curve, t clamped to 0..1.
+// The length at a fraction of the curve.
 fn length_along(curve: &[f64], t: f64) -> f64
     requires { ⌜ 2 ≤ knot-count (now curve) ⌝ }
     ensures { λ r. ⌜ r ≡ target-of (now (curve .entry)) t ⌝ }
 {
-    let clamped = clamp_unit(t);
     // that of the last knot
     let total = curve[curve.len() - 1];
-    clamped * total
+    t * total
 }
 
 // A point of the curve, with the number of its segment: a hint for the next one.
@@ -295,27 +307,53 @@ pub(crate) struct Located {
     pub(crate) segment: usize,
 }
 
-// The point at the fraction t of the curve's length, t clamped to 0..1. A good hint `near` spares the halving. The curve is one that has passed
-// its tests, so there is nothing to refuse: this is the innermost loop of a grid.
+// The ends of a curve are the points that were lent: a blend may miss them by a bit, and a last segment of length 0 by more.
+fn first_end(curve: &[f64]) -> Located
+    requires { ⌜ 2 ≤ knot-count (now curve) ⌝ }
+    ensures { λ r. ⌜ r .point ≡ stored-point (now (curve .entry)) 0 ⌝ }
+{
+    let point = stored_point(curve, 0);
+    Located { point, segment: 0 }
+}
+
+fn last_end(curve: &[f64]) -> Located
+    requires { ⌜ 2 ≤ knot-count (now curve) ⌝ }
+    ensures { λ r. ⌜ r .point ≡ stored-point (now (curve .entry)) (knot-count (now (curve .entry)) - 1) ⌝ }
+{
+    let last = curve.len() / KNOT_SIZE - 1;
+    let point = stored_point(curve, last);
+    Located {
+        point,
+        segment: last - 1,
+    }
+}
+
+// The point at the fraction t of the curve's length, t clamped to 0..1, which between 0 and 1 leaves it as it is. A good hint `near` spares the
+// halving; any number serves where no length is above the next, and one past the list is none. This is the innermost loop of a grid.
 pub(crate) fn curve_near(curve: &[f64], t: f64, near: usize) -> Located
-    requires { ⌜ Sampled (now curve) ⌝ }
+    requires { ⌜ Hinted (now curve) near ⌝ }
     ensures { λ r. ⌜ r .point ≡ curve-at (now (curve .entry)) t ⌝ }
 {
+    if t <= 0.0 {
+        return first_end(curve);
+    }
+    if 1.0 <= t {
+        return last_end(curve);
+    }
     let target = length_along(curve, t);
     let k = segment_near(curve, target, near);
     let point = blend_at(curve, k, target);
     Located { point, segment: k }
 }
 
-// 000's `at`: the same point of any list of knots, that of a side. Where they make no segment, the curve is refused (13).
+// 000's `at`: the point of any list of knots, that of a side, without a hint. Where they make no segment, the curve is refused (13).
 pub(crate) fn curve_at(curve: &[f64], side: u32, t: f64) -> PointAnswer
     ensures { λ r. ⌜ point-of r ≡ at-answer (now (curve .entry)) side t ⌝ }
 {
     if curve.len() / KNOT_SIZE < 2 {
         return PointAnswer::Refused(Refusal::CurveTooShort(side));
     }
-    let target = length_along(curve, t);
-    let k = segment_at(curve, target);
-    let p = blend_at(curve, k, target);
+    let at = curve_near(curve, t, curve.len());
+    let p = at.point;
     PointAnswer::At(p.x, p.y)
 }

@@ -1,6 +1,7 @@
 -- The laws of the scalars. Assumes nothing.
 pub mod Blends
 pub mod Constants
+pub mod Corner
 pub mod Epsilon
 pub mod Exact
 pub mod Finite

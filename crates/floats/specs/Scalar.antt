@@ -26,6 +26,10 @@ e-12 = ofBits binary64 0x3d71_9799_812d_ea11
 abbrev pub two-e-12 : Float
 two-e-12 = ofBits binary64 0x3d81_9799_812d_ea11
 
+-- 2^1023: what is below it in size can be doubled. No code has it, only claims on stones do.
+abbrev pub two-1023 : Float
+two-1023 = ofBits binary64 0x7fe0_0000_0000_0000
+
 -- ---- helpers
 
 unfoldable pub is-finite : Float → Bool

@@ -1,9 +1,9 @@
 // The version of the exported functions. include/juplatsk.h and rust/Cargo.toml say it too, and turn a caller away before a call of another
-// major or minor: these may take other arguments, or read lists, records or answers in another way; a patch is called and read as before.
-// Minor and patch stay below 100.
+// major or minor: these may take other arguments, read lists or records in another way, or answer otherwise; a patch is called and answers
+// as before. Minor and patch stay below 100.
 const MAJOR: u32 = 0;
 
-const MINOR: u32 = 4;
+const MINOR: u32 = 5;
 
 const PATCH: u32 = 0;
 

@@ -1,11 +1,12 @@
--- A curve of three points, the last two 2^-600 apart, worked out by the definition: the last segment has the length 0. Assumes nothing.
+-- Two curves worked out by the definition: one of three points, the last two 2^-600 apart, so that the last segment has the length 0; and one whose
+-- blend at 1 misses its last point. Assumes nothing.
 use mathlib.Core.Path.{_≡_, refl}
 use mathlib.Core.List.{List, [], _∷_}
 use lib.Ieee.{Float, binary64, ofBits}
 use Rattle.base.specs.Refusal.{passed}
 use Rattle.floats.specs.Scalar.{nought, half, one}
 use Rattle.curves.specs.Point.{point}
-use Rattle.curves.specs.Curve.{arc-curve, curve-at, curve-test}
+use Rattle.curves.specs.Curve.{point-at, arc-curve, between, curve-at, curve-test}
 
 -- 2^-600
 tiny : Float
@@ -22,7 +23,29 @@ middle : curve-at (arc-curve points) half ≡ point half nought
 unfolding ofBits curve-at arc-curve points tiny
 middle = refl
 
--- 01: "000 blends, and a last segment of length 0 yields its first point", here (1, 0) and not (1, 2^-600)
-end-blended : curve-at (arc-curve points) one ≡ point one nought
+-- the last point as it was given, and not (1, 0), which is what the blend of a segment of length 0 yields
+ends-there : curve-at (arc-curve points) one ≡ point one tiny
 unfolding ofBits curve-at arc-curve points tiny
-end-blended = refl
+ends-there = refl
+
+blend-misses : between (arc-curve points) one ≡ point one nought
+unfolding ofBits between arc-curve points tiny
+blend-misses = refl
+
+-- ---- Two points, (0.1, 0.7) and (0.3, -0.2). The blend at 1 misses the last one.
+
+abbrev slanted : List Float
+slanted =
+    ofBits binary64 0x3fb9_9999_9999_999a
+    ∷ ofBits binary64 0x3fe6_6666_6666_6666
+    ∷ ofBits binary64 0x3fd3_3333_3333_3333
+    ∷ ofBits binary64 0xbfc9_9999_9999_999a
+    ∷ []
+
+slanted-ends : curve-at (arc-curve slanted) one ≡ point-at slanted 1
+unfolding ofBits curve-at arc-curve
+slanted-ends = refl
+
+slanted-blend : between (arc-curve slanted) one ≡ point (ofBits binary64 0x3fd3_3333_3333_3333) (ofBits binary64 0xbfc9_9999_9999_9998)
+unfolding ofBits between arc-curve
+slanted-blend = refl

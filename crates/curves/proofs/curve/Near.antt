@@ -5,9 +5,10 @@ use Prim.Native.Nat.{ℕ, zero, suc, _+_, _-_, _/_, _<_, _≤_}
 use native.Mathlib.Omega.{arith}
 use borrow.Author.Tests.{ltb-true, ltb-false}
 use lib.Dec.{ltb}
+use lib.ListN.{length}
 use lib.Ieee.{Float, lt, le}
 use Rattle.curves.specs.Curve.{ArcCurve, knot-count, length-at, segment-at}
-use Rattle.curves.specs.inner.Segments.{Rising, Sampled, InSegment}
+use Rattle.curves.specs.inner.Segments.{Rising, Sampled, Hinted, InSegment}
 use Rattle.floats.proofs.scalar.Order.{le-le, lt-le, lt-not-le}
 use Rattle.curves.proofs.curve.Halving.{halved, whole, step-right, step-left, stop}
 
@@ -59,6 +60,13 @@ module _ (c : ArcCurve) (target : Float) (rises : Rising c) where
 
     found-whole : k ≡ segment-at c target
     found-whole = let h = inside .has-end in sym (found (knot-count c - 1) 0 (knot-count c - 1) (omega arith) (omega arith) (omega arith) (omega arith)) ∙ whole c target
+
+-- a hint in the list, and any hint
+pub usable : {c : ArcCurve} {near : ℕ} → Hinted c near → near < length c → Sampled c
+usable h l = record { two = h .two; rising = h .rising l }
+
+pub any-hint : {c : ArcCurve} {near : ℕ} → Sampled c → Hinted c near
+any-hint s = record { two = s .two; rising = λ l. s .rising }
 
 pub hinted : {c : ArcCurve} {target : Float} {k : ℕ} → Sampled c → InSegment c k target → k ≡ segment-at c target
 hinted {c} {target} {k} s inside = found-whole c target (s .rising) k inside

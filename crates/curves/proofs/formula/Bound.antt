@@ -15,7 +15,7 @@ use Rattle.curves.specs.Patch.{rounded, curves-of, coons-point, lerp2, c
 use Rattle.curves.specs.declared.point.Point.{Point}
 use Rattle.curves.proofs.formula.Unrounded.{Held}
 use Rattle.floats.proofs.scalar.Sums.{unit, CombinedWithin, Within, sub-within, second-off, first-off}
-use Rattle.curves.proofs.formula.Edges.{ColumnOrdinary, RowOrdinary, low-line, high-line, left-line, right-line, curve-held, line-held}
+use Rattle.curves.proofs.formula.Edges.{ColumnOrdinary, RowOrdinary, low-line, high-line, left-line, right-line, line-held}
 use Rattle.curves.proofs.formula.Edges.{at-bottom, at-top, back-on-bottom, back-on-right, back-on-top, back-on-left}
 
 pub record Finite (p : Point) : Type 0 where
@@ -50,24 +50,24 @@ beside-second n = record { x = first-off (n .x); y = first-off (n .y) }
 module _ {c : BoundaryCurves} {u : Float} (o : ColumnOrdinary c u) where
   pub off-bottom : Finite (coons-point c u nought)
       → Near (curve-at (c .bottom) u) (lerp2 u (curve-ends (c .left) .end) (curve-ends (c .right) .start)) (low-line c u) (coons-point c u nought)
-  off-bottom h = rw (at-bottom o) (near (curve-held (c .bottom) u) (line-held u _ _) (line-held u _ _) (rw (at-bottom o) at h))
+  off-bottom h = rw (at-bottom o) (near (o .bottom .held) (line-held u _ _) (line-held u _ _) (rw (at-bottom o) at h))
 
   pub off-top : Finite (coons-point c u one)
       → Near (curve-at (c .top) (sub binary64 one u)) (lerp2 u (curve-ends (c .left) .start) (curve-ends (c .right) .end)) (high-line c u) (coons-point c u one)
-  off-top h = rw (at-top o) (near (curve-held (c .top) (sub binary64 one u)) (line-held u _ _) (line-held u _ _) (rw (at-top o) at h))
+  off-top h = rw (at-top o) (near (o .top .held) (line-held u _ _) (line-held u _ _) (rw (at-top o) at h))
 
   module _ (j : Closed rounded (curves-of c)) where
     pub near-bottom : Finite (coons-point c u nought)
         → Beside (curve-at (c .bottom) u) (rounded .add (curve-at (c .bottom) u) (low-line c u)) (coons-point c u nought)
     near-bottom h =
         let e = back-on-bottom o j in
-        rw e (beside-first (near (curve-held (c .bottom) u) (line-held u _ _) (line-held u _ _) (rw e at h)))
+        rw e (beside-first (near (o .bottom .held) (line-held u _ _) (line-held u _ _) (rw e at h)))
 
     pub near-top : Finite (coons-point c u one)
         → Beside (curve-at (c .top) (sub binary64 one u)) (rounded .add (curve-at (c .top) (sub binary64 one u)) (high-line c u)) (coons-point c u one)
     near-top h =
         let e = back-on-top o j in
-        rw e (beside-first (near (curve-held (c .top) (sub binary64 one u)) (line-held u _ _) (line-held u _ _) (rw e at h)))
+        rw e (beside-first (near (o .top .held) (line-held u _ _) (line-held u _ _) (rw e at h)))
 
 -- ---- left and right
 
@@ -76,10 +76,10 @@ module _ {c : BoundaryCurves} {v : Float} (o : RowOrdinary c v) where
       → Beside (curve-at (c .left) (sub binary64 one v)) (rounded .add (left-line c v) (curve-at (c .left) (sub binary64 one v))) (coons-point c nought v)
   near-left h =
       let e = back-on-left o in
-      rw e (beside-second (near (line-held v _ _) (curve-held (c .left) (sub binary64 one v)) (line-held v _ _) (rw e at h)))
+      rw e (beside-second (near (line-held v _ _) (o .left .held) (line-held v _ _) (rw e at h)))
 
   pub near-right : Finite (coons-point c one v)
       → Beside (curve-at (c .right) v) (rounded .add (right-line c v) (curve-at (c .right) v)) (coons-point c one v)
   near-right h =
       let e = back-on-right o in
-      rw e (beside-second (near (line-held v _ _) (curve-held (c .right) v) (line-held v _ _) (rw e at h)))
+      rw e (beside-second (near (line-held v _ _) (o .right .held) (line-held v _ _) (rw e at h)))

@@ -1,47 +1,21 @@
 -- The rounded patch at its four sides. Blending at 0 and at 1 rounds nothing (Unrounded), so what is left of the formula there is one sum and one
 -- difference: the point of the curve, with a straight line added and taken off again. These two are all that is lost. Left and right come back so
 -- whether or not the curves are closed; bottom and top where they are, to the bit, and else two different lines are added and taken off. Asked of the
--- numbers is that none is NaN, infinite or -0. Assumes nothing.
+-- numbers is that binary64 holds them and that none is NaN, infinite or -0. Assumes nothing.
 use mathlib.Core.Path.{_≡_, refl, sym, _∙_}
 use lib.Ieee.{Float, binary64, sub, mul}
 use lib.Ieee.Fits.{add-fits}
 use Rattle.floats.specs.Scalar.{nought, one}
 use Rattle.curves.specs.CoonsFormula.{Closed}
-use Rattle.curves.specs.Curve.{ArcCurve, segment, segment-at, fraction, blend, target-of, curve-at}
+use Rattle.curves.specs.Curve.{ArcCurve, curve-at}
 use Rattle.curves.specs.Boundary.{BoundaryCurves, curve-ends}
 use Rattle.curves.specs.Patch.{rounded, curves-of, coons-point, lerp2, combined}
 use Rattle.curves.specs.declared.point.Point.{Point}
-use Rattle.curves.specs.declared.curve.Segment.{Segment}
 use Rattle.curves.proofs.patch.Laws.{in-steps}
 use Rattle.floats.proofs.scalar.Blends.{rest-nought, rest-one}
 use Rattle.curves.proofs.formula.Unrounded.{Held, Ordinary, lerp2-nought, lerp2-one}
 
--- ---- what binary64 holds: the sums that curves and blends end in
-
-segment-held : (s : Segment) (target : Float) → Held (blend s target)
-unfolding blend
-segment-held s target =
-    let f = fraction s target in
-    let p = s .start in
-    let q = s .end in
-    record {
-      x = add-fits binary64 (p .x) (mul binary64 (sub binary64 (q .x) (p .x)) f);
-      y = add-fits binary64 (p .y) (mul binary64 (sub binary64 (q .y) (p .y)) f);
-    }
-
-pub curve-held : (k : ArcCurve) (t : Float) → Held (curve-at k t)
-unfolding curve-at
-curve-held k t =
-    let target = target-of k t in
-    segment-held (segment k (segment-at k target)) target
-
-start-held : (k : ArcCurve) → Held (curve-ends k .start)
-unfolding curve-ends
-start-held k = curve-held k nought
-
-end-held : (k : ArcCurve) → Held (curve-ends k .end)
-unfolding curve-ends
-end-held k = curve-held k one
+-- ---- what binary64 holds: the sum that a blend ends in
 
 pub line-held : (t : Float) (a b : Point) → Held (lerp2 t a b)
 unfolding lerp2
@@ -54,18 +28,18 @@ line-held t a b =
 
 -- ---- the ends of a curve
 
-start-is : (k : ArcCurve) → curve-at k nought ≡ curve-ends k .start
+pub start-is : (k : ArcCurve) → curve-at k nought ≡ curve-ends k .start
 unfolding curve-ends
 start-is k = refl
 
-end-is : (k : ArcCurve) → curve-at k one ≡ curve-ends k .end
+pub end-is : (k : ArcCurve) → curve-at k one ≡ curve-ends k .end
 unfolding curve-ends
 end-is k = refl
 
-turned-start : (k : ArcCurve) → curve-at k (sub binary64 one one) ≡ curve-ends k .start
+pub turned-start : (k : ArcCurve) → curve-at k (sub binary64 one one) ≡ curve-ends k .start
 turned-start k = rw rest-one (start-is k)
 
-turned-end : (k : ArcCurve) → curve-at k (sub binary64 one nought) ≡ curve-ends k .end
+pub turned-end : (k : ArcCurve) → curve-at k (sub binary64 one nought) ≡ curve-ends k .end
 turned-end k = rw rest-nought (end-is k)
 
 -- ---- bottom and top
@@ -87,15 +61,15 @@ module _ (c : BoundaryCurves) (u : Float) where
 module _ {c : BoundaryCurves} {u : Float} (o : ColumnOrdinary c u) where
   pub at-bottom : coons-point c u nought ≡ combined (curve-at (c .bottom) u) (lerp2 u (curve-ends (c .left) .end) (curve-ends (c .right) .start)) (low-line c u)
   at-bottom =
-      let first = lerp2-nought (curve-held (c .bottom) u) (o .bottom) (o .top) in
-      let third = lerp2-nought (line-held u _ _) (o .low) (o .high) in
+      let first = lerp2-nought (o .bottom) (o .top) in
+      let third = lerp2-nought (o .low) (o .high) in
       in-steps c u nought ∙ rw (first, third, turned-end (c .left), start-is (c .right))
 
   pub at-top : coons-point c u one
       ≡ combined (curve-at (c .top) (sub binary64 one u)) (lerp2 u (curve-ends (c .left) .start) (curve-ends (c .right) .end)) (high-line c u)
   at-top =
-      let first = lerp2-one (curve-held (c .top) (sub binary64 one u)) (o .bottom) (o .top) in
-      let third = lerp2-one (line-held u _ _) (o .low) (o .high) in
+      let first = lerp2-one (o .bottom) (o .top) in
+      let third = lerp2-one (o .low) (o .high) in
       in-steps c u one ∙ rw (first, third, turned-start (c .left), end-is (c .right))
 
   -- where the curves are closed to the bit, one line is added and taken off
@@ -133,14 +107,14 @@ module _ (c : BoundaryCurves) (v : Float) where
 module _ {c : BoundaryCurves} {v : Float} (o : RowOrdinary c v) where
   pub back-on-left : coons-point c nought v ≡ combined (left-line c v) (curve-at (c .left) (sub binary64 one v)) (left-line c v)
   back-on-left =
-      let second = lerp2-nought (curve-held (c .left) (sub binary64 one v)) (o .left) (o .right) in
-      let low = lerp2-nought (start-held (c .bottom)) (o .bottom-start) (o .bottom-end) in
-      let high = lerp2-nought (end-held (c .top)) (o .top-end) (o .top-start) in
+      let second = lerp2-nought (o .left) (o .right) in
+      let low = lerp2-nought (o .bottom-start) (o .bottom-end) in
+      let high = lerp2-nought (o .top-end) (o .top-start) in
       in-steps c nought v ∙ rw (second, low, high, start-is (c .bottom), turned-end (c .top))
 
   pub back-on-right : coons-point c one v ≡ combined (right-line c v) (curve-at (c .right) v) (right-line c v)
   back-on-right =
-      let second = lerp2-one (curve-held (c .right) v) (o .left) (o .right) in
-      let low = lerp2-one (end-held (c .bottom)) (o .bottom-start) (o .bottom-end) in
-      let high = lerp2-one (start-held (c .top)) (o .top-end) (o .top-start) in
+      let second = lerp2-one (o .left) (o .right) in
+      let low = lerp2-one (o .bottom-start) (o .bottom-end) in
+      let high = lerp2-one (o .top-end) (o .top-start) in
       in-steps c one v ∙ rw (second, low, high, end-is (c .bottom), turned-start (c .top))

@@ -21,6 +21,11 @@ pub record Sampled (c : ArcCurve) : Type 0 where
   pub two : 2 ≤ knot-count c
   pub rising : Rising c
 
+-- one that can be asked with a hint: a number past the list is none, and then the lengths may be any
+pub record Hinted (c : ArcCurve) (near : ℕ) : Type 0 where
+  pub two : 2 ≤ knot-count c
+  pub rising : near < length c → Rising c
+
 -- the target lies in the segment k: no other one is found by halving, where the lengths rise
 pub record InSegment (c : ArcCurve) (k : ℕ) (target : Float) : Type 0 where
   pub has-end : k + 1 < knot-count c

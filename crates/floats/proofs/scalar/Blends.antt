@@ -10,7 +10,7 @@ use lib.Dec.{T, ltb, eqb}
 use lib.IntN.{ℤ, pos}
 use lib.Ieee.{Float, nan, inf, fin, Format, binary64, up, down, round, sum, add, sub, mul, fits, ofBits}
 use lib.Ieee.Fits.{down-pos, up-pos}
-use Rattle.floats.specs.Scalar.{nought, one}
+use Rattle.floats.specs.Scalar.{nought, one, is-finite}
 use Rattle.floats.proofs.scalar.Exact.{round-to}
 
 -- ---- times 0 and times 1
@@ -20,7 +20,7 @@ unfolding fits
 zero-fits f s = tt
 
 -- a zero of y's sign
-zero-times : (f : Format) (t : Bool) (n : ℕ) (d : ℤ) → mul f (fin false 0 (pos 0)) (fin t n d) ≡ fin t 0 (pos 0)
+pub zero-times : (f : Format) (t : Bool) (n : ℕ) (d : ℤ) → mul f (fin false 0 (pos 0)) (fin t n d) ≡ fin t 0 (pos 0)
 unfolding mul
 zero-times f false n d = round-to f false (0 * 1 * (n * up d)) (1 * down d) 0 (pos 0) (zero-fits f false) (mul-pos (omega arith) (down-pos d)) (simp zero-mul)
 zero-times f true n d = round-to f true (0 * 1 * (n * up d)) (1 * down d) 0 (pos 0) (zero-fits f true) (mul-pos (omega arith) (down-pos d)) (simp zero-mul)
@@ -57,6 +57,12 @@ ordinary nan = false
 ordinary (inf s) = false
 ordinary (fin s m e) = not (s && eqb m 0)
 
+pub ordinary-finite : (x : Float) → T (ordinary x) → T (is-finite x)
+unfolding is-finite
+ordinary-finite nan h = absurd h
+ordinary-finite (inf s) h = absurd h
+ordinary-finite (fin s m e) h = tt
+
 above-zero : (s : Bool) (m : ℕ) (e : ℤ) (a c : ℕ) → T (ordinary (fin s m e)) → 0 < c → a * down e ≡ m * up e * c → T s → 0 < a
 above-zero false m e a c p C h t = absurd t
 above-zero true zero e a c p C h t = absurd p
@@ -83,11 +89,11 @@ add-zero-left f s m e t g p =
 
 -- ---- between two values
 
-nought-is : nought ≡ fin false 0 (pos 0)
+pub nought-is : nought ≡ fin false 0 (pos 0)
 unfolding ofBits
 nought-is = refl
 
-one-is : one ≡ fin false 1 (pos 0)
+pub one-is : one ≡ fin false 1 (pos 0)
 unfolding ofBits
 one-is = refl
 
@@ -99,8 +105,9 @@ pub rest-one : sub binary64 one one ≡ nought
 unfolding sub ofBits
 rest-one = refl
 
-pub at-nought : (a b : Float) → T (fits binary64 a) → T (ordinary a) → T (ordinary b)
+pub at-nought : (a b : Float) → T (fits binary64 a) → T (ordinary a) → T (is-finite b)
     → add binary64 (mul binary64 (sub binary64 one nought) a) (mul binary64 nought b) ≡ a
+unfolding is-finite
 at-nought nan b g p q = absurd p
 at-nought (inf s) b g p q = absurd p
 at-nought (fin s m e) nan g p q = absurd q
@@ -108,8 +115,9 @@ at-nought (fin s m e) (inf t) g p q = absurd q
 at-nought (fin s m e) (fin t n d) g p q =
     rw rest-nought (simp (nought-is, one-is, one-times binary64 s m e g, zero-times binary64 t n d, add-zero-right binary64 s m e t g p))
 
-pub at-one : (a b : Float) → T (fits binary64 b) → T (ordinary a) → T (ordinary b)
+pub at-one : (a b : Float) → T (fits binary64 b) → T (is-finite a) → T (ordinary b)
     → add binary64 (mul binary64 (sub binary64 one one) a) (mul binary64 one b) ≡ b
+unfolding is-finite
 at-one nan b g p q = absurd p
 at-one (inf s) b g p q = absurd p
 at-one (fin s m e) nan g p q = absurd q

@@ -1,13 +1,13 @@
 -- The order of floats. Where neither is a NaN, `le` is the opposite of `lt` the other way round; so a value that lies between two bounds is finite,
--- and `le` goes on from one pair to the next. Assumes nothing.
-use mathlib.Core.Path.{_≡_, refl, sym, _∙_}
+-- `le` goes on from one pair to the next, and what is below is not equal. Assumes nothing.
+use mathlib.Core.Path.{_≡_, refl, sym, subst, _∙_}
 use mathlib.Core.Bool.{Bool, true, false, not, _&&_, _||_, and-true, or-not-self, Bool·not-not}
 use Prim.Native.Nat.{ℕ, zero, suc, _*_, _+_, _<_, _≤_}
 use native.Mathlib.Nat.{mul-pos, zero-mul, add-comm}
 use native.Mathlib.Omega.{arith}
 use borrow.Author.Tests.{ltb-true, ltb-false, le-ltb, eq-eqb, ne-eqb, eqb-true, not-true}
 use lib.Dec.{ltb, eqb}
-use lib.Ieee.{Float, nan, inf, fin, binary64, ofBits, add, neg, lt, le, below, level, isNan, up, down}
+use lib.Ieee.{Float, nan, inf, fin, binary64, ofBits, add, neg, lt, le, eq, below, level, isNan, up, down}
 use lib.Ieee.Fits.{down-pos}
 use lib.Ieee.Positive.{through}
 use Rattle.floats.specs.Scalar.{nought, one, e-9, is-finite, is-positive, in-unit}
@@ -166,7 +166,7 @@ le-known (inf s) (fin t n d) h = (refl, refl)
 le-known (fin s m e) (inf t) h = (refl, refl)
 le-known (fin s m e) (fin t n d) h = (refl, refl)
 
-le-not-lt : (x y : Float) → le x y ≡ true → lt y x ≡ false
+pub le-not-lt : (x y : Float) → le x y ≡ true → lt y x ≡ false
 le-not-lt x y h = let n = le-known x y h in not-true (lt y x) (sym (order x y (n .0) (n .1)) ∙ h)
 
 pub le-le : (x y z : Float) → le x y ≡ true → le y z ≡ true → le x z ≡ true
@@ -179,3 +179,61 @@ lt-le x y z h k = by-truth (lt x z) (λ e. e) (λ e. impossible (sym (not-below 
 
 pub lt-not-le : (x y : Float) → lt x y ≡ true → le y x ≡ false
 lt-not-le x y h = by-truth (le y x) (λ e. impossible (sym (le-not-lt y x e) ∙ h)) (λ e. e)
+
+pub lt-is-le : (x y : Float) → lt x y ≡ true → le x y ≡ true
+unfolding le
+lt-is-le x y h = rw h refl
+
+-- ---- equality
+
+level-sym : (s t : Bool) (a b : ℕ) → level s a t b ≡ true → level t b s a ≡ true
+level-sym s t a b h = go (eqb a b) refl
+  where
+    turned : (s t : Bool) (a : ℕ) → level s a t a ≡ level t a s a
+    turned false false a = refl
+    turned false true a = refl
+    turned true false a = refl
+    turned true true a = refl
+
+    go : (e : Bool) → eqb a b ≡ e → level t b s a ≡ true
+    go true e =
+        let k = eqb-true a b e in
+        subst (λ (z : ℕ). level t z s a ≡ true) k (sym (turned s t a) ∙ subst (λ (z : ℕ). level s a t z ≡ true) (sym k) h)
+    go false e = impossible (rw e at h)
+
+pub eq-sym : (x y : Float) → eq x y ≡ true → eq y x ≡ true
+unfolding eq
+eq-sym nan y h = impossible h
+eq-sym (inf s) nan h = impossible h
+eq-sym (fin s m e) nan h = impossible h
+eq-sym (inf s) (fin t n d) h = impossible h
+eq-sym (fin s m e) (inf t) h = impossible h
+eq-sym (inf false) (inf false) h = refl
+eq-sym (inf false) (inf true) h = impossible h
+eq-sym (inf true) (inf false) h = impossible h
+eq-sym (inf true) (inf true) h = refl
+eq-sym (fin s m e) (fin t n d) h = level-sym s t (m * up e * down d) (n * up d * down e) h
+
+-- what is at most and not below is equal
+pub eq-by-le : (x y : Float) → le x y ≡ true → lt x y ≡ false → eq x y ≡ true
+unfolding le
+eq-by-le x y h k = rw k at h
+
+neither : (p q : Bool) → p || q ≡ false → q ≡ false
+neither false q h = h
+neither true q h = impossible (sym h)
+
+-- what is above is not equal
+pub lt-not-eq : (x y : Float) → lt x y ≡ true → eq y x ≡ false
+unfolding le
+lt-not-eq x y h = neither (lt y x) (eq y x) (lt-not-le x y h)
+
+pub eq-is-le : (x y : Float) → eq x y ≡ true → le x y ≡ true
+unfolding le
+eq-is-le x y h = by-truth (lt x y) (λ e. rw e refl) (λ e. rw (e, h) refl)
+
+pub eq-trans : (x y z : Float) → eq x y ≡ true → eq y z ≡ true → eq x z ≡ true
+eq-trans x y z h k =
+    let on = le-le x y z (eq-is-le x y h) (eq-is-le y z k) in
+    let back = le-le z y x (eq-is-le z y (eq-sym y z k)) (eq-is-le y x (eq-sym x y h)) in
+    eq-by-le x z on (le-not-lt z x back)

@@ -3,6 +3,7 @@ use mathlib.Core.Path.{sym}
 use native.Mathlib.Omega.{arith}
 use lib.Seq.{length-take-le}
 use Rattle.curves.specs.inner.Columns.{column-at}
+use Rattle.curves.proofs.curve.Near.{any-hint}
 use borrow.Author.Needs.{needs}
 use Rattle.curves.proofs.patch.column_at.Statement.{statement}
 use Rattle.curves.proofs.patch.column_at.Tie as tie
@@ -21,6 +22,6 @@ pub column-at-spec : {M : Type 1} → statement M
 column-at-spec =
     tie.close
     (tie.spec
-    (λ c. search needs) slice-aggregate-curve-near (λ c κs. search needs) (λ c. search needs) (λ c. search needs) (λ c. search needs)
-    (λ c. search needs) (λ c. search needs) (λ c. search needs) (λ c κs. search needs) (λ c. search needs) (λ c κs. search needs)
+    (λ c. search needs) slice-aggregate-curve-near (λ c κs. any-hint (search needs)) (λ c. search needs) (λ c. search needs) (λ c. search needs)
+    (λ c. search needs) (λ c. search needs) (λ c. search needs) (λ c κs. any-hint (search needs)) (λ c. search needs) (λ c κs. search needs)
     (λ c κs. search needs) returns)
