@@ -51,11 +51,11 @@ pub fn all() -> Cases {
 
 /// An input of all functions of geometry.
 #[derive(Clone)]
-struct Input {
+pub struct Input {
     /// By side number, each from the corner where the one before ends.
-    curves: [Flat; 4],
+    pub curves: [Flat; 4],
     /// Seams, or lay's breaks, by side number.
-    seams: [Vec<f64>; 4],
+    pub seams: [Vec<f64>; 4],
     n_u: u32,
     n_v: u32,
     record: Vec<u16>,
@@ -72,7 +72,7 @@ const LENT: usize = 64;
 
 impl Input {
     /// A bent tile of 2 by 2 cells with slanted seams; as a region, each side has two edges of count 1.
-    fn good() -> Input {
+    pub fn good() -> Input {
         Input {
             curves: [
                 vec![0.0, 0.0, 2.0, -0.5, 4.0, 0.0],
@@ -101,12 +101,12 @@ impl Input {
         Input { curves: [curve(0), curve(1), curve(2), curve(3)], ..Input::good() }
     }
 
-    fn cells(mut self, n_u: u32, n_v: u32) -> Input {
+    pub fn cells(mut self, n_u: u32, n_v: u32) -> Input {
         (self.n_u, self.n_v) = (n_u, n_v);
         self
     }
 
-    fn seams(mut self, bottom: &[f64], top: &[f64], left: &[f64], right: &[f64]) -> Input {
+    pub fn seams(mut self, bottom: &[f64], top: &[f64], left: &[f64], right: &[f64]) -> Input {
         self.seams = [bottom.to_vec(), right.to_vec(), top.to_vec(), left.to_vec()];
         self
     }
@@ -136,7 +136,7 @@ impl Input {
         }
     }
 
-    fn coons_from_parameters(self) -> Result<Case, String> {
+    pub fn coons_from_parameters(self) -> Result<Case, String> {
         let cells = |seam: &Vec<f64>| if seam.len() > limits::SEAM { 2 } else { seam.len().max(1) - 1 };
         let [needed, ..] = grids::needed(cells(&self.seams[0]), cells(&self.seams[3]));
         let out = needed.saturating_add_signed(self.room);
@@ -144,7 +144,7 @@ impl Input {
         grids::grid(Source::Parameters(self.curves, Seams { bottom, top, left, right }), out)
     }
 
-    fn coons_curves(self) -> Result<Case, String> {
+    pub fn coons_curves(self) -> Result<Case, String> {
         let [out, ..] = self.even_lent();
         grids::grid(Source::Even(Boundary::Curves(self.curves), self.n_u, self.n_v), out)
     }
@@ -155,7 +155,7 @@ impl Input {
     }
 
     /// The output has room for just the cells that the counts ask for on the bottom and the left.
-    fn lay(self) -> Result<Case, String> {
+    pub fn lay(self) -> Result<Case, String> {
         let sum = |side: usize| -> usize {
             let start = side * limits::SIDE;
             let edges = self.record.get(start).map_or(0, |&edges| usize::from(edges).min(limits::SIDE_EDGES));
@@ -174,7 +174,7 @@ impl Input {
         grids::tile(boundary, self.n_u, self.n_v, points, cells)
     }
 
-    fn mesh_tile_curves(self) -> Result<Case, String> {
+    pub fn mesh_tile_curves(self) -> Result<Case, String> {
         let boundary = Boundary::Curves(self.curves.clone());
         self.mesh(boundary)
     }
@@ -185,14 +185,14 @@ impl Input {
     }
 
     /// Every function but lay.
-    fn everywhere(self) -> Cases {
+    pub fn everywhere(self) -> Cases {
         let mut cases = self.clone().on_curves()?;
         cases.push(self.clone().coons_checked()?);
         cases.push(self.mesh_tile()?);
         Ok(cases)
     }
 
-    fn on_curves(self) -> Cases {
+    pub fn on_curves(self) -> Cases {
         Ok(vec![self.clone().coons_from_parameters()?, self.clone().coons_curves()?, self.mesh_tile_curves()?])
     }
 }

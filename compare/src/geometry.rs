@@ -1,10 +1,12 @@
-//! The operations of root, curves, grid and mesh. Refusal 1 comes first in 01's order and is not the Rust's; the rest is.
+//! The operations of root, curves, grid and mesh. Refusal 1 comes first in 01's order and is not the Rust's; the rest is. Curves, grids and
+//! meshes are asked of the Rust whose curves end on their stones (02, item 12), crossings of the unchanged one.
 
+use crate::blended;
 use crate::limits;
 use crate::mesh::Mesh;
-use crate::reach::{self, BoundaryCurves};
 use crate::refusal::{of_curve, of_geometry, refused, unknown, Stop};
-use crate::simons_qgp;
+use crate::simons_qgp_stones;
+use crate::stones::{self, BoundaryCurves};
 
 /// Points as x, y in turn.
 pub type Flat = Vec<f64>;
@@ -64,12 +66,12 @@ fn check_cells(n_u: u32, n_v: u32) -> Result<(), Stop> {
 
 pub fn at(curve: &Flat, parameter: f64) -> Result<[f64; 2], Stop> {
     let points = points(curve, limits::CURVE_POINTS)?;
-    reach::check_curve(&points).map_err(|m| of_curve(&m, 0))?;
-    reach::at(&points, parameter).map_err(|m| unknown(&m))
+    stones::check_curve(&points).map_err(|m| of_curve(&m, 0))?;
+    stones::at(&points, parameter).map_err(|m| unknown(&m))
 }
 
 pub fn intersection(a: f64, b: f64, c: f64, d: f64) -> Result<(f64, f64), Stop> {
-    reach::intersection(a, b, c, d).map_err(|m| crossing(&m, 0, 0))
+    blended::intersection(a, b, c, d).map_err(|m| crossing(&m, 0, 0))
 }
 
 fn crossing(message: &str, i: u32, j: u32) -> Stop {
@@ -86,7 +88,7 @@ fn crossing(message: &str, i: u32, j: u32) -> Stop {
 fn of_grid(message: &str, curves: &BoundaryCurves) -> Stop {
     if message.contains("boundary curve ") {
         let sides = [&curves.bottom, &curves.right, &curves.top, &curves.left];
-        let first = (0..).zip(sides).find_map(|(side, curve)| reach::check_curve(curve).err().map(|m| of_curve(&m, side)));
+        let first = (0..).zip(sides).find_map(|(side, curve)| stones::check_curve(curve).err().map(|m| of_curve(&m, side)));
         return first.unwrap_or_else(|| unknown(message));
     }
     of_geometry(message)
@@ -96,7 +98,7 @@ fn of_grid(message: &str, curves: &BoundaryCurves) -> Stop {
 fn first_crossing(seams: &Seams) -> Option<Stop> {
     for (j, (&a, &b)) in (0..).zip(seams.left.iter().zip(&seams.right)) {
         for (i, (&c, &d)) in (0..).zip(seams.bottom.iter().zip(&seams.top)) {
-            if let Err(message) = reach::intersection(a, b, c, d) {
+            if let Err(message) = blended::intersection(a, b, c, d) {
                 return Some(crossing(&message, i, j));
             }
         }
@@ -109,7 +111,7 @@ fn grid(quads: Vec<[[f64; 2]; 4]>) -> Grid {
 }
 
 fn tile(mesh: &Mesh) -> Tile {
-    let (points, cells) = reach::flat_mesh(mesh);
+    let (points, cells) = stones::flat_mesh(mesh);
     Tile { quads: mesh.cells.len(), points, cells }
 }
 
@@ -119,7 +121,7 @@ pub fn coons_from_parameters(flat: &[Flat; 4], seams: &Seams) -> Result<Grid, St
     if lists.iter().any(|seam| seam.len() > limits::SEAM) {
         return Err(Stop::Undecided(1));
     }
-    simons_qgp::coons_from_parameters(&curves, &seams.bottom, &seams.top, &seams.left, &seams.right).map(grid).map_err(|m| {
+    simons_qgp_stones::coons_from_parameters(&curves, &seams.bottom, &seams.top, &seams.left, &seams.right).map(grid).map_err(|m| {
         if m.contains("logical grid lines") {
             first_crossing(seams).unwrap_or_else(|| unknown(&m))
         } else {
@@ -131,13 +133,13 @@ pub fn coons_from_parameters(flat: &[Flat; 4], seams: &Seams) -> Result<Grid, St
 pub fn coons_curves(flat: &[Flat; 4], n_u: u32, n_v: u32) -> Result<Grid, Stop> {
     let curves = curves(flat)?;
     check_cells(n_u, n_v)?;
-    simons_qgp::coons_curves(&curves, n_u as usize, n_v as usize).map(grid).map_err(|m| of_grid(&m, &curves))
+    simons_qgp_stones::coons_curves(&curves, n_u as usize, n_v as usize).map(grid).map_err(|m| of_grid(&m, &curves))
 }
 
 pub fn mesh_tile_curves(flat: &[Flat; 4], n_u: u32, n_v: u32) -> Result<Tile, Stop> {
     let curves = curves(flat)?;
     check_cells(n_u, n_v)?;
-    simons_qgp::mesh_tile_curves(&curves, n_u as usize, n_v as usize).map(|m| tile(&m)).map_err(|m| of_grid(&m, &curves))
+    simons_qgp_stones::mesh_tile_curves(&curves, n_u as usize, n_v as usize).map(|m| tile(&m)).map_err(|m| of_grid(&m, &curves))
 }
 
 /// The curves of a loop, for the place of a refusal; a loop that is itself refused has none, and needs none.
@@ -148,11 +150,11 @@ fn loop_curves(points: &[[f64; 2]]) -> BoundaryCurves {
 pub fn coons_checked(flat: &Flat, n_u: u32, n_v: u32) -> Result<Grid, Stop> {
     let points = points(flat, limits::LOOP_POINTS)?;
     check_cells(n_u, n_v)?;
-    simons_qgp::coons_checked(&points, n_u as usize, n_v as usize).map(grid).map_err(|m| of_grid(&m, &loop_curves(&points)))
+    simons_qgp_stones::coons_checked(&points, n_u as usize, n_v as usize).map(grid).map_err(|m| of_grid(&m, &loop_curves(&points)))
 }
 
 pub fn mesh_tile(flat: &Flat, n_u: u32, n_v: u32) -> Result<Tile, Stop> {
     let points = points(flat, limits::LOOP_POINTS)?;
     check_cells(n_u, n_v)?;
-    simons_qgp::mesh_tile(&points, n_u as usize, n_v as usize).map(|m| tile(&m)).map_err(|m| of_grid(&m, &loop_curves(&points)))
+    simons_qgp_stones::mesh_tile(&points, n_u as usize, n_v as usize).map(|m| tile(&m)).map_err(|m| of_grid(&m, &loop_curves(&points)))
 }

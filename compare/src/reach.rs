@@ -1,9 +1,8 @@
-//! A module inside the published `simons_qgp`, so that its private functions and fields can be named here. It adds no rule of its own
-//! but the two that 01 adds to the Rust: a limit that is set, also in a solve (02, item 5), and the mark that a search was cut.
+//! A module inside the published `simons_qgp`, so that its private functions and fields of the solver can be named here. It adds no rule of
+//! its own but the two that 01 adds to the Rust: a limit that is set, also in a solve (02, item 5), and the mark that a search was cut.
 
 use super::*;
 
-pub use super::BoundaryCurves;
 pub use super::Region;
 
 /// Edges with their changes, in the order of the reading.
@@ -165,26 +164,6 @@ pub fn solve_effort(regions: &[Region], ideals: &[f64], limit: usize, most: usiz
         }
     }
     total
-}
-
-/// `ArcCurve::new`, for its refusals.
-pub fn check_curve(points: &[[f64; 2]]) -> Result<(), String> {
-    ArcCurve::new(points).map(|_| ())
-}
-
-pub fn at(points: &[[f64; 2]], parameter: f64) -> Result<[f64; 2], String> {
-    ArcCurve::new(points)?.at(parameter)
-}
-
-pub fn intersection(a: f64, b: f64, c: f64, d: f64) -> Result<(f64, f64), String> {
-    logical_intersection(a, b, c, d)
-}
-
-/// A mesh as flat lists: x, y, z of each point, four indices of each cell.
-pub fn flat_mesh(mesh: &Mesh) -> (Vec<f64>, Vec<usize>) {
-    let points = mesh.points.iter().flatten().copied().collect();
-    let cells = mesh.cells.iter().flat_map(|cell| cell.nodes.iter().copied()).collect();
-    (points, cells)
 }
 
 /// A round as `solve_counts` makes it, with the graph built for it: the cost of the move made.

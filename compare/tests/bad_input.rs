@@ -1,5 +1,6 @@
 //! Bad input to the tools: a clear error that names the line, a non-zero exit, no panic.
 
+use compare::landed::{Changed, PassedOver, LANDED};
 use compare::limits::SIDE_EDGES;
 use compare::stored::Case;
 use compare::vector;
@@ -186,4 +187,93 @@ fn broken_vectors() {
         std::fs::remove_file(&path).expect("the temporary file");
         complains(&output, words);
     }
+}
+
+// ------------------------------------------------------------------------------------------------------------------------------------
+// Vectors that do not hold today
+// ------------------------------------------------------------------------------------------------------------------------------------
+
+/// Whether a vector with these words about it holds, and how many were passed over as changed and as not applying.
+fn holds(list: &str, words: &str) -> Result<(bool, usize, usize), String> {
+    let (mut changed, mut passed_over) = (Changed::default(), PassedOver::default());
+    changed.add(list)?;
+    let holds = changed.holds(&format!("{{{words}\"fn\":\"at\"}}"), &mut passed_over)?;
+    Ok((holds, passed_over.changed, passed_over.not_applying))
+}
+
+/// By its id only under an item that has landed; by `from` and `until`.
+#[test]
+fn vectors_of_today() {
+    assert_eq!(LANDED, [5, 7, 9, 12, 13]);
+    let list = "{\n\"item 2\": [\n\"a\"\n],\n\"item 12\": [\"b\", \"c\"]\n}";
+    let (kept, changed, not_applying) = (Ok((true, 0, 0)), Ok((false, 1, 0)), Ok((false, 0, 1)));
+    assert_eq!(holds(list, ""), kept);
+    assert_eq!(holds(list, "\"id\":7,"), kept);
+    assert_eq!(holds(list, "\"id\":\"a\","), kept);
+    assert_eq!(holds(list, "\"id\":\"c\","), changed);
+    assert_eq!(holds(list, "\"id\":\"c\",\"from\":[2],"), changed);
+    assert_eq!(holds("{}", "\"id\":\"c\","), kept);
+    for (items, expected) in [
+        ("\"from\":[],\"until\":[],\"either\":[12],", &kept),
+        ("\"from\":[9,12],\"until\":[2],", &kept),
+        ("\"from\":[2,9,12],\"until\":[],", &not_applying),
+        ("\"from\":[9],\"until\":[12],", &not_applying),
+        ("\"from\":[9],\"either\":[2],", &kept),
+    ] {
+        assert_eq!(holds(list, items), *expected, "{items}");
+    }
+    assert!(holds("{}", "\"from\":9,").is_err());
+    assert!(holds("{}", "\"until\":[\"9\"],").is_err());
+}
+
+/// The file of this name with this text, as long as `run` takes.
+fn with_file<T>(name: &str, text: &str, run: impl FnOnce(&str) -> T) -> T {
+    let path = std::env::temp_dir().join(format!("compare-{}-{name}", std::process::id()));
+    std::fs::write(&path, text).expect("a temporary file");
+    let done = run(&path.to_string_lossy());
+    std::fs::remove_file(&path).expect("the temporary file");
+    done
+}
+
+#[test]
+fn bad_lists() {
+    complains(&stored(&["unwritten", "tests/no-such-file.json"]), "tests/no-such-file.json");
+    let bad = [
+        ("list", "[]\n", "a list of changed vectors has them by item"),
+        ("item", "{\"12\": []}", "`12` is no item of 02"),
+        ("number", "{\"item twelve\": []}", "`item twelve` is no item of 02"),
+        ("ids", "{\"item 2\": [5]}", "Number(5) is no text"),
+        ("open", "{\"item 12\": [\"a\"", "cut off"),
+    ];
+    for (name, text, words) in bad {
+        complains(&with_file(&format!("{name}.json"), text, |path| stored(&["unwritten", path])), words);
+    }
+}
+
+/// A vector that is wrong is passed over if a list has it, wherever the list stands; and its function is then not asked for.
+#[test]
+fn stored_passes_over() {
+    let wrong =
+        "{\"id\":\"a\",\"fn\":\"root\",\"in\":{\"x\":\"4010000000000000\"},\"out\":{\"refusal\":0,\"root\":\"4010000000000000\"}}\n";
+    let later = "{\"id\":\"b\",\"fn\":\"lay_farm\",\"from\":[1],\"until\":[],\"in\":{},\"out\":{}}\n";
+    let broken = "{\"id\":\"c\",\"fn\":\"rot\",\"in\":{},\"out\":{}}\n";
+    let run = |item: u32| {
+        with_file(&format!("item-{item}.json"), &format!("{{\"item {item}\": [\"a\"]}}"), |list| {
+            // The last line ends the run, so that no file is written.
+            with_file(&format!("item-{item}.jsonl"), &[wrong, later, broken].concat(), |vectors| stored(&["unwritten", vectors, list]))
+        })
+    };
+    complains(&run(12), "line 3: `rot` is no function");
+    let fewer = |item: u32| {
+        with_file(&format!("less-{item}.json"), &format!("{{\"item {item}\": [\"a\"]}}"), |list| {
+            with_file(&format!("less-{item}.jsonl"), &[wrong, later].concat(), |vectors| {
+                stored(&["unwritten", list, vectors, "tests/none"])
+            })
+        })
+    };
+    let output = fewer(12);
+    complains(&output, "tests/none");
+    let said = String::from_utf8_lossy(&output.stdout);
+    assert!(said.contains("0 vectors, 0 left out as too slow; 0 of inner functions; 1 changed by 02; 1 do not apply"), "{said}");
+    complains(&fewer(2), "line 1: the vector says");
 }

@@ -2,11 +2,12 @@
 #![cfg(feature = "library")]
 
 use compare::farm::record;
+use compare::grids::{Boundary, Grid, Source, Tile};
 use compare::limits::{RECORD, SIDE_EDGES};
 use compare::stored::Case;
 use compare::together::call::{difference, Call, Spacing, Step};
 use compare::together::{expected, line, turned};
-use compare::{former, generate_limits, generate_ranges, generate_turned};
+use compare::{former, generate_limits, generate_ranges, generate_stones, generate_turned};
 use std::process::{Command, Output};
 
 fn replay(arguments: &[&str]) -> Output {
@@ -60,6 +61,33 @@ fn differences() {
     for (name, line, words) in changed {
         complains(&replayed(name, format!("{ROOT}\n{line}\n").as_bytes()), words);
     }
+}
+
+/// Vectors that are listed as changed by an item that has landed, or do not apply by their own items, are passed over and counted.
+#[test]
+fn passed_over() {
+    let wrong = ROOT.replace("\"4000000000000000\"", "\"4000000000000001\"");
+    let later = wrong.replace("\"id\":\"a\"", "\"id\":\"b\",\"from\":[2,9],\"until\":[]");
+    let ended = wrong.replace("\"id\":\"a\"", "\"id\":\"c\",\"from\":[],\"until\":[12]").replace("root", "rot");
+    let now = ROOT.replace("\"id\":\"a\"", "\"id\":\"d\",\"from\":[9,12],\"until\":[2]");
+    let temporary = |name: &str| std::env::temp_dir().join(format!("together-{}-{name}", std::process::id()));
+    let run = |item: u32| {
+        let (list, vectors) = (temporary(&format!("{item}.json")), temporary(&format!("{item}.jsonl")));
+        std::fs::write(&list, format!("{{\"item {item}\": [\"a\"]}}")).expect("a temporary file");
+        std::fs::write(&vectors, format!("{wrong}\n{later}\n{ended}\n{now}\n")).expect("a temporary file");
+        let output = replay(&[&vectors.to_string_lossy(), &list.to_string_lossy()]);
+        complains(&replay(&[&list.to_string_lossy()]), "usage");
+        for path in [list, vectors] {
+            std::fs::remove_file(path).expect("the temporary file");
+        }
+        output
+    };
+    let output = run(12);
+    assert_eq!(output.status.code(), Some(0));
+    let said = String::from_utf8_lossy(&output.stdout);
+    assert!(said.contains("1 as expected, 0 different") && said.contains("; 1 changed by 02; 2 do not apply"), "{said}");
+    complains(&run(2), "1 as expected, 1 different, 0 of inner functions, which are not exported; 2 do not apply");
+    complains(&replay(&["tests/no-such-file.json"]), "tests/no-such-file.json");
 }
 
 /// A vector may say how many places a side has: as many as here, or as before, when it is repacked.
@@ -157,10 +185,10 @@ fn written_limits() {
     }
 }
 
-/// The generated cases of ranges, of limits and of turned sheets, which `scale` does not make.
+/// The generated cases of ranges, of limits, of turned sheets and of stones, which `scale` does not make, or not all.
 #[test]
 fn generated() {
-    let cases = [generate_ranges::all(), generate_limits::all(), generate_turned::all()];
+    let cases = [generate_ranges::all(), generate_limits::all(), generate_turned::all(), generate_stones::all()];
     for case in cases.into_iter().flat_map(|cases| cases.expect("the oracle and the model answer")) {
         let call = match case {
             Case::Solve(c) => Call::Solve { regions: c.records, spacing: c.spacing, counts: c.before, limit: c.limit },
@@ -170,10 +198,25 @@ fn generated() {
                 Call::Rounds { regions: c.records, counts: c.before, steps }
             }
             Case::Hold(c) => Call::Hold { regions: c.records, counts: c.counts },
+            Case::Grid(c) => grid(c),
+            Case::Tile(Tile { boundary, n_u, n_v, lent_points: points, lent_cells: indices, .. }) => match boundary {
+                Boundary::Curves(curves) => Call::MeshCurves { curves, cells: [n_u, n_v], points, indices },
+                Boundary::Loop(boundary) => Call::Mesh { boundary, cells: [n_u, n_v], points, indices },
+            },
             other => panic!("{} is not generated here", other.operation()),
         };
         let effects = expected::effects(&call).expect("the oracle and the model answer");
         assert_eq!(difference(&effects, &call.made()), None, "{call:?}");
+    }
+}
+
+fn grid(case: Grid) -> Call {
+    let out = case.lent;
+    match case.source {
+        Source::Parameters(curves, s) => Call::FromParameters { curves, seams: [s.bottom, s.right, s.top, s.left], out },
+        Source::Even(Boundary::Curves(curves), n_u, n_v) => Call::Curves { curves, cells: [n_u, n_v], out },
+        Source::Even(Boundary::Loop(boundary), n_u, n_v) => Call::Checked { boundary, cells: [n_u, n_v], out },
+        Source::Lay(r) => Call::Lay { record: r.record, counts: r.counts, breaks: r.breaks, curves: r.curves, out },
     }
 }
 

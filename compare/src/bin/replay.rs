@@ -1,6 +1,8 @@
 //! replay FILES..: runs the vectors of the files through this library's exported functions; prints each that differs. A case on a turned
-//! sheet is held against the case before it too. Exit status 0 only if none differs.
+//! sheet is held against the case before it too. A file whose name ends in `.json` lists vectors that an item of 02 changed: these are
+//! passed over, as are those that do not apply by their items. Exit status 0 only if none differs.
 
+use compare::landed::{self, Changed, PassedOver};
 use compare::together::line::Line;
 use compare::together::{call, check_version, line, turned};
 use compare::tool::ended;
@@ -13,27 +15,32 @@ fn main() -> ExitCode {
 
 fn run() -> Result<(), String> {
     check_version()?;
-    let files: Vec<String> = env::args().skip(1).collect();
+    let (files, changed) = landed::files(env::args().skip(1))?;
     if files.is_empty() {
         return Err("usage: replay FILES..    (files in the format of the vectors; README.md says more)".to_string());
     }
-    match files.iter().map(|path| replay(path)).sum::<Result<usize, String>>()? {
+    match files.iter().map(|path| replay(path, &changed)).sum::<Result<usize, String>>()? {
         0 => Ok(()),
         different => Err(format!("{different} differ")),
     }
 }
 
 /// The number of cases that differ.
-fn replay(path: &str) -> Result<usize, String> {
+fn replay(path: &str, changed: &Changed) -> Result<usize, String> {
     let bytes = fs::read(path).map_err(|e| format!("{path}: {e}"))?;
     let text = String::from_utf8(bytes).map_err(|_| format!("{path}: this is no text"))?;
     if !text.ends_with('\n') {
         return Err(format!("{path}: cut off: the last line has no end"));
     }
     let (mut same, mut inner, mut different, mut of_turned) = (0, 0, 0, 0);
+    let mut passed_over = PassedOver::default();
     let mut before = None;
     for (number, text) in (1..).zip(text.lines()) {
         let told = |problem| format!("{path}, line {number}: {problem}");
+        if !changed.holds(text, &mut passed_over).map_err(told)? {
+            before = None;
+            continue;
+        }
         let line = line::read(text).map_err(told)?;
         of_turned += usize::from(is_turned(before.as_ref(), &line).map_err(told)?);
         match &line.case {
@@ -49,7 +56,7 @@ fn replay(path: &str) -> Result<usize, String> {
         before = Some(line);
     }
     let turned = if of_turned == 0 { String::new() } else { format!("; {of_turned} are the case before on a turned sheet") };
-    println!("{path}: {same} as expected, {different} different, {inner} of inner functions, which are not exported{turned}");
+    println!("{path}: {same} as expected, {different} different, {inner} of inner functions, which are not exported{turned}{passed_over}");
     Ok(different)
 }
 

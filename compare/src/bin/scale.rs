@@ -1,5 +1,5 @@
-//! scale SEED COUNT: all short inputs of some kinds, 01's limits, and COUNT random calls through the oracle and through this library, every
-//! result and buffer compared; calls of the solver once more on a turned sheet. Exit status 0 only if none differs.
+//! scale SEED COUNT: all short inputs of some kinds, 01's limits, COUNT random calls and the ends of curves, through the oracle and through
+//! this library, every result and buffer compared; calls of the solver once more on a turned sheet. Exit status 0 only if none differs.
 
 use compare::together::{check_version, scale};
 use std::env;

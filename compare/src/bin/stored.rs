@@ -1,11 +1,13 @@
 //! stored FOLDER VECTORS..: writes the replay's data files to the folder, from vectors and generated cases: solver.cases, geometry.cases
 //! and ranges.cases.
 //!
-//! Each vector is put to the oracle again, or to the model, and must be answered as it says. README.md has the command.
+//! Each vector is put to the oracle again, or to the model, and must be answered as it says. A file whose name ends in `.json` lists
+//! vectors that an item of 02 changed: these are passed over, as are those that do not apply by their items. README.md has the command.
 
+use compare::landed::{self, Changed, PassedOver};
 use compare::stored::{self, Case};
 use compare::tool::ended;
-use compare::{generate, generate_geometry, generate_limits, generate_ranges, generate_turned, pack, vector};
+use compare::{generate, generate_geometry, generate_limits, generate_ranges, generate_stones, generate_turned, pack, vector};
 use std::collections::HashSet;
 use std::process::ExitCode;
 use std::{env, fs};
@@ -20,17 +22,19 @@ fn main() -> ExitCode {
 fn run() -> Result<(), String> {
     let mut arguments = env::args().skip(1);
     let folder = arguments.next().ok_or("usage: stored FOLDER VECTORS..")?;
+    let (files, changed) = landed::files(arguments)?;
     let mut cases = Vec::new();
-    for path in arguments {
-        cases.extend(vectors(&path)?);
+    for path in files {
+        cases.extend(vectors(&path, &changed)?);
     }
     cases.extend(affordable("the solver", generate::all()?));
     cases.extend(affordable("ranges", generate_ranges::all()?));
     cases.extend(affordable("limits", generate_limits::all()?));
     cases.extend(affordable("turned sheets", generate_turned::all()?));
-    let generated = generate_geometry::all()?;
-    println!("generated: {} of geometry", generated.len());
-    cases.extend(generated);
+    for (what, generated) in [("geometry", generate_geometry::all()?), ("stones", generate_stones::all()?)] {
+        println!("generated: {} of {what}", generated.len());
+        cases.extend(generated);
+    }
     let (ranges, others): (Vec<Case>, Vec<Case>) = cases.into_iter().partition(Case::is_within);
     let (solver, geometry) = others.into_iter().partition(Case::is_solver);
     write(&format!("{folder}/ranges.cases"), distinct(ranges)?)?;
@@ -60,21 +64,26 @@ fn write(path: &str, cases: Vec<Case>) -> Result<(), String> {
 }
 
 /// The vectors of a file that the replay can afford, each confirmed by the oracle.
-fn vectors(path: &str) -> Result<Vec<Case>, String> {
+fn vectors(path: &str, changed: &Changed) -> Result<Vec<Case>, String> {
     let text = fs::read_to_string(path).map_err(|e| format!("{path}: {e}"))?;
     if !text.ends_with('\n') {
         return Err(format!("{path}: cut off: the last line has no end"));
     }
     let mut cases = Vec::new();
+    let (mut inner, mut passed_over) = (0, PassedOver::default());
     for (number, line) in (1..).zip(text.lines()) {
-        if let Some(case) = vector::case(line).map_err(|problem| format!("{path}, line {number}: {problem}"))? {
-            cases.push((number, case));
+        let told = |problem| format!("{path}, line {number}: {problem}");
+        if !changed.holds(line, &mut passed_over).map_err(told)? {
+            continue;
+        }
+        match vector::case(line).map_err(told)? {
+            Some(case) => cases.push((number, case)),
+            None => inner += 1,
         }
     }
     let found = cases.len();
     cases.retain(|(_, case)| case.effort(EFFORT) <= EFFORT);
-    let passed_over = text.lines().count() - found;
-    println!("{path}: {found} vectors, {} left out as too slow; {passed_over} of inner functions", found - cases.len());
+    println!("{path}: {found} vectors, {} left out as too slow; {inner} of inner functions{passed_over}", found - cases.len());
     for (number, case) in &cases {
         confirm(case).map_err(|problem| format!("{path}, line {number}: {problem}"))?;
     }

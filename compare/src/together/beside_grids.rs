@@ -1,5 +1,5 @@
-//! Grids, meshes and roots by two builds of this library in turn, with equal results. The tile is that of `speed`. These functions take the
-//! same in every version. Both builds write to one buffer: of two, one may lie better in memory, by some percent of a large grid.
+//! Grids, meshes and roots by two builds of this library in turn, with equal results. The tile is that of `speed`, rounded. These functions
+//! take the same in every version. Both builds write to one buffer: of two, one may lie better in memory, by some percent of a large grid.
 
 use super::beside::{found, mean, open, EFFORT};
 use super::call::Sides;
@@ -95,6 +95,13 @@ impl Grids {
     }
 }
 
+/// The tile of `speed` with multiples of 2^-20 for coordinates: then a blend at the end of a curve is its last point, and a build from
+/// before 02's item 12 makes the same grid.
+fn tile(points: usize) -> Sides {
+    let steps = f64::from(1 << 20);
+    bent(points).map(|curve| curve.into_iter().map(|x| (x * steps).round() / steps).collect())
+}
+
 /// The tables of large and small grids, meshes and roots, and the mean.
 pub fn tables(old: &Grids, new: &Grids) -> Result<(), String> {
     println!("\nGrids of {CELLS} by {CELLS} cells and small ones, on a bent tile, and 4,096 roots.\n");
@@ -109,7 +116,7 @@ pub fn tables(old: &Grids, new: &Grids) -> Result<(), String> {
     let small = small.map(|(cells, lengths)| (cells, lengths, EFFORT));
     for (cells, lengths, effort) in [(CELLS, &[2, 64, 1024][..], LARGE)].into_iter().chain(small) {
         for &length in lengths {
-            let curves = bent(length);
+            let curves = tile(length);
             for (name, slanted) in [("even", false), ("slanted", true)] {
                 let pair = quads(old, new, effort, &curves, &seams(cells, slanted), cells)?;
                 row(format!("quads, {cells} by {cells}, {name}"), length.to_string(), pair);

@@ -1,4 +1,5 @@
-//! The speed list: farms, grids and roots through the Rust and through this library, in turn, with equal results.
+//! The speed list: farms, grids and roots through the Rust and through this library, in turn, with equal results. Grids are those of the
+//! Rust whose curves end on their stones (02, item 12).
 
 use super::call::Sides;
 use super::clock::{race, timed, Effort, Pair};
@@ -8,8 +9,8 @@ use super::random::Random;
 use crate::farm::{lists, record};
 use crate::limits::{RECORD, SEARCH, SIDE_EDGES};
 use crate::mesh::Mesh;
-use crate::reach::{self, BoundaryCurves};
-use crate::{geometry, simons_qgp, solver};
+use crate::stones::BoundaryCurves;
+use crate::{blended, geometry, reach, simons_qgp, simons_qgp_stones, solver};
 use std::hint::black_box;
 
 pub const SHORT: Effort = Effort { turn: 0.02, seconds: 0.6, turns: 5 };
@@ -260,7 +261,7 @@ pub fn from_parameters(effort: Effort, curves: &Sides, seams: &Sides, out: &mut 
     out.fill(f64::NAN);
     let out = std::cell::RefCell::new(out);
     let here = || library::coons_from_parameters(lists(curves), lists(seams), &mut out.borrow_mut(), &mut [0; 3]);
-    let rust = || simons_qgp::coons_from_parameters(&boundary, &seams[0], &seams[2], &seams[3], &seams[1]);
+    let rust = || simons_qgp_stones::coons_from_parameters(&boundary, &seams[0], &seams[2], &seams[3], &seams[1]);
     race(effort, rust, here, |quads, refusal| same_quads(quads, *refusal, &out.borrow()))
 }
 
@@ -278,7 +279,12 @@ fn coons_curves(effort: Effort, curves: &Sides, cells: usize, out: &mut [f64]) -
     out.fill(f64::NAN);
     let out = std::cell::RefCell::new(out);
     let here = || library::coons_curves(lists(curves), [cells as u32; 2], &mut out.borrow_mut(), &mut [0; 3]);
-    race(effort, || simons_qgp::coons_curves(&boundary, cells, cells), here, |quads, refusal| same_quads(quads, *refusal, &out.borrow()))
+    race(
+        effort,
+        || simons_qgp_stones::coons_curves(&boundary, cells, cells),
+        here,
+        |quads, refusal| same_quads(quads, *refusal, &out.borrow()),
+    )
 }
 
 /// A mesh by the Rust and one by this library, which is lent points and indices.
@@ -311,7 +317,7 @@ fn mesh_tile_curves(effort: Effort, curves: &Sides, cells: usize) -> Result<Pair
     let boundary = published(curves)?;
     let here =
         |points: &mut [f64], indices: &mut [u32]| library::mesh_tile_curves(lists(curves), [cells as u32; 2], points, indices, &mut [0; 3]);
-    meshes(effort, cells, || simons_qgp::mesh_tile_curves(&boundary, cells, cells), here)
+    meshes(effort, cells, || simons_qgp_stones::mesh_tile_curves(&boundary, cells, cells), here)
 }
 
 /// The four curves end to end, as a loop: its first point stands again at the end.
@@ -320,7 +326,7 @@ fn mesh_tile(effort: Effort, curves: &Sides, cells: usize) -> Result<Pair, Strin
     boundary.extend_from_within(..2);
     let pairs: Vec<[f64; 2]> = boundary.chunks_exact(2).map(|pair| [pair[0], pair[1]]).collect();
     let here = |points: &mut [f64], indices: &mut [u32]| library::mesh_tile(&boundary, [cells as u32; 2], points, indices, &mut [0; 3]);
-    meshes(effort, cells, || simons_qgp::mesh_tile(&pairs, cells, cells), here)
+    meshes(effort, cells, || simons_qgp_stones::mesh_tile(&pairs, cells, cells), here)
 }
 
 pub fn grids() -> Result<(), String> {
@@ -344,7 +350,33 @@ pub fn grids() -> Result<(), String> {
         row("mesh_tile_curves", "even", length, mesh_tile_curves(GRID, &bent(length), CELLS)?);
     }
     memory(&mut out);
-    small_grids()
+    small_grids()?;
+    two_rusts()
+}
+
+/// What 02's two returns alone gain in the Rust, which asks its curves for the four corners at every grid point.
+fn two_rusts() -> Result<(), String> {
+    println!("\nThe Rust unchanged, and with 02's two returns, which all ratios above are beside; on curves of 16 points.\n");
+    println!("| cells | function | seams | unchanged | with the returns | ratio |");
+    println!("|---|---|---|---|---|---|");
+    let curves = bent(16);
+    let returning = published(&curves)?;
+    let BoundaryCurves { bottom, right, top, left } = published(&curves)?;
+    let unchanged = blended::BoundaryCurves { bottom, right, top, left };
+    for (cells, effort) in [(1, SHORT), (4, SHORT), (16, SHORT), (64, SHORT), (CELLS, GRID)] {
+        for (name, slanted) in [("even", false), ("slanted", true)] {
+            let [bottom_u, right_v, top_u, left_v] = seams(cells, slanted);
+            let blending = || simons_qgp::coons_from_parameters(&unchanged, &bottom_u, &top_u, &left_v, &right_v);
+            let ending = || simons_qgp_stones::coons_from_parameters(&returning, &bottom_u, &top_u, &left_v, &right_v);
+            let pair = race(effort, blending, ending, both_made)?;
+            println!("| {cells} by {cells} | coons_from_parameters | {name} | {} |", times(pair));
+        }
+    }
+    Ok(())
+}
+
+fn both_made(unchanged: &Quads, returning: &Quads) -> Result<(), String> {
+    unchanged.as_ref().and(returning.as_ref()).map(|_| ()).map_err(String::clone)
 }
 
 /// Tiles of the size that the farms have.

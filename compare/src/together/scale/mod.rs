@@ -1,6 +1,6 @@
 //! Comparison at scale: calls are made, put to the oracle and to this library, and every result and buffer is compared.
 //!
-//! - `exhaustive`: all short inputs of some kinds; `limits`: 01's limits, with one below and one above.
+//! - `exhaustive`: all short inputs of some kinds; `limits`: 01's limits, with one below and one above; `stones`: the ends of curves.
 //! - `solver`, `geometry`: random calls, most of them small, and damaged ones.
 //! - `turned`: each call of the solver once more, on its sheet turned round.
 //! - `shrink`: the smallest form of a difference.
@@ -10,6 +10,7 @@ mod geometry;
 mod limits;
 mod shrink;
 mod solver;
+mod stones;
 mod turned;
 
 use super::call::{difference, Call, Effect};
@@ -43,7 +44,7 @@ pub struct Run {
     pub different: u64,
 }
 
-/// All short inputs, the limits, and `count` random calls.
+/// All short inputs, the limits, `count` random calls, and the ends of curves.
 pub fn run(seed: u64, count: u64) -> Result<Run, String> {
     let mut run = Run::new(seed);
     let start = clock::now();
@@ -55,6 +56,8 @@ pub fn run(seed: u64, count: u64) -> Result<Run, String> {
         let call = if random.chance(2) { solver::call(&mut random) } else { geometry::call(&mut random) };
         run.check("random", call)?;
     }
+    // Behind the random calls, since how a call is turned goes by how many came before it.
+    stones::all(&mut |call| run.check("stones", call))?;
     run.report(clock::now() - start);
     Ok(run)
 }
