@@ -3,7 +3,7 @@
 
 use super::*;
 
-pub use super::BoundaryCurves;
+pub use super::{coons_curves, BoundaryCurves};
 
 /// `ArcCurve::new`, for its refusals.
 pub fn check_curve(points: &[[f64; 2]]) -> Result<(), String> {

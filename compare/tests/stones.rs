@@ -131,6 +131,49 @@ fn blends_miss_the_stones() {
     assert!(random > 100, "{random}");
 }
 
+type Grid = Result<Vec<u64>, String>;
+
+/// The bits of a grid's coordinates, or the message of its refusal.
+fn values(quads: Result<Vec<[[f64; 2]; 4]>, String>) -> Grid {
+    quads.map(|quads| quads.into_iter().flatten().flatten().map(f64::to_bits).collect())
+}
+
+/// A grid of 3 by 2 cells by the unchanged Rust, and by the other one.
+fn both(curves: [Curve; 4]) -> [Grid; 2] {
+    let [bottom, right, top, left] = curves.clone();
+    let unchanged = blended::coons_curves(&blended::BoundaryCurves { bottom, right, top, left }, 3, 2);
+    let [bottom, right, top, left] = curves;
+    let returning = stones::coons_curves(&stones::BoundaryCurves { bottom, right, top, left }, 3, 2);
+    [values(unchanged), values(returning)]
+}
+
+/// Of 1,000 tiles of about 100 m by 60 m, their points moved by up to 5 m each way, in whole millimetres, 991 get other bits.
+#[test]
+fn grids_change() {
+    let mut dice = Dice(0x5EED_0405);
+    let mut tile = || {
+        let mut moved = |plan: [f64; 2]| plan.map(|x| (1000.0 * x + f64::from(dice.below(10_001)) - 5000.0) / 1000.0);
+        let corners = [[0.0, 0.0], [100.0, 0.0], [100.0, 60.0], [0.0, 60.0]].map(&mut moved);
+        let middles = [[50.0, 0.0], [100.0, 30.0], [50.0, 60.0], [0.0, 30.0]].map(&mut moved);
+        std::array::from_fn(|side| vec![corners[side], middles[side], corners[(side + 1) % 4]])
+    };
+    let grids: Vec<[Grid; 2]> = (0..1000).map(|_| both(tile())).collect();
+    assert!(grids.iter().flatten().all(Result::is_ok));
+    assert_eq!(grids.iter().filter(|[unchanged, returning]| unchanged != returning).count(), 991);
+}
+
+/// Joins that only one of the two finds apart: right from far away, and bottom past its corner after a long way.
+#[test]
+fn joins_change() {
+    let far = f64::from(1 << 25);
+    let tile = |width: f64, bottom: Curve, right: Curve| [bottom, right, vec![[width, 1.0], [0.0, 1.0]], vec![[0.0, 1.0], [0.0, 0.0]]];
+    let back = tile(0.1, vec![[0.0, 0.0], [0.1, 0.0]], vec![[0.1, 0.0], [far, 0.5], [0.1, 1.0]]);
+    let past = tile(1.0, vec![[0.0, 0.0], [far, 0.0], [1.0, 0.0], [1.0 + 2e-9, 0.0]], vec![[1.0, 0.0], [1.0, 1.0]]);
+    let apart = |grid: &Grid| grid.as_ref().is_err_and(|message| message.contains("not connected"));
+    assert_eq!(both(back).each_ref().map(apart), [true, false]);
+    assert_eq!(both(past).each_ref().map(apart), [false, true]);
+}
+
 /// The stored cases and `scale` have ends that the unchanged Rust misses.
 #[test]
 fn generated_ends() {
