@@ -13,7 +13,7 @@ use Rattle.base.specs.Refusal.{is-passed, refused, refuse-if, then-test}
 use Rattle.base.specs.Answers.{Answer, good}
 use Rattle.base.proofs.BoolLaws.{T-true}
 use Rattle.base.proofs.TestLaws.{then-left, lets-by, four-passed}
-use Rattle.floats.specs.Scalar.{nought, one, two-1023, is-finite, float-abs, clamp-unit, in-unit}
+use Rattle.floats.specs.Scalar.{nought, one, float-abs, clamp-unit, in-unit, Moderate}
 use Rattle.curves.specs.Point.{point}
 use Rattle.curves.specs.Curve.{point-count, point-at, total-length, arc-curve, knot-count, stored-point, all-finite, total-test, curve-test}
 use Rattle.curves.specs.Boundary.{BoundaryCurves, boundary-of, boundary-ends, curve-ends, ends-test, curves-test, checked-curves}
@@ -21,12 +21,12 @@ use Rattle.curves.specs.Patch.{coons-point, combined}
 use Rattle.curves.specs.Grid.{Seams, n-u, n-v, mapped, row-of, grid-of}
 use Rattle.curves.specs.Coons.{even-seams}
 use Rattle.curves.specs.Limits.{max-cells}
-use Rattle.curves.specs.Stones.{first-stone, last-stone, OnStones, corner-peg, stone-u, stone-v, Coordinate, Stone, CornerPeg}
+use Rattle.curves.specs.Stones.{first-stone, last-stone, OnStones, corner-peg, stone-u, stone-v, Stone, CornerPeg}
 use Rattle.curves.specs.Stones.{not-minus-zero, Surveyed, Whole, WholeSeams}
 use Rattle.curves.specs.inner.Level.{Plain}
 use Rattle.curves.specs.declared.point.Point.{Point}
 use Rattle.floats.proofs.scalar.Blends.{ordinary}
-use Rattle.floats.proofs.scalar.Corner.{end, pick, Value, Eight, Values, along-u, along-v, corner-made, corner-own, corner-level}
+use Rattle.floats.proofs.scalar.Corner.{end, Values, along-u, along-v, moderate-u, moderate-v, corner-made, corner-own, corner-level}
 use Rattle.floats.proofs.scalar.Laws.{impossible}
 use Rattle.curves.proofs.curve.Laws.{knot-count-arc, in-arc}
 use Rattle.curves.proofs.curve.Ends.{first-end, last-end, strictly-inside}
@@ -86,54 +86,11 @@ module _ {points : List Float} (o : OnStones points) where
 
 -- ---- a coordinate
 
-small-finite : (x : Float) → lt (float-abs x) two-1023 ≡ true → T (is-finite x)
-unfolding lt float-abs is-finite ofBits
-small-finite nan h = impossible h
-small-finite (inf s) h = impossible h
-small-finite (fin s m e) h = tt
-
-value : {x : Float} → Coordinate x → Value x
-value {x} c = record { held = c .held; finite = small-finite x (c .small) }
-
-own-sign : (x : Float) → lt (float-abs x) two-1023 ≡ true → T (not-minus-zero x) → T (ordinary x)
+own-sign : (x : Float) → Moderate x → T (not-minus-zero x) → T (ordinary x)
 unfolding lt float-abs ofBits
-own-sign nan h t = impossible h
-own-sign (inf s) h t = impossible h
-own-sign (fin s m e) h t = t
-
-picked-coordinate : (k : Bool) {a b : Float} → Coordinate a → Coordinate b → Coordinate (pick k a b)
-picked-coordinate false p q = p
-picked-coordinate true p q = q
-
--- one coordinate of the eight ends
-pub record Coordinates (e : Eight) : Type 0 where
-  pub bottom-start : Coordinate (e .bottom-start)
-  pub bottom-end : Coordinate (e .bottom-end)
-  pub right-start : Coordinate (e .right-start)
-  pub right-end : Coordinate (e .right-end)
-  pub top-start : Coordinate (e .top-start)
-  pub top-end : Coordinate (e .top-end)
-  pub left-start : Coordinate (e .left-start)
-  pub left-end : Coordinate (e .left-end)
-
-module _ {e : Eight} (o : Coordinates e) where
-  values : Values e
-  values = record {
-    bottom-start = value (o .bottom-start);
-    bottom-end = value (o .bottom-end);
-    right-start = value (o .right-start);
-    right-end = value (o .right-end);
-    top-start = value (o .top-start);
-    top-end = value (o .top-end);
-    left-start = value (o .left-start);
-    left-end = value (o .left-end);
-  }
-
-  u-coordinate : (i j : Bool) → Coordinate (along-u i j e)
-  u-coordinate i j = picked-coordinate j (picked-coordinate i (o .bottom-start) (o .bottom-end)) (picked-coordinate i (o .top-end) (o .top-start))
-
-  v-coordinate : (i j : Bool) → Coordinate (along-v i j e)
-  v-coordinate i j = picked-coordinate i (picked-coordinate j (o .left-end) (o .left-start)) (picked-coordinate j (o .right-start) (o .right-end))
+own-sign nan m t = impossible (m .small)
+own-sign (inf s) m t = impossible (m .small)
+own-sign (fin s n e) m t = t
 
 -- ---- a corner of the patch, by the ends of its curves
 
@@ -144,33 +101,30 @@ module _ (c : BoundaryCurves) (i j : Bool) where
   end-v : Point
   end-v = point (along-v i j (xs c)) (along-v i j (ys c))
 
-  by-ends : Coordinates (xs c) → Coordinates (ys c) → {answer : Answer Point} → answer ≡ good (coons-point c (end i) (end j))
-      → CornerPeg answer end-u end-v
+  by-ends : Values (xs c) → Values (ys c) → {answer : Answer Point} → answer ≡ good (coons-point c (end i) (end j)) → CornerPeg answer end-u end-v
   unfolding combined end-u end-v
   by-ends ox oy there =
       let at = at-corner c i j in
-      let ux = u-coordinate ox i j in
-      let uy = u-coordinate oy i j in
-      let vx = v-coordinate ox i j in
-      let vy = v-coordinate oy i j in
+      let ux = moderate-u i j (xs c) ox in
+      let uy = moderate-u i j (ys c) oy in
+      let vx = moderate-v i j (xs c) ox in
+      let vy = moderate-v i j (ys c) oy in
       record {
         peg = coons-point c (end i) (end j);
         there = there;
         made = λ p q.
             at
             ∙ (λ k. record {
-              x = corner-made i j (xs c) (values ox) (own-sign _ (ux .small) (p .x)) (own-sign _ (vx .small) (q .x)) k;
-              y = corner-made i j (ys c) (values oy) (own-sign _ (uy .small) (p .y)) (own-sign _ (vy .small) (q .y)) k;
+              x = corner-made i j (xs c) ox (own-sign _ ux (p .x)) (own-sign _ vx (q .x)) k;
+              y = corner-made i j (ys c) oy (own-sign _ uy (p .y)) (own-sign _ vy (q .y)) k;
             });
         itself = λ e p.
             at
             ∙ (λ k. record {
-              x = corner-own i j (xs c) (values ox) (ap (λ (r : Point). r .x) e) (own-sign _ (ux .small) (p .x)) (ux .small) k;
-              y = corner-own i j (ys c) (values oy) (ap (λ (r : Point). r .y) e) (own-sign _ (uy .small) (p .y)) (uy .small) k;
+              x = corner-own i j (xs c) ox (ap (λ (r : Point). r .x) e) (own-sign _ ux (p .x)) k;
+              y = corner-own i j (ys c) oy (ap (λ (r : Point). r .y) e) (own-sign _ uy (p .y)) k;
             });
-        in-place = λ h.
-            rw at
-            (record { x = corner-level i j (xs c) (values ox) (h .x) (ux .small); y = corner-level i j (ys c) (values oy) (h .y) (uy .small) });
+        in-place = λ h. rw at (record { x = corner-level i j (xs c) ox (h .x); y = corner-level i j (ys c) oy (h .y) });
       }
 
 -- ---- a corner of the grid
@@ -244,7 +198,7 @@ module _ {bottom right top left : List Float} (o : AllOnStones bottom right top 
   is-stone-v true true = end-stone (o .right)
 
   -- x or y of the eight ends
-  coordinates : (get : Point → Float) → ((p : Point) → Stone p → Coordinate (get p)) → Surveyed bottom right top left → Coordinates (eight get of)
+  coordinates : (get : Point → Float) → ((p : Point) → Stone p → Moderate (get p)) → Surveyed bottom right top left → Values (eight get of)
   coordinates get part q = record {
     bottom-start = as-stone (start-stone (o .bottom)) (q .bottom-first);
     bottom-end = as-stone (end-stone (o .bottom)) (q .bottom-last);
@@ -256,8 +210,8 @@ module _ {bottom right top left : List Float} (o : AllOnStones bottom right top 
     left-end = as-stone (end-stone (o .left)) (q .left-last);
   }
     where
-      as-stone : {p r : Point} → p ≡ r → Stone r → Coordinate (get p)
-      as-stone {p} {r} e s = subst (λ (z : Point). Coordinate (get z)) (sym e) (part r s)
+      as-stone : {p r : Point} → p ≡ r → Stone r → Moderate (get p)
+      as-stone {p} {r} e s = subst (λ (z : Point). Moderate (get z)) (sym e) (part r s)
 
 -- ---- the theorem on a grid
 

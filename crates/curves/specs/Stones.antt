@@ -6,9 +6,9 @@ use mathlib.Core.List.{List}
 use Prim.Native.Nat.{ℕ, _-_}
 use lib.ListN.{length, getD}
 use lib.Dec.{T, eqb}
-use lib.Ieee.{Float, nan, inf, fin, binary64, lt, le, eq, fits}
+use lib.Ieee.{Float, nan, inf, fin, lt, le, eq}
 use Rattle.base.specs.Answers.{Answer, good}
-use Rattle.floats.specs.Scalar.{nought, one, two-1023, float-abs}
+use Rattle.floats.specs.Scalar.{nought, one, Moderate}
 use Rattle.curves.specs.Curve.{point-count, point-at, arc-curve, between, curve-at}
 use Rattle.curves.specs.Patch.{combined}
 use Rattle.curves.specs.Grid.{Seams, Grid}
@@ -44,14 +44,10 @@ module _ (bottom right top left : List Float) (i j : Bool) where
   abbrev pub stone-v : Point
   stone-v = cond i (cond j (last-stone right) (first-stone right)) (cond j (first-stone left) (last-stone left))
 
--- an f64 of less than 2^1023 in size, so neither NaN nor infinite, and its double is an f64 too
-pub record Coordinate (x : Float) : Type 0 where
-  pub held : T (fits binary64 x)
-  pub small : lt (float-abs x) two-1023 ≡ true
-
+-- each coordinate an f64 below 2^1023 in size
 pub record Stone (p : Point) : Type 0 where
-  pub x : Coordinate (p .x)
-  pub y : Coordinate (p .y)
+  pub x : Moderate (p .x)
+  pub y : Moderate (p .y)
 
 -- the eight stones of four curves
 pub record Surveyed (bottom right top left : List Float) : Type 0 where

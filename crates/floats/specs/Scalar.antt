@@ -1,6 +1,8 @@
 -- 000's constants, and Rust's helpers on f64 that 000 uses (01: "`clamp`, `min`, `max`, `abs`, `is_finite`: helpers"), bit for bit. Assumes nothing.
+use mathlib.Core.Path.{_≡_}
 use mathlib.Core.Bool.{Bool, true, false, not, _&&_, _||_, cond}
-use lib.Ieee.{Float, nan, inf, fin, binary64, add, neg, lt, le, ne, ofBits}
+use lib.Dec.{T}
+use lib.Ieee.{Float, nan, inf, fin, binary64, add, neg, lt, le, ne, fits, ofBits}
 
 -- ---- constants, as the code has them: by their bits
 
@@ -25,10 +27,6 @@ e-12 = ofBits binary64 0x3d71_9799_812d_ea11
 
 abbrev pub two-e-12 : Float
 two-e-12 = ofBits binary64 0x3d81_9799_812d_ea11
-
--- 2^1023: what is below it in size can be doubled. No code has it, only claims on stones do.
-abbrev pub two-1023 : Float
-two-1023 = ofBits binary64 0x7fe0_0000_0000_0000
 
 -- ---- helpers
 
@@ -66,3 +64,14 @@ clamp-unit x = cond (lt x nought) nought (cond (lt one x) one x)
 unfoldable pub in-unit : Float → Bool
 unfolding is-finite add neg lt
 in-unit x = is-finite x && (not (lt x (neg e-9)) && not (lt (add binary64 one e-9) x))
+
+-- ---- what claims ask of a value; no code has it
+
+-- 2^1023
+abbrev pub two-1023 : Float
+two-1023 = ofBits binary64 0x7fe0_0000_0000_0000
+
+-- an f64 of less than 2^1023 in size: neither NaN nor infinite, and its double is an f64 too
+pub record Moderate (x : Float) : Type 0 where
+  pub held : T (fits binary64 x)
+  pub small : lt (float-abs x) two-1023 ≡ true

@@ -10,7 +10,7 @@ use Rattle.base.proofs.BoolLaws.{by-truth}
 use Rattle.floats.specs.Scalar.{nought, one, clamp-unit}
 use Rattle.curves.specs.Curve.{ArcCurve, knot-count, stored-point, between, curve-at, at-answer}
 use Rattle.curves.specs.declared.point.Point.{Point}
-use Rattle.floats.proofs.scalar.Order.{le-le, lt-le, le-not-lt, lt-is-le, lt-not-le, eq-sym, eq-by-le, lt-not-eq}
+use Rattle.floats.proofs.scalar.Order.{le-le, lt-le, le-not-lt, lt-is-le, lt-not-le, neither, eq-sym, eq-by-le, lt-not-eq}
 use Rattle.floats.proofs.scalar.Laws.{impossible}
 
 -- a curve with a segment is not refused
@@ -64,10 +64,6 @@ module _ (t : Float) (h : le one t ≡ true) where
 
 -- ---- the curve
 
-either : (p q : Bool) → p || q ≡ false → (p ≡ false) × (q ≡ false)
-either false q h = (refl, h)
-either true q h = impossible (sym h)
-
 unequal-turned : (x y : Float) → eq x y ≡ false → eq y x ≡ false
 unequal-turned x y h = by-truth (eq y x) (λ e. impossible (sym h ∙ eq-sym y x e)) (λ e. e)
 
@@ -84,8 +80,8 @@ module _ (c : ArcCurve) (t : Float) where
   left-as-is : le t nought ≡ false → le one t ≡ false → curve-at c t ≡ between c t
   unfolding curve-at clamp-unit le
   left-as-is h k =
-      let not-first = either (lt t nought) (eq t nought) h in
-      let not-last = either (lt one t) (eq one t) k in
+      let not-first = neither (lt t nought) (eq t nought) h in
+      let not-last = neither (lt one t) (eq one t) k in
       rw (not-first .0, not-last .0, not-first .1, unequal-turned one t (not-last .1))
 
   pub strictly-inside : lt nought t ≡ true → lt t one ≡ true → curve-at c t ≡ between c t

@@ -11,13 +11,9 @@ use lib.IntN.{ℤ, pos}
 use lib.Ieee.{Float, nan, inf, fin, Format, binary64, up, down, round, sum, add, sub, mul, fits, ofBits}
 use lib.Ieee.Fits.{down-pos, up-pos}
 use Rattle.floats.specs.Scalar.{nought, one, is-finite}
-use Rattle.floats.proofs.scalar.Exact.{round-to}
+use Rattle.floats.proofs.scalar.Exact.{zero-fits, round-to}
 
 -- ---- times 0 and times 1
-
-zero-fits : (f : Format) (s : Bool) → T (fits f (fin s 0 (pos 0)))
-unfolding fits
-zero-fits f s = tt
 
 -- a zero of y's sign
 pub zero-times : (f : Format) (t : Bool) (n : ℕ) (d : ℤ) → mul f (fin false 0 (pos 0)) (fin t n d) ≡ fin t 0 (pos 0)

@@ -13,9 +13,9 @@ use lib.IntN.{ℤ, pos, negsuc}
 use lib.Ieee.{Float, nan, inf, fin, Format, binary64, prec, emax, low, up, down, round, add, sub, mul, lt, eq, fits, ofBits}
 use lib.Ieee.Fits.{and-i, and-l, and-r, up-pos, down-pos, add-fits}
 use Rattle.base.proofs.BoolLaws.{true-T, same→eqb}
-use Rattle.floats.specs.Scalar.{nought, one, two-1023, is-finite, float-abs}
+use Rattle.floats.specs.Scalar.{nought, one, two-1023, is-finite, float-abs, Moderate}
 use Rattle.floats.proofs.scalar.Blends.{ordinary, nought-is, rest-one, zero-times, at-nought, at-one}
-use Rattle.floats.proofs.scalar.Exact.{by-value, round-to}
+use Rattle.floats.proofs.scalar.Exact.{by-value, zero-fits, round-to}
 use Rattle.floats.proofs.scalar.Laws.{impossible}
 use Rattle.floats.proofs.scalar.Order.{eq-trans}
 
@@ -114,10 +114,6 @@ below-half s m e h = ones-off (m * up e) (2 ^ 1023) (down e) (ltb-true (m * up e
 
 -- ---- zeros
 
-zero-fits : (f : Format) (s : Bool) → T (fits f (fin s 0 (pos 0)))
-unfolding fits
-zero-fits f s = tt
-
 -- a zero that fits is written with the exponent 0
 zero-is : (f : Format) (s : Bool) (e : ℤ) → T (fits f (fin s 0 e)) → fin s 0 e ≡ fin s 0 (pos 0)
 zero-is f s e t = by-value f (fin s 0 e) s 0 (pos 0) t (zero-fits f s) (refl, simp zero-mul)
@@ -156,7 +152,7 @@ pub record Value (x : Float) : Type 0 where
   pub held : T (fits binary64 x)
   pub finite : T (is-finite x)
 
-pub picked-value : (k : Bool) {a b : Float} → Value a → Value b → Value (pick k a b)
+picked-value : (k : Bool) {a b : Float} → Value a → Value b → Value (pick k a b)
 picked-value false p q = p
 picked-value true p q = q
 
@@ -351,14 +347,27 @@ pub record Eight : Type 0 where
   pub left-end : Float
 
 pub record Values (e : Eight) : Type 0 where
-  pub bottom-start : Value (e .bottom-start)
-  pub bottom-end : Value (e .bottom-end)
-  pub right-start : Value (e .right-start)
-  pub right-end : Value (e .right-end)
-  pub top-start : Value (e .top-start)
-  pub top-end : Value (e .top-end)
-  pub left-start : Value (e .left-start)
-  pub left-end : Value (e .left-end)
+  pub bottom-start : Moderate (e .bottom-start)
+  pub bottom-end : Moderate (e .bottom-end)
+  pub right-start : Moderate (e .right-start)
+  pub right-end : Moderate (e .right-end)
+  pub top-start : Moderate (e .top-start)
+  pub top-end : Moderate (e .top-end)
+  pub left-start : Moderate (e .left-start)
+  pub left-end : Moderate (e .left-end)
+
+small-finite : (x : Float) → lt (float-abs x) two-1023 ≡ true → T (is-finite x)
+unfolding lt float-abs is-finite ofBits
+small-finite nan h = impossible h
+small-finite (inf s) h = impossible h
+small-finite (fin s m e) h = tt
+
+value : {x : Float} → Moderate x → Value x
+value {x} m = record { held = m .held; finite = small-finite x (m .small) }
+
+picked : (k : Bool) {a b : Float} → Moderate a → Moderate b → Moderate (pick k a b)
+picked false p q = p
+picked true p q = q
 
 module _ (i j : Bool) (e : Eight) where
   -- the end of bottom or top in that corner
@@ -378,34 +387,39 @@ module _ (i j : Bool) (e : Eight) where
       sub binary64 (add binary64 ruled-v ruled-u) bilinear
 
   module _ (v : Values e) where
-    lower : Value (pick i (e .bottom-start) (e .bottom-end))
-    lower = picked-value i (v .bottom-start) (v .bottom-end)
+    lower : Moderate (pick i (e .bottom-start) (e .bottom-end))
+    lower = picked i (v .bottom-start) (v .bottom-end)
 
-    upper : Value (pick i (e .top-end) (e .top-start))
-    upper = picked-value i (v .top-end) (v .top-start)
+    upper : Moderate (pick i (e .top-end) (e .top-start))
+    upper = picked i (v .top-end) (v .top-start)
 
-    leftward : Value (pick j (e .left-end) (e .left-start))
-    leftward = picked-value j (v .left-end) (v .left-start)
+    leftward : Moderate (pick j (e .left-end) (e .left-start))
+    leftward = picked j (v .left-end) (v .left-start)
 
-    rightward : Value (pick j (e .right-start) (e .right-end))
-    rightward = picked-value j (v .right-start) (v .right-end)
+    rightward : Moderate (pick j (e .right-start) (e .right-end))
+    rightward = picked j (v .right-start) (v .right-end)
 
-    pub along-u-value : Value along-u
-    along-u-value = picked-value j lower upper
+    pub moderate-u : Moderate along-u
+    moderate-u = picked j lower upper
+
+    pub moderate-v : Moderate along-v
+    moderate-v = picked i leftward rightward
 
     -- one added, the other taken off
     pub corner-made : T (ordinary along-u) → T (ordinary along-v) → corner ≡ sub binary64 (add binary64 along-u along-v) along-u
     corner-made o w =
-        rw (picked-own j lower upper o, picked-own i leftward rightward w, bilinear-own i j (v .bottom-start) (v .bottom-end) (v .top-end) (v .top-start) o)
+        let bilinear-is = bilinear-own i j (value (v .bottom-start)) (value (v .bottom-end)) (value (v .top-end)) (value (v .top-start)) o in
+        rw (picked-own j (value lower) (value upper) o, picked-own i (value leftward) (value rightward) w, bilinear-is)
 
     -- the same value comes back to the bit
-    pub corner-own : along-v ≡ along-u → T (ordinary along-u) → lt (float-abs along-u) two-1023 ≡ true → corner ≡ along-u
-    corner-own h o b =
-        corner-made o (subst (λ (x : Float). T (ordinary x)) (sym h) o) ∙ rw h (twice-less along-u (along-u-value .held) o b)
+    pub corner-own : along-v ≡ along-u → T (ordinary along-u) → corner ≡ along-u
+    corner-own h o =
+        corner-made o (subst (λ (x : Float). T (ordinary x)) (sym h) o) ∙ rw h (twice-less along-u (moderate-u .held) o (moderate-u .small))
 
     -- and an equal one, -0 for +0 too, comes back equal
-    pub corner-level : eq along-v along-u ≡ true → lt (float-abs along-u) two-1023 ≡ true → eq corner along-u ≡ true
-    corner-level h b =
-        let bilinear-is = bilinear-level i j (v .bottom-start) (v .bottom-end) (v .top-end) (v .top-start) in
-        combined-level _ _ _ along-u (add-fits binary64 _ _) (add-fits binary64 _ _) (add-fits binary64 _ _) (along-u-value .held)
-        (picked-level j lower upper) (eq-trans _ along-v along-u (picked-level i leftward rightward) h) bilinear-is b
+    pub corner-level : eq along-v along-u ≡ true → eq corner along-u ≡ true
+    corner-level h =
+        let bilinear-is = bilinear-level i j (value (v .bottom-start)) (value (v .bottom-end)) (value (v .top-end)) (value (v .top-start)) in
+        let ruled-u-is = eq-trans _ along-v along-u (picked-level i (value leftward) (value rightward)) h in
+        combined-level _ _ _ along-u (add-fits binary64 _ _) (add-fits binary64 _ _) (add-fits binary64 _ _) (moderate-u .held)
+        (picked-level j (value lower) (value upper)) ruled-u-is bilinear-is (moderate-u .small)

@@ -219,14 +219,14 @@ pub eq-by-le : (x y : Float) → le x y ≡ true → lt x y ≡ false → eq x y
 unfolding le
 eq-by-le x y h k = rw k at h
 
-neither : (p q : Bool) → p || q ≡ false → q ≡ false
-neither false q h = h
+pub neither : (p q : Bool) → p || q ≡ false → (p ≡ false) × (q ≡ false)
+neither false q h = (refl, h)
 neither true q h = impossible (sym h)
 
 -- what is above is not equal
 pub lt-not-eq : (x y : Float) → lt x y ≡ true → eq y x ≡ false
 unfolding le
-lt-not-eq x y h = neither (lt y x) (eq y x) (lt-not-le x y h)
+lt-not-eq x y h = neither (lt y x) (eq y x) (lt-not-le x y h) .1
 
 pub eq-is-le : (x y : Float) → eq x y ≡ true → le x y ≡ true
 unfolding le
