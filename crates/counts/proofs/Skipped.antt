@@ -5,7 +5,7 @@
 -- stay as they are, and the very constraint stands under its new number. So the two graphs are alike (search/Alike), which says all of moves
 -- and solves. An empty constraint balances: both its sides add up to 0. Assumes nothing.
 use mathlib.Core.Path.{_≡_, refl, sym, ap, _∙_}
-use mathlib.Core.Bool.{Bool, true, false, _&&_, cond}
+use mathlib.Core.Bool.{Bool, true, false, cond}
 use mathlib.Core.List.{List, [], _∷_, map, map-map}
 use Prim.Native.Nat.{ℕ, zero, suc}
 use native.Mathlib.Omega.{arith}
@@ -14,7 +14,7 @@ use lib.Dec.{T}
 use Rattle.base.specs.Lists.{all}
 use Rattle.base.specs.declared.verdict.Verdict.{Verdict}
 use Rattle.base.specs.Refusal.{passed, then-test, is-passed}
-use Rattle.regions.specs.Region.{Constraint, constraint, no-sides, holds, incidence, incidence-from, is-empty, without-empty}
+use Rattle.regions.specs.Region.{Constraint, constraint, no-sides, holds, incidence, incidence-from, both-empty, without-empty}
 use Rattle.regions.specs.Region.{places, graph, region-count}
 use Rattle.regions.specs.Accept.{limits-test, pairs-test, overused-test, regions-test}
 use Rattle.counts.specs.Cost.{CostModel, Spacing, costs-of, edges-of}
@@ -26,12 +26,12 @@ use Rattle.base.proofs.BoolLaws.{by-truth, true-T}
 use Rattle.counts.proofs.search.Alike.{AlikeGraphs, alike-itself, every-edge, find-move-alike, solve-zeros-alike}
 
 abbrev empty : Constraint → Bool
-empty c = is-empty (c .a) && is-empty (c .b)
+empty c = both-empty (c .a) (c .b)
 
 empty-is : (c : Constraint) → T (empty c) → c ≡ no-sides
 empty-is c = by (c .a) (c .b)
   where
-    by : (a b : List ℕ) → T (is-empty a && is-empty b) → _≡_ {A = Constraint} (record { a = a; b = b }) no-sides
+    by : (a b : List ℕ) → T (both-empty a b) → _≡_ {A = Constraint} (record { a = a; b = b }) no-sides
     by [] [] t = refl
     by [] (y ∷ b) t = absurd t
     by (x ∷ a) b t = absurd t

@@ -19,6 +19,7 @@ use crate::limits::MARKS;
 use crate::limits::NO_CONSTRAINT;
 use crate::limits::PATH_SIZE;
 use regions::region::SIDE_SIZE;
+use regions::region::opposite;
 ghost use mathlib.Core.Path.{_≡_};
 ghost use mathlib.Core.Bool.{true, false};
 ghost use mathlib.Core.List.{_++_};
@@ -26,9 +27,10 @@ ghost use Prim.Native.Nat.{_/_, _%_, _<_};
 ghost use lib.ListN.{length, take, getD};
 ghost use lib.Dec.{eqb, ltb};
 ghost use lib.Ieee.{nan, inf};
+ghost use Rattle.regions.specs.Region.{across};
 ghost use Rattle.regions.specs.Accept.{max-edges};
 ghost use Rattle.counts.specs.Search.{is-used};
-ghost use Rattle.counts.specs.inner.Tables.{decoded, path-of, across, edges-on, edge-slots, changes, marks-size, path-size, max-sides};
+ghost use Rattle.counts.specs.inner.Tables.{decoded, path-of, edges-on, edge-slots, changes, marks-size, path-size};
 ghost use Rattle.counts.specs.inner.SearchContract.{SlotOf, OtherSlot, BalancesThere, MayReadSides, SidesRead, SidesInside, both-in, signed-in, changed-by};
 ghost use Rattle.counts.specs.inner.SearchContract.{changed-among, MayScan, MayKeepPath, MayEndChain, Ended, MayCloseLoop, Closed, MayTryStep};
 ghost use Rattle.counts.specs.inner.SearchContract.{Stepped, MayDfs, Crossed, fresh-state, MayEnter, Entered, MayCrossAll, CrossedAll, MayRun};
@@ -127,14 +129,6 @@ fn on_first_side(own: &[u16; EDGE_SLOTS], slot: usize) -> bool
 }
 
 // ---- the two sides of a constraint
-
-// The side opposite to one, sides counted over all records.
-fn opposite(side: usize) -> usize
-    requires { ⌜ side < max-sides ⌝ }
-    ensures { λ r. ⌜ (r ≡ across side) × (r < max-sides) ⌝ }
-{
-    if side % 4 < 2 { side + 2 } else { side - 2 }
-}
 
 // The side on which a slot's edge stands, and the opposite one.
 fn sides_of(regions: &[u16], own: &[u16; EDGE_SLOTS], slot: usize) -> Sides

@@ -1,3 +1,4 @@
 -- The laws of the region records. Assumes nothing.
 pub mod Constraints
 pub mod Exchanged
+pub mod Pairs

@@ -1,8 +1,9 @@
--- 01, "Regions", with the places of 02's item 9: region records and the constraints that they give. All but `places` is said of any number p
--- of places. Assumes nothing.
+-- 01, "Regions", with the places of 02's item 9 and the empty pairs of its item 2: region records and the constraints that they give. All but
+-- `places` is said of any number p of places. Assumes nothing.
 use mathlib.Core.Bool.{Bool, true, false, _&&_, _||_, cond}
 use mathlib.Core.List.{List, [], _∷_}
-use Prim.Native.Nat.{ℕ, zero, suc, _+_, _*_, _/_}
+use Prim.Native.Nat.{ℕ, zero, suc, _+_, _-_, _*_, _/_, _%_}
+use lib.Dec.{ltb}
 use lib.ListN.{length, getD, take, drop}
 use Rattle.base.specs.Lists.{member}
 
@@ -29,6 +30,21 @@ from-region p regions r = drop (r * record-size p) regions
 abbrev pub side : ℕ → List ℕ → ℕ → List ℕ
 side p regions k = take (getD regions (k * side-size p) 0) (drop (suc (k * side-size p)) regions)
 
+-- "0 and 2 are opposite, and 1 and 3": the side opposite to one, sides counted over all records
+abbrev pub across : ℕ → ℕ
+across s = cond (ltb (s % 4) 2) (s + 2) (s - 2)
+
+abbrev pub is-empty : List ℕ → Bool
+is-empty [] = true
+is-empty (x ∷ xs) = false
+
+abbrev pub both-empty : List ℕ → List ℕ → Bool
+both-empty a b = is-empty a && is-empty b
+
+-- 02, item 2: "a side pair that is empty on both sides": no edges on side k of the record that stands first, and none on the side opposite
+unfoldable pub empty-pair : ℕ → List ℕ → ℕ → Bool
+empty-pair p regions k = both-empty (side p regions k) (side p regions (across k))
+
 -- two opposite sides, whose counts are to add up to the same
 pub record Constraint : Type 0 where
   pub a : List ℕ
@@ -47,14 +63,10 @@ constraints p (suc n) regions =
 abbrev pub graph : ℕ → List ℕ → List Constraint
 graph p regions = constraints p (region-count p regions) regions
 
-abbrev pub is-empty : List ℕ → Bool
-is-empty [] = true
-is-empty (x ∷ xs) = false
-
 -- `build_graph`: "both sides empty, it is skipped"
 abbrev pub without-empty : List Constraint → List Constraint
 without-empty [] = []
-without-empty (c ∷ cs) = cond (is-empty (c .a) && is-empty (c .b)) (without-empty cs) (c ∷ without-empty cs)
+without-empty (c ∷ cs) = cond (both-empty (c .a) (c .b)) (without-empty cs) (c ∷ without-empty cs)
 
 abbrev pub no-sides : Constraint
 no-sides = record { a = []; b = [] }

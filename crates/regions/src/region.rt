@@ -1,6 +1,6 @@
 // Region records as they are lent. For each of four sides (bottom 0, right 1, top 2, left 3) how many edges, then the places for them.
 ghost use mathlib.Core.Path.{_≡_};
-ghost use Rattle.regions.specs.Region.{places, side};
+ghost use Rattle.regions.specs.Region.{places, side, across, empty-pair};
 
 pub const MAX_REGIONS: usize = 128;
 
@@ -29,4 +29,20 @@ pub fn side<'a>(records: &'a [u16], k: u32) -> &'a [u16]
         return &records[start..];
     }
     &records[start..end]
+}
+
+// The side opposite to one, sides counted over all records.
+pub fn opposite(side: usize) -> usize
+    ensures { λ r. ⌜ r ≡ across side ⌝ }
+{
+    if side % 4 < 2 { side + 2 } else { side - 2 }
+}
+
+// Whether side k of the record that stands first has no edges, and the opposite one has none.
+pub fn empty_pair(records: &[u16], k: u32) -> bool
+    ensures { λ r. ⌜ r ≡ empty-pair places (now (records .entry)) k ⌝ }
+{
+    let edges = side(records, k);
+    let others = side(records, opposite(k as usize) as u32);
+    edges.len() == 0 && others.len() == 0
 }

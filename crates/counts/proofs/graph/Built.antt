@@ -15,9 +15,9 @@ use lib.Ieee.Fits.{and-l, and-r}
 use Rattle.base.specs.Lists.{In, member, Distinct}
 use Rattle.base.specs.declared.verdict.Verdict.{Verdict}
 use Rattle.base.specs.Refusal.{passed, refused, outcome, verdict-of, then-test, refuse-if, is-passed}
-use Rattle.regions.specs.Region.{Constraint, places, region-count, constraint, holds, incidence, side-size, record-size}
+use Rattle.regions.specs.Region.{Constraint, places, region-count, constraint, holds, incidence, side-size, record-size, across}
 use Rattle.regions.specs.Accept.{records-whole, sides-fit, limits-test, overused-test, max-regions, max-edges}
-use Rattle.counts.specs.inner.Tables.{the-graph, no-constraint, edges-on, across, StandsOn, Tables, edge-slots}
+use Rattle.counts.specs.inner.Tables.{the-graph, no-constraint, edges-on, StandsOn, Tables, edge-slots}
 use Rattle.counts.specs.inner.Graph.{first-side, second-side, side-of, PairTested, Tested, Placed, Filled, MayBuild}
 use Rattle.base.specs.declared.refusal.Check.the-variants.{Passed, Refused}
 use Rattle.base.specs.declared.refusal.Refusal.the-variants.{EdgeOverused}

@@ -15,10 +15,10 @@ use lib.Seq.{take-set-le}
 use lib.Dec.{eqb, ltb, T, eqb→eq, eqb-refl}
 use lib.Ieee.{Float, nan, lt, sub, add, binary64}
 use Rattle.base.specs.Lists.{all, member, differs}
-use Rattle.regions.specs.Region.{Constraint, constraint, holds, incidence}
+use Rattle.regions.specs.Region.{Constraint, constraint, holds, incidence, across}
 use Rattle.counts.specs.Move.{Change, balances, select}
 use Rattle.counts.specs.Search.{Act, State, entered, eps, free, is-used, others-changed, path-is-complete, record-path, skip, visit, visit-by}
-use Rattle.counts.specs.inner.Tables.{Other, Tables, across, after, all-decoded, allowed-in, alone, before, cost-in, decoded, edges-on, path-of}
+use Rattle.counts.specs.inner.Tables.{Other, Tables, after, all-decoded, allowed-in, alone, before, cost-in, decoded, edges-on, path-of}
 use Rattle.counts.specs.inner.Tables.{state-of, the-graph, changes, edge-slots, no-constraint}
 use Rattle.counts.specs.inner.SearchContract.{BalancesThere, Closed, Crossed, Ended, MayCloseLoop, MayCross, MayDfs, MayStep, SlotOf, Stepped}
 use Rattle.counts.specs.inner.SearchContract.{changed-among, changed-by, dfs-of, try-partner-of, visit-of}

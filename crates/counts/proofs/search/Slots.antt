@@ -5,22 +5,20 @@ use mathlib.Core.Logic.{_≢_, _⊎_, inl, inr}
 use mathlib.Core.Path.{_≡_, refl, sym, ap, subst, _∙_}
 use mathlib.Core.Bool.{Bool, true, false, cond}
 use mathlib.Core.List.{List, [], _∷_, _++_, nil≢cons, head-eq-of-cons-eq, tail-eq-of-cons-eq}
-use Prim.Native.Nat.{ℕ, zero, suc, _+_, _-_, _*_, _/_, _%_, _≤_, _<_}
+use Prim.Native.Nat.{ℕ, zero, suc, _+_, _*_, _/_, _%_, _≤_, _<_}
 use native.Mathlib.Omega.{arith}
 use native.Mathlib.Numerals.{add-one}
 use lib.ListN.{length, getD, take, set, length-set}
 use lib.Seq.{take-suc, take-suc-set, getD-take}
-use lib.Dec.{eqb, ltb, T, eqb→eq, lt→ltb}
-use lib.Arith.{le→nltb}
+use lib.Dec.{eqb, T, eqb→eq}
 use lib.Ieee.{Float, nan}
 use Rattle.base.specs.Lists.{In}
 use Rattle.regions.specs.Region.{Constraint, constraint, holds, incidence, incidence-from}
 use Rattle.counts.specs.Move.{Change}
-use Rattle.counts.specs.inner.Tables.{Other, Tables, across, after, all-decoded, alone, before, cost-in, decoded, encoded, no-constraint}
+use Rattle.counts.specs.inner.Tables.{Other, Tables, after, all-decoded, alone, before, cost-in, decoded, encoded, no-constraint}
 use Rattle.counts.specs.inner.Tables.{path-of, the-graph, edge-slots}
 use Rattle.counts.specs.inner.SearchContract.{OtherSlot, SlotOf}
 use Rattle.regions.specs.Accept.{max-edges}
-use Rattle.base.proofs.BoolLaws.{T-true, clash, not-T-false}
 use Rattle.regions.proofs.region.Constraints.{holds→incidence, incidence-out, incidence→holds}
 
 -- ---- packed changes
@@ -62,12 +60,6 @@ pub getD-default : (l : List Bool) (i : ℕ) (a b : Bool) → i < length l → g
 getD-default [] i a b h = absurd (omega (arith, h))
 getD-default (x ∷ l) zero a b h = refl
 getD-default (x ∷ l) (suc i) a b h = getD-default l i a b (omega (arith, h))
-
-pub across-low : (s : ℕ) → s % 4 < 2 → s + 2 ≡ across s
-across-low s h = ap (λ (b : Bool). cond b (s + 2) (s - 2)) (sym (T-true (ltb (s % 4) 2) (lt→ltb (s % 4) 2 h)))
-
-pub across-high : (s : ℕ) → 2 ≤ s % 4 → s - 2 ≡ across s
-across-high s h = ap (λ (b : Bool). cond b (s + 2) (s - 2)) (sym (not-T-false (ltb (s % 4) 2) (λ u. clash (ltb (s % 4) 2) u (le→nltb (s % 4) 2 h))))
 
 -- ---- a path copied change by change
 

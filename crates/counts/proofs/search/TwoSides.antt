@@ -12,10 +12,10 @@ use lib.ListN.{length, getD, take, drop, length-drop, length-append}
 use lib.Seq.{getD-take, getD-drop, getD-append-add, length-take-le}
 use lib.Dec.{eqb, T}
 use Rattle.base.specs.Lists.{In, differs, member}
-use Rattle.regions.specs.Region.{Constraint, constraint, holds, opposite-side, own-side, places, side-size}
+use Rattle.regions.specs.Region.{Constraint, constraint, holds, opposite-side, own-side, places, side-size, across}
 use Rattle.counts.specs.Move.{Change, select}
 use Rattle.counts.specs.Search.{others-changed, signed}
-use Rattle.counts.specs.inner.Tables.{StandsOn, Tables, across, decoded, edges-on, the-graph, edge-slots, no-constraint}
+use Rattle.counts.specs.inner.Tables.{StandsOn, Tables, decoded, edges-on, the-graph, edge-slots, no-constraint}
 use Rattle.counts.specs.inner.SearchContract.{SidesInside, MayReadSides, SidesRead, both-in, both-sides, both-signed, changed-among, opposite-in}
 use Rattle.counts.specs.inner.SearchContract.{own-in, signed-in}
 use Rattle.counts.specs.declared.search.Sides.{Sides}

@@ -13,11 +13,11 @@ use lib.ListN.{length, getD, take, drop, set, replicate}
 use lib.Dec.{eqb, leb, T}
 use lib.Ieee.{Float, inf}
 use Rattle.base.specs.Lists.{any, each, differs, member}
-use Rattle.regions.specs.Region.{places, side-size, Constraint, constraint, holds, own-side, opposite-side, incidence}
+use Rattle.regions.specs.Region.{places, side-size, Constraint, constraint, holds, own-side, opposite-side, incidence, across}
 use Rattle.counts.specs.Move.{Change, balances, select}
 use Rattle.counts.specs.Search.{Go, Act, State, skip, turned-back, entered, record-path, signed, others-changed, is-used, free, try-step, visit}
 use Rattle.counts.specs.Search.{dfs, run}
-use Rattle.counts.specs.inner.Tables.{decoded, path-of, state-of, the-graph, cost-in, allowed-in, no-constraint, edges-on, across, Other, Tables}
+use Rattle.counts.specs.inner.Tables.{decoded, path-of, state-of, the-graph, cost-in, allowed-in, no-constraint, edges-on, Other, Tables}
 use Rattle.counts.specs.inner.Tables.{edge-slots, changes, marks-size, path-size, max-sides}
 use Rattle.counts.specs.declared.search.SearchState.{SearchState}
 use Rattle.counts.specs.declared.search.Sides.{Sides}

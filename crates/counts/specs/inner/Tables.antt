@@ -10,7 +10,7 @@ use lib.ListN.{length, getD, set, take, drop}
 use lib.Dec.{eqb, ltb, T}
 use lib.Ieee.{Float, nan}
 use Rattle.base.specs.Lists.{member}
-use Rattle.regions.specs.Region.{Constraint, places, graph, constraint, holds, own-side, opposite-side, incidence, side-size}
+use Rattle.regions.specs.Region.{Constraint, places, graph, constraint, holds, own-side, opposite-side, incidence, side-size, across}
 use Rattle.regions.specs.Accept.{max-regions, max-edges}
 use Rattle.counts.specs.Move.{Change, EdgeCost, is-allowed}
 use Rattle.counts.specs.Cost.{CostModel}
@@ -92,10 +92,6 @@ path-size = max-constraints + 1
 -- the edges of side s, sides counted over all records
 abbrev pub edges-on : List ℕ → ℕ → List ℕ
 edges-on regions s = take (getD regions (s * side-size places) 0) (drop (s * side-size places + 1) regions)
-
--- the side opposite s
-abbrev pub across : ℕ → ℕ
-across s = cond (ltb (s % 4) 2) (s + 2) (s - 2)
 
 -- y is in constraint i, and o is its other constraint, or none
 pub data Other (g : List Constraint) (y i o : ℕ) : Type 0 where
