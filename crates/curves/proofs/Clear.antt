@@ -9,7 +9,7 @@ use lib.Dec.{T, leb, ltb, eqb}
 use lib.Ieee.{Float, nan, binary64, sub, lt, le}
 use Rattle.base.specs.declared.verdict.Verdict.{Verdict}
 use Rattle.base.specs.Refusal.{passed, refused, is-passed, then-test, refuse-if}
-use Rattle.regions.specs.Region.{places, record-size, side}
+use Rattle.regions.specs.Region.{places, record-size, side, empty-pair}
 use Rattle.regions.specs.Accept.{records-whole, max-edges}
 use Rattle.base.specs.Lists.{all}
 use Rattle.base.proofs.BoolLaws.{eq→eqb, nor-left, by-truth}
@@ -59,12 +59,12 @@ module _ {ns : Numbers} where
   passed-clear : Without ns passed
   passed-clear = record { other = ns .no-pass }
 
+  cond-clear : (b : Bool) {v w : Verdict} → Without ns v → Without ns w → Without ns (cond b v w)
+  cond-clear true p q = p
+  cond-clear false p q = q
+
   then-clear : {v w : Verdict} → Without ns v → Without ns w → Without ns (then-test v w)
-  then-clear {v} {w} p q = go (is-passed v)
-    where
-      go : (b : Bool) → Without ns (cond b w v)
-      go true = q
-      go false = p
+  then-clear {v} {w} p q = cond-clear (is-passed v) q p
 
   if-clear : (b : Bool) (n p q : ℕ) → T (not (ns .has n)) → Without ns (refuse-if b (refused n p q))
   if-clear true n p q t = record { other = t }
@@ -278,7 +278,8 @@ edges-clear region n k = if-clear (not (all (λ (e : ℕ). ltb e n) (side places
 
 breaks-clear : (region : List ℕ) (breaks : List Float) (k : ℕ) → Clear (breaks-test region breaks k)
 unfolding breaks-test
-breaks-clear region breaks k = if-clear (not (eqb (length breaks) (suc (length (side places region k))))) 27 k 0 tt
+breaks-clear region breaks k =
+    cond-clear (empty-pair places region k) passed-clear (if-clear (not (eqb (length breaks) (suc (length (side places region k))))) 27 k 0 tt)
 
 sides-clear : (region : List ℕ) (n : ℕ) (f : TileInput) → Clear (sides-test region n f)
 unfolding sides-test

@@ -1,6 +1,6 @@
--- Demand 3, whole. The rounds are counts' `demand-3-rounds`. A tile's seams are one longer than its sides add up to; an accepted solve leaves
--- opposite sides that add up to the same, and each round keeps their difference. So opposite seams are equally long, and no other test refuses
--- with 22. Assumes nothing.
+-- Demand 3, whole. The rounds are counts' `demand-3-rounds`. A tile's seams are one longer than its sides add up to, or, where both sides of a pair
+-- are empty, two long; an accepted solve leaves opposite sides that add up to the same, and each round keeps their difference. So opposite seams are
+-- equally long, and no other test refuses with 22. Assumes nothing.
 use mathlib.Core.Logic.{inl, inr}
 use mathlib.Core.Path.{_≡_, refl, sym, ap, subst, _∙_}
 use mathlib.Core.Bool.{_||_}
@@ -13,7 +13,7 @@ use lib.Dec.{T, eqb, lt→ltb, ltb→lt}
 use lib.Ieee.{Float}
 use Rattle.base.specs.Refusal.{is-passed}
 use Rattle.base.specs.Lists.{In, member}
-use Rattle.regions.specs.Region.{Constraint, constraint, places, region-count, graph, side, side-sum}
+use Rattle.regions.specs.Region.{Constraint, constraint, places, region-count, graph, side, side-sum, empty-pair}
 use Rattle.counts.specs.Round.{solve-zeros}
 use Rattle.counts.specs.Cost.{Spacing, costs-of, edges-of}
 use Rattle.counts.specs.Solver.{expansions, solve}
@@ -22,13 +22,14 @@ use Rattle.counts.specs.Demand.{Request, answer-to, request-costs, left-by-all,
 use Rattle.counts.proofs.Accepted.{Accepted, accepted-ok}
 use Rattle.base.proofs.BoolLaws.{clash, eq→eqb, or-left, or-right}
 use Rattle.regions.proofs.accept.Record.{same-sides}
+use Rattle.regions.proofs.region.Pairs.{pair-same}
 use Rattle.base.proofs.ListLaws.{in→member}
 use Rattle.counts.proofs.Rounds.{Steady, steady-all, constraint-at, demand-3-rounds, test-of, limit-of, answer-to-is}
 use Rattle.counts.proofs.Solving.{SolveIs, solve-is, solve-balanced, level-solved}
 use Rattle.curves.specs.Lay.{TileInput, seams-of, seam-of, lay}
 use Rattle.curves.specs.Demand.{record-of, Alike, Handed, Demand-3}
 use Rattle.curves.proofs.Clear.{EqualSeams, lay-clear}
-use Rattle.curves.proofs.lay.Laws.{length-seam}
+use Rattle.curves.proofs.lay.Laws.{equally-long}
 
 -- ---- more counts than edges do no harm
 
@@ -168,8 +169,8 @@ equal-seams : (regions counts : List ℕ) → Handed regions counts → (r : ℕ
     → EqualSeams (seams-of (record-of regions r) counts f)
 equal-seams regions counts h r l f =
     record {
-      bottom-top = alike 0 2 (f .breaks0) (f .breaks2) (omega arith) (omega arith) (b .bottom-top r l);
-      left-right = alike 3 1 (f .breaks3) (f .breaks1) (omega arith) (omega arith) (sym (b .right-left r l));
+      bottom-top = alike 0 2 (f .breaks0) (f .breaks2) (omega arith) (omega arith) (pair-same places region 0 2 refl refl) (b .bottom-top r l);
+      left-right = alike 3 1 (f .breaks3) (f .breaks1) (omega arith) (omega arith) (pair-same places region 3 1 refl refl) (sym (b .right-left r l));
     }
   where
     b : Balanced regions counts
@@ -178,14 +179,13 @@ equal-seams regions counts h r l f =
     region : List ℕ
     region = record-of regions r
 
-    seam-long : (k : ℕ) (breaks : List Float) → k < 4 → length (seam-of region counts k breaks) ≡ suc (sum-of regions counts r k)
-    seam-long k breaks j =
-        length-seam region counts k breaks
-        ∙ ap (λ (edges : List ℕ). suc (side-sum counts edges)) (same-sides places (edges-of (h .spacing)) regions (is regions counts h .regions-accepted) r l k j)
+    same-sum : (k : ℕ) → k < 4 → side-sum counts (side places region k) ≡ sum-of regions counts r k
+    same-sum k j =
+        ap (side-sum counts) (same-sides places (edges-of (h .spacing)) regions (is regions counts h .regions-accepted) r l k j)
 
-    alike : (j k : ℕ) (breaks others : List Float) → j < 4 → k < 4 → sum-of regions counts r j ≡ sum-of regions counts r k
-        → length (seam-of region counts j breaks) ≡ length (seam-of region counts k others)
-    alike j k breaks others p q e = seam-long j breaks p ∙ ap suc e ∙ sym (seam-long k others q)
+    alike : (j k : ℕ) (breaks others : List Float) → j < 4 → k < 4 → empty-pair places region j ≡ empty-pair places region k
+        → sum-of regions counts r j ≡ sum-of regions counts r k → length (seam-of region counts j breaks) ≡ length (seam-of region counts k others)
+    alike j k breaks others p q same e = equally-long region counts j k breaks others same (same-sum j p ∙ e ∙ sym (same-sum k q))
 
 pub demand-3 : (regions : List ℕ) → Demand-3 regions
 demand-3 regions =

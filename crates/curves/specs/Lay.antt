@@ -1,14 +1,15 @@
 -- Lay, which "grids one region, given as just one record, from counts, breaks and curves, and answers and writes what `coons_from_parameters` does
 -- on its seams". Assumes nothing.
-use mathlib.Core.Bool.{not}
+use mathlib.Core.Bool.{not, cond}
 use mathlib.Core.List.{List, [], _∷_}
 use Prim.Native.Nat.{ℕ, suc}
 use lib.ListN.{length, getD}
 use lib.Dec.{ltb, eqb}
 use lib.Ieee.{Float}
 use Rattle.base.specs.declared.verdict.Verdict.{Verdict}
-use Rattle.base.specs.Refusal.{refused, then-test, refuse-if}
-use Rattle.regions.specs.Region.{places, record-size, side}
+use Rattle.base.specs.Refusal.{passed, refused, then-test, refuse-if}
+use Rattle.regions.specs.Region.{places, record-size, side, empty-pair}
+use Rattle.floats.specs.Scalar.{nought, one}
 use Rattle.base.specs.Lists.{all}
 use Rattle.regions.specs.Accept.{limits-test}
 use Rattle.curves.specs.Seam.{side-seam}
@@ -46,10 +47,14 @@ abbrev pub counts-along : List ℕ → List ℕ → List ℕ
 counts-along counts [] = []
 counts-along counts (e ∷ es) = getD counts e 0 ∷ counts-along counts es
 
--- "A side with k edges takes k+1 breaks": the seam of side k of a record
+-- 02, item 2: "one cell across: its seams are 0 and 1"
+abbrev pub one-cell : List Float
+one-cell = nought ∷ one ∷ []
+
+-- the seam of side k of a record: one cell across a pair that is empty on both sides; else "A side with k edges takes k+1 breaks"
 unfoldable pub seam-of : List ℕ → List ℕ → ℕ → List Float → List Float
-unfolding side-seam
-seam-of region counts k breaks = side-seam breaks (counts-along counts (side places region k))
+unfolding empty-pair side-seam
+seam-of region counts k breaks = cond (empty-pair places region k) one-cell (side-seam breaks (counts-along counts (side places region k)))
 
 -- "Sides 0 and 2 run left to right, 1 and 3 bottom to top"
 abbrev pub seams-of : List ℕ → List ℕ → TileInput → Seams
@@ -67,9 +72,11 @@ record-test region n = then-test (refuse-if (not (eqb (length region) (record-si
 unfoldable pub edges-test : List ℕ → ℕ → ℕ → Verdict
 edges-test region n k = refuse-if (not (all (λ (e : ℕ). ltb e n) (side places region k))) (refused 3 0 k)
 
--- "breaks not edges + 1": 27 at the side
+-- "breaks not edges + 1": 27 at the side; of an empty pair the "breaks are not read, so 27 is not tested there"
 unfoldable pub breaks-test : List ℕ → List Float → ℕ → Verdict
-breaks-test region breaks k = refuse-if (not (eqb (length breaks) (suc (length (side places region k))))) (refused 27 k 0)
+unfolding empty-pair
+breaks-test region breaks k =
+    cond (empty-pair places region k) passed (refuse-if (not (eqb (length breaks) (suc (length (side places region k))))) (refused 27 k 0))
 
 -- "3, 27 (each over sides 0 to 3)"
 unfoldable pub sides-test : List ℕ → ℕ → TileInput → Verdict

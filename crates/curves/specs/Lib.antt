@@ -12,5 +12,6 @@ pub mod Grid
 pub mod Stones
 pub mod Coons
 pub mod Lay
+pub mod Strips
 pub mod Demand
 pub mod inner

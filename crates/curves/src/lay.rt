@@ -17,6 +17,7 @@ use base::refusal::Refusal;
 use regions::accept::check_limits;
 use regions::region::PLACES;
 use regions::region::RECORD_SIZE;
+use regions::region::empty_pair;
 use regions::region::side;
 
 // The edges of a side.
@@ -62,10 +63,14 @@ fn check_all_edges(region: &[u16], n: usize) -> Check
     of_bottom.and(from_right)
 }
 
-// 27 of side k: one break more than edges.
+// 27 of side k: one break more than edges. The breaks of an empty pair are not read, so there may be any number of them.
 fn check_breaks(region: &[u16], breaks: &[f64], k: u32) -> Check
     ensures { λ r. ⌜ outcome r ≡ breaks-test (now (region .entry)) (now (breaks .entry)) k ⌝ }
 {
+    let unread = empty_pair(region, k);
+    if unread {
+        return Check::Passed;
+    }
     let edges = side(region, k);
     if breaks.len() != edges.len() + 1 {
         return Check::Refused(Refusal::BreaksMismatch(k));
@@ -139,11 +144,16 @@ fn counts_along(edges: &[u16], counts: &[u32], out: &mut [u32]) -> usize
     total
 }
 
-// Writes the seam of side k, unless it is too long, and returns how many values it has.
+// Writes the seam of side k, unless it is too long, and returns how many values it has. Across an empty pair there is one cell.
 fn lay_side(region: &[u16], counts: &[u32], k: u32, breaks: &[f64], out: &mut [f64]) -> usize
     requires { ⌜ SideGiven (now region) (now counts) k (now breaks) (now out) ⌝ }
     ensures { λ r. ⌜ SideLaid (now (region .entry)) (now (counts .entry)) k (now (breaks .entry)) (now (out .exit)) r ⌝ }
 {
+    if empty_pair(region, k) {
+        out[0] = 0.0;
+        out[1] = 1.0;
+        return 2;
+    }
     let edges = side(region, k);
     let mut along = [0u32; MAX_ALONG];
     let total = counts_along(edges, counts, &mut along);

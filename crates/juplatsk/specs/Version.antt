@@ -5,11 +5,11 @@ abbrev pub major : ℕ
 major = 0
 
 abbrev pub minor : ℕ
-minor = 5
+minor = 6
 
 abbrev pub patch : ℕ
 patch = 0
 
--- "0.5.0" as one number
+-- "0.6.0" as one number
 abbrev pub version : ℕ
 version = 10000 * major + 100 * minor + patch

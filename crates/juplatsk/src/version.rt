@@ -3,7 +3,7 @@
 // as before. Minor and patch stay below 100.
 const MAJOR: u32 = 0;
 
-const MINOR: u32 = 5;
+const MINOR: u32 = 6;
 
 const PATCH: u32 = 0;
 

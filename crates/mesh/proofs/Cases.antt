@@ -9,9 +9,10 @@ use Rattle.floats.specs.Root.{root-answer}
 use Rattle.curves.specs.Curve.{arc-curve}
 use Rattle.curves.specs.Grid.{row-of}
 use Rattle.curves.specs.Coons.{coons-curves, coons-from-parameters}
+use Rattle.curves.specs.Lay.{lay}
 use Rattle.mesh.specs.Cases.{areas, All-hold, bench}
 
 pub bench-holds : All-hold bench
-unfolding solve round edge-delta range-delta first-bad constraints coons-curves coons-from-parameters arc-curve row-of areas root-answer ofBits ofInt
+unfolding solve round edge-delta range-delta first-bad constraints coons-curves coons-from-parameters lay arc-curve row-of areas root-answer ofBits ofInt
 bench-holds =
-    (refl, (refl, (refl, (refl, (refl, (refl, (refl, (refl, (refl, (refl, (refl, (refl, (refl, (refl, (refl, (refl, (refl, (refl, (refl, (refl, (refl, (refl, (refl, (refl, tt))))))))))))))))))))))))
+    (refl, (refl, (refl, (refl, (refl, (refl, (refl, (refl, (refl, (refl, (refl, (refl, (refl, (refl, (refl, (refl, (refl, (refl, (refl, (refl, (refl, (refl, (refl, (refl, (refl, (refl, (refl, (refl, tt))))))))))))))))))))))))))))

@@ -22,11 +22,19 @@ use Rattle.curves.specs.Point.{signed-area}
 use Rattle.curves.specs.Curve.{point-at}
 use Rattle.curves.specs.Grid.{Seams, seams}
 use Rattle.curves.specs.Coons.{Outcome, coons-seamed, coons-quads}
+use Rattle.curves.specs.Lay.{tile-input, lay}
 
 -- ---- what a case says
 
 -- the curves of a tile, counter-clockwise from its bottom
 pub record Tile : Type 0 where
+  pub bottom : List Float
+  pub right : List Float
+  pub top : List Float
+  pub left : List Float
+
+-- the breaks of its sides, in the same order
+pub record Breaks : Type 0 where
   pub bottom : List Float
   pub right : List Float
   pub top : List Float
@@ -40,6 +48,8 @@ pub data Case : Type 0 where
   gridded : Tile → ℕ → ℕ → List Float → Outcome → Case
   -- output lent
   seamed : Tile → Seams → List Float → Outcome → Case
+  -- record, counts, breaks, output lent
+  laid : Tile → List ℕ → List ℕ → Breaks → List Float → Outcome → Case
   -- the areas of the first quads of an output
   measured : List Float → ℕ → List Float → Case
   rooted : Float → Answer Float → Case
@@ -54,6 +64,8 @@ Holds (solved regions spacing lent limit o) = solve regions spacing lent (expans
 Holds (moved regions spacing counts limit o) = round regions spacing counts (expansions limit) ≡ o
 Holds (gridded t n m lent o) = coons-quads (t .bottom) (t .right) (t .top) (t .left) n m lent ≡ o
 Holds (seamed t s lent o) = coons-seamed (t .bottom) (t .right) (t .top) (t .left) s lent ≡ o
+Holds (laid t region counts b lent o) =
+    lay region counts (tile-input (b .bottom) (b .right) (b .top) (b .left) (t .bottom) (t .right) (t .top) (t .left)) lent ≡ o
 Holds (measured out n o) = areas out n ≡ o
 Holds (rooted x o) = root-answer x ≡ o
 
@@ -245,10 +257,49 @@ case-limit-0 = free-edge (Expansions 0) (record { verdict = passed; moves = 0; c
 abbrev pub case-limit-over : Case
 case-limit-over = free-edge (Expansions (max-limit + 1)) (record { verdict = refused 10 0 0; moves = 0; counts = lent-counts 1 })
 
+-- ---- 02, "A strip with no marked edges"
+
+abbrev pub whole-side : List Float
+whole-side = nought ∷ one ∷ []
+
+abbrev pub nan-breaks : ℕ → List Float
+nan-breaks n = replicate n nan
+
+-- "a side pair that is empty on both sides means one cell across (..) its breaks are not read": two quads between right and left
+abbrev pub case-strip : Case
+case-strip =
+    laid square (region [] (alone 0) [] (alone 1)) (2 ∷ 2 ∷ []) (record { bottom = []; right = whole-side; top = nan-breaks 3; left = whole-side })
+    (replicate 17 nan) (record {
+      verdict = passed;
+      quads = 2;
+      out =
+          nought ∷ nought ∷ one ∷ nought ∷ one ∷ half ∷ nought ∷ half
+          ∷ nought ∷ half ∷ one ∷ half ∷ one ∷ one ∷ nought ∷ one ∷ nan ∷ [];
+    })
+
+-- both pairs are empty: the square itself
+abbrev pub case-no-edges : Case
+case-no-edges =
+    laid square (region [] [] [] []) [] (record { bottom = nan-breaks 1; right = []; top = nan-breaks 2; left = one ∷ nought ∷ [] }) (replicate 9 nan)
+    (record { verdict = passed; quads = 1; out = nought ∷ nought ∷ one ∷ nought ∷ one ∷ one ∷ nought ∷ one ∷ nan ∷ [] })
+
+-- "One empty side opposite a side with edges is treated as before": 27 first, then 18
+abbrev pub half-empty : List Float → Outcome → Case
+half-empty bottom o =
+    laid square (region [] (alone 0) (alone 0) (alone 0)) (1 ∷ []) (record { bottom = bottom; right = whole-side; top = whole-side; left = whole-side })
+    (replicate 8 nan) o
+
+abbrev pub case-empty-alone-27 : Case
+case-empty-alone-27 = half-empty [] (record { verdict = refused 27 0 0; quads = 0; out = replicate 8 nan })
+
+abbrev pub case-empty-alone-18 : Case
+case-empty-alone-18 = half-empty (nought ∷ []) (record { verdict = refused 18 0 0; quads = 0; out = replicate 8 nan })
+
 abbrev pub bench : List Case
 bench =
     case-A ∷ case-B ∷ case-C ∷ case-D ∷ case-E ∷ case-F ∷ case-G
     ∷ case-H ∷ areas-H ∷ case-I ∷ case-J ∷ case-K-turned-back ∷ case-K-made ∷ case-L
     ∷ case-least-met ∷ case-ranges-meet ∷ case-inside ∷ case-reversed
     ∷ case-last-place ∷ case-side-of-33 ∷ case-record-of-68
-    ∷ case-unstated ∷ case-limit-0 ∷ case-limit-over ∷ []
+    ∷ case-unstated ∷ case-limit-0 ∷ case-limit-over
+    ∷ case-strip ∷ case-no-edges ∷ case-empty-alone-27 ∷ case-empty-alone-18 ∷ []

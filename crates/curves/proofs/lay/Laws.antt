@@ -12,14 +12,14 @@ use lib.ListN.{length, getD, set, take, drop, length-append}
 use lib.Seq.{take-all}
 use Rattle.base.specs.Lists.{all}
 use Rattle.base.specs.declared.verdict.Verdict.{Verdict}
-use Rattle.base.specs.Refusal.{refused, verdict-of, outcome, is-passed, then-test, refuse-if}
-use Rattle.regions.specs.Region.{places, side, side-sum, record-size}
+use Rattle.base.specs.Refusal.{passed, refused, verdict-of, outcome, is-passed, then-test, refuse-if}
+use Rattle.regions.specs.Region.{places, side, side-sum, record-size, empty-pair}
 use Rattle.regions.specs.Accept.{sides-fit, limits-test}
 use Rattle.base.specs.declared.refusal.Check.{Check}
 use Rattle.base.specs.declared.refusal.Check.the-variants.{Passed, Refused}
 use Rattle.base.specs.declared.refusal.Refusal.{Refusal}
 use Rattle.base.specs.declared.refusal.Refusal.the-variants as because
-use Rattle.base.proofs.BoolLaws.{T-true}
+use Rattle.base.proofs.BoolLaws.{T-true, by-truth}
 use Rattle.base.proofs.TestLaws.{then-left, then-right, not-refused, four-passed, told-passed}
 use Rattle.regions.proofs.accept.Laws.{limits-passed, whole-sides, side-few}
 use Rattle.counts.proofs.SolverLaws.{side-short}
@@ -28,7 +28,7 @@ use Rattle.base.specs.Buffers.{splice}
 use Rattle.curves.specs.Seam.{edge-values, seam-from, side-seam}
 use Rattle.curves.specs.Grid.{Seams, seams}
 use Rattle.curves.specs.Coons.{Outcome, outcome-of, curves-limit, seam-limit, seams-limit, coons-from-parameters}
-use Rattle.curves.specs.Lay.{TileInput, counts-along, seam-of, seams-of, record-test, edges-test, breaks-test, sides-test, lay-test, lay}
+use Rattle.curves.specs.Lay.{TileInput, counts-along, one-cell, seam-of, seams-of, record-test, edges-test, breaks-test, sides-test, lay-test, lay}
 use Rattle.curves.specs.declared.rows.Layout.the-variants.{Quads}
 use Rattle.curves.specs.declared.answer.GridAnswer.the-variants as grid-answer
 use Rattle.base.proofs.BufferLaws.{part-written, set-splice, take-splice}
@@ -37,7 +37,20 @@ use Rattle.curves.proofs.seam.Laws.{length-edge}
 use Rattle.curves.specs.Limits.{max-seam}
 use Rattle.curves.specs.inner.Lays.{Counted, SidePassed, SideLaid, FourShort}
 
--- ---- how long a seam is: one more than its side adds up to
+-- ---- the seam of a side, by whether its pair is empty
+
+pub seam-by : (region counts : List ℕ) (k : ℕ) (breaks : List Float) {b : Bool} → empty-pair places region k ≡ b
+    → seam-of region counts k breaks ≡ cond b one-cell (side-seam breaks (counts-along counts (side places region k)))
+unfolding seam-of
+seam-by region counts k breaks e = ap (λ (b : Bool). cond b one-cell (side-seam breaks (counts-along counts (side places region k)))) e
+
+-- what is written across an empty pair
+pub two-written : (l : List Float) (x y : Float) → 2 ≤ length l → take 2 (set (set l 0 x) 1 y) ≡ x ∷ y ∷ []
+two-written [] x y h = absurd (omega (arith, h))
+two-written (u ∷ []) x y h = absurd (omega (arith, h))
+two-written (u ∷ v ∷ l) x y h = refl
+
+-- ---- how long it is: one more than its side adds up to, or two
 
 length-from : (breaks : List Float) (i : ℕ) (counts edges : List ℕ) → length (seam-from breaks i (counts-along counts edges)) ≡ suc (side-sum counts edges)
 unfolding seam-from
@@ -49,14 +62,19 @@ length-from breaks i counts (e ∷ edges) =
     ∙ ap (λ (k : ℕ). n + k) (length-from breaks (suc i) counts edges)
     ∙ add-suc n (side-sum counts edges)
 
-pub length-seam : (region counts : List ℕ) (k : ℕ) (breaks : List Float) → length (seam-of region counts k breaks) ≡ suc (side-sum counts (side places region k))
-unfolding seam-of side-seam
-length-seam region counts k breaks = length-from breaks 0 counts (side places region k)
+pub length-seam : (region counts : List ℕ) (k : ℕ) (breaks : List Float) → empty-pair places region k ≡ false
+    → length (seam-of region counts k breaks) ≡ suc (side-sum counts (side places region k))
+unfolding side-seam
+length-seam region counts k breaks e = ap length (seam-by region counts k breaks e) ∙ length-from breaks 0 counts (side places region k)
 
-pub seam-is : (region counts : List ℕ) (k : ℕ) (breaks : List Float) {along : List ℕ} → along ≡ counts-along counts (side places region k)
-    → side-seam breaks along ≡ seam-of region counts k breaks
-unfolding seam-of
-seam-is region counts k breaks e = ap (side-seam breaks) e
+-- two sides of one pair that add up to the same have seams of one length
+pub equally-long : (region counts : List ℕ) (j k : ℕ) (breaks others : List Float) → empty-pair places region j ≡ empty-pair places region k
+    → side-sum counts (side places region j) ≡ side-sum counts (side places region k)
+    → length (seam-of region counts j breaks) ≡ length (seam-of region counts k others)
+equally-long region counts j k breaks others same even =
+    by-truth (empty-pair places region k)
+    (λ e. ap length (seam-by region counts j breaks (same ∙ e)) ∙ sym (ap length (seam-by region counts k others e)))
+    (λ e. length-seam region counts j breaks (same ∙ e) ∙ ap suc even ∙ sym (length-seam region counts k others e))
 
 -- ---- the counts of a side's edges
 
@@ -106,11 +124,20 @@ module _ (region : List ℕ) (n : ℕ) where
   unfolding edges-test
   edges-by k b s e = ap (λ (x : Bool). refuse-if (not x) (refused 3 0 k)) (sym e ∙ ap (all (λ (x : ℕ). ltb x n)) s)
 
-pub breaks-by : (region : List ℕ) (breaks : List Float) (k : ℕ) {edges : List ℕ} (b : Bool) → edges ≡ side places region k
-    → eqb (length breaks) (suc (length edges)) ≡ b
-    → refuse-if (not b) (refused 27 k 0) ≡ breaks-test region breaks k
-unfolding breaks-test
-breaks-by region breaks k b s e = ap (λ (x : Bool). refuse-if (not x) (refused 27 k 0)) (sym e ∙ ap (λ (l : List ℕ). eqb (length breaks) (suc (length l))) s)
+module _ (region : List ℕ) (breaks : List Float) (k : ℕ) where
+  abbrev breaks-fit : Bool
+  breaks-fit = eqb (length breaks) (suc (length (side places region k)))
+
+  -- by whether the pair is empty
+  pub breaks-read : {b : Bool} → empty-pair places region k ≡ b → breaks-test region breaks k ≡ cond b passed (refuse-if (not breaks-fit) (refused 27 k 0))
+  unfolding breaks-test
+  breaks-read e = ap (λ (b : Bool). cond b passed (refuse-if (not breaks-fit) (refused 27 k 0))) e
+
+  -- and, where it is not, by whether they fit
+  pub breaks-by : {edges : List ℕ} (b : Bool) → empty-pair places region k ≡ false → edges ≡ side places region k
+      → eqb (length breaks) (suc (length edges)) ≡ b → refuse-if (not b) (refused 27 k 0) ≡ breaks-test region breaks k
+  breaks-by b r s e =
+      ap (λ (x : Bool). refuse-if (not x) (refused 27 k 0)) (sym e ∙ ap (λ (l : List ℕ). eqb (length breaks) (suc (length l))) s) ∙ sym (breaks-read r)
 
 -- ---- what they let by
 
@@ -122,12 +149,12 @@ pub edges-known : (region : List ℕ) (n k : ℕ) → T (is-passed (edges-test r
 unfolding edges-test
 edges-known region n k t = let b = all (λ (e : ℕ). ltb e n) (side places region k) in not-not b (not-refused (not b) 2 0 k t)
 
-pub breaks-known : (region : List ℕ) (breaks : List Float) (k : ℕ) → T (is-passed (breaks-test region breaks k))
+pub breaks-known : (region : List ℕ) (breaks : List Float) (k : ℕ) → empty-pair places region k ≡ false → T (is-passed (breaks-test region breaks k))
     → length breaks ≡ suc (length (side places region k))
-unfolding breaks-test
-breaks-known region breaks k t =
-    let b = eqb (length breaks) (suc (length (side places region k))) in
-    eqb→eq (length breaks) (suc (length (side places region k))) (not-not b (not-refused (not b) 26 k 0 t))
+breaks-known region breaks k r t =
+    let b = breaks-fit region breaks k in
+    let u = subst (λ (v : Verdict). T (is-passed v)) (breaks-read region breaks k r) t in
+    eqb→eq (length breaks) (suc (length (side places region k))) (not-not b (not-refused (not b) 26 k 0 u))
 
 -- a record that is let by has no more edges on a side than places
 pub sides-short : (region : List ℕ) (n : ℕ) → T (is-passed (record-test region n)) → (k : ℕ) → k < 4 → length (side places region k) ≤ places

@@ -15,7 +15,7 @@ use Rattle.base.specs.declared.refusal.Check.{Check}
 use Rattle.base.specs.declared.refusal.Check.the-variants.{Passed, Refused}
 use Rattle.base.specs.declared.refusal.Refusal.{Refusal}
 use Rattle.base.specs.declared.refusal.Refusal.the-variants as because
-use Rattle.base.proofs.BoolLaws.{not-T-false}
+use Rattle.base.proofs.BoolLaws.{not-T-false, by-truth, clash, false-T}
 use Rattle.base.proofs.TestLaws.{then-left, then-right, not-refused, was-passed, chain-stops, chain-goes-on, told-passed, both-passed, follows, refuses}
 use Rattle.curves.specs.Boundary.{BoundaryCurves}
 use Rattle.curves.specs.inner.Grids.{ShortSeams, PairedSeams, Gridded}
@@ -39,6 +39,19 @@ goes-on out rest v e = ap (λ (b : Bool). elim b [
   | true ↦ rest
   | false ↦ refusal out v
 ]) (sym e)
+
+stays : (out : List Float) (rest : Outcome) (v : Verdict) → is-passed v ≡ false → refusal out v ≡ unless v out rest
+stays out rest v e = ap (λ (b : Bool). elim b [
+  | true ↦ rest
+  | false ↦ refusal out v
+]) (sym e)
+
+-- an answer that is no refusal is what follows
+pub went-on : (out : List Float) (rest : Outcome) (v : Verdict) → T (is-passed (unless v out rest .verdict)) → unless v out rest ≡ rest
+went-on out rest v t =
+    by-truth (is-passed v) (λ e. sym (goes-on out rest v e)) (λ e.
+    let u : T (is-passed v) = subst (λ (o : Outcome). T (is-passed (o .verdict))) (sym (stays out rest v e)) t in
+    absurd (clash (is-passed v) u (false-T (is-passed v) e)))
 
 pub let-by : (out : List Float) (rest : Outcome) {c : Check} {v : Verdict} → c ≡ Passed → outcome c ≡ v → rest ≡ unless v out rest
 let-by out rest {v = v} e o = goes-on out rest v (was-passed e o)
