@@ -1,6 +1,6 @@
 //! Farms made of rows of regions. Each row has its own cuts; where a cut of one row meets a region of the next is a T-junction.
 
-use crate::limits::SIDE;
+use crate::limits::{RECORD, SIDE};
 
 pub struct Farm {
     pub regions: Vec<u16>,
@@ -16,6 +16,21 @@ pub fn record(sides: [&[u16]; 4]) -> Vec<u16> {
         numbers.resize(numbers.len().next_multiple_of(SIDE), u16::MAX);
     }
     numbers
+}
+
+/// Records of which some pairs of opposite sides, as `emptied` says of each, list no edge any more, so that their regions are strips. What
+/// stood in their places stays there. A list that is accepted stays so: each edge stands in as many constraints as before, or in fewer.
+pub fn without_pairs(regions: &[u16], mut emptied: impl FnMut() -> bool) -> Vec<u16> {
+    let mut strips = regions.to_vec();
+    for region in strips.chunks_exact_mut(RECORD) {
+        for side in [0, 1] {
+            if emptied() {
+                region[side * SIDE] = 0;
+                region[(side + 2) * SIDE] = 0;
+            }
+        }
+    }
+    strips
 }
 
 /// Four lists, lent.

@@ -8,7 +8,7 @@ use crate::former;
 use crate::generate::{expected, Cases, LENGTHS, NUMBERS, PLACES, SIDES};
 use crate::geometry::{Flat, Seams};
 use crate::grids::{self, Boundary, Source};
-use crate::lay::Region;
+use crate::lay::{self, Region};
 use crate::limits;
 use crate::refusal::Refusal;
 use crate::stored::Case;
@@ -58,8 +58,8 @@ pub struct Input {
     pub seams: [Vec<f64>; 4],
     n_u: u32,
     n_v: u32,
-    record: Vec<u16>,
-    counts: Vec<u32>,
+    pub record: Vec<u16>,
+    pub counts: Vec<u32>,
     /// Of a loop, what comes behind its closing point.
     behind: Flat,
     /// How many values the outputs have more than they need.
@@ -111,7 +111,7 @@ impl Input {
         self
     }
 
-    fn room(mut self, room: isize) -> Input {
+    pub fn room(mut self, room: isize) -> Input {
         (self.room, self.cells_room) = (room, room);
         self
     }
@@ -154,9 +154,13 @@ impl Input {
         grids::grid(Source::Even(Boundary::Loop(self.points()), self.n_u, self.n_v), out)
     }
 
-    /// The output has room for just the cells that the counts ask for on the bottom and the left.
+    /// The output has room for just the cells that the counts ask for on the bottom and the left, or for one across.
     pub fn lay(self) -> Result<Case, String> {
+        let unread = lay::unread(&self.record);
         let sum = |side: usize| -> usize {
+            if unread[side] {
+                return 1;
+            }
             let start = side * limits::SIDE;
             let edges = self.record.get(start).map_or(0, |&edges| usize::from(edges).min(limits::SIDE_EDGES));
             let count = |place: &u16| self.counts.get(usize::from(*place)).map_or(0, |&count| count as usize);
@@ -198,7 +202,7 @@ impl Input {
 }
 
 /// Every point as `place` has it.
-fn moved(mut input: Input, place: impl Fn(f64, f64) -> [f64; 2]) -> Input {
+pub fn moved(mut input: Input, place: impl Fn(f64, f64) -> [f64; 2]) -> Input {
     for point in input.curves.iter_mut().flat_map(|curve| curve.chunks_exact_mut(2)) {
         point.copy_from_slice(&place(point[0], point[1]));
     }
@@ -245,18 +249,22 @@ fn roots() -> Cases {
 // ------------------------------------------------------------------------------------------------------------------------------------
 
 /// A fault, and the refusal that it is.
-struct Fault {
+pub struct Fault {
     refusal: Refusal,
     spoil: Box<dyn Fn(&mut Input)>,
 }
 
-fn fault(number: u32, first: u32, second: u32, spoil: impl Fn(&mut Input) + 'static) -> Fault {
+pub fn fault(number: u32, first: u32, second: u32, spoil: impl Fn(&mut Input) + 'static) -> Fault {
     Fault { refusal: Refusal { number, first, second }, spoil: Box::new(spoil) }
 }
 
-/// Every fault of `order` alone and every two at once: the earlier one must be the answer. The later one is made first, so that where
-/// both touch the same number the earlier one stands.
 fn faults(order: &[Fault], run: impl Fn(Input) -> Result<Case, String>) -> Cases {
+    faults_of(&Input::good(), order, run)
+}
+
+/// Every fault of `order` alone and every two at once, in an input that is good: the earlier one must be the answer. The later one is made
+/// first, so that where both touch the same number the earlier one stands.
+pub fn faults_of(good: &Input, order: &[Fault], run: impl Fn(Input) -> Result<Case, String>) -> Cases {
     let mut cases = Vec::new();
     for (index, first) in order.iter().enumerate() {
         let mut with = |mut input: Input| {
@@ -264,9 +272,9 @@ fn faults(order: &[Fault], run: impl Fn(Input) -> Result<Case, String>) -> Cases
             cases.push(expected(run(input)?, first.refusal)?);
             Ok::<(), String>(())
         };
-        with(Input::good())?;
+        with(good.clone())?;
         for second in &order[index + 1..] {
-            let mut input = Input::good();
+            let mut input = good.clone();
             (second.spoil)(&mut input);
             with(input)?;
         }
@@ -274,12 +282,12 @@ fn faults(order: &[Fault], run: impl Fn(Input) -> Result<Case, String>) -> Cases
     Ok(cases)
 }
 
-fn ordered<const N: usize>(parts: [Vec<Fault>; N]) -> Vec<Fault> {
+pub fn ordered<const N: usize>(parts: [Vec<Fault>; N]) -> Vec<Fault> {
     parts.into_iter().flatten().collect()
 }
 
 /// 1: an odd number of values.
-fn odd() -> Vec<Fault> {
+pub fn odd() -> Vec<Fault> {
     vec![fault(1, 0, 0, |i| i.curves[3].push(0.5))]
 }
 
@@ -300,7 +308,7 @@ fn not_finite(side: u32, value: f64) -> Fault {
 }
 
 /// 15: all points are the first one.
-fn no_length(side: u32) -> Fault {
+pub fn no_length(side: u32) -> Fault {
     fault(15, side, 0, move |i| {
         let curve = &mut i.curves[side as usize];
         *curve = curve[..2].repeat(3);
@@ -323,7 +331,7 @@ fn apart() -> Vec<Fault> {
     ENDS.iter().map(|&(corner, side, at)| fault(16, corner, 0, move |i| i.curves[side][at] += 0.5)).collect()
 }
 
-fn clockwise() -> Vec<Fault> {
+pub fn clockwise() -> Vec<Fault> {
     vec![fault(17, 0, 0, mirror)]
 }
 
@@ -331,15 +339,15 @@ fn seam_short(side: u32) -> Fault {
     fault(18, side, 0, move |i| i.seams[side as usize].truncate(1))
 }
 
-fn seam_out_of_range(side: u32) -> Fault {
+pub fn seam_out_of_range(side: u32) -> Fault {
     fault(19, side, 1, move |i| i.seams[side as usize][1] = 1.5)
 }
 
-fn seam_falling(side: u32) -> Fault {
+pub fn seam_falling(side: u32) -> Fault {
     fault(20, side, 2, move |i| i.seams[side as usize][1..3].copy_from_slice(&[0.5, 0.25]))
 }
 
-fn seam_ends(side: u32) -> Fault {
+pub fn seam_ends(side: u32) -> Fault {
     fault(21, side, 0, move |i| i.seams[side as usize][2] = 0.875)
 }
 
@@ -351,7 +359,7 @@ fn unequal() -> Vec<Fault> {
     vec![fault(22, 0, 0, |i| i.seams[2].push(1.0)), fault(22, 1, 0, |i| i.seams[1].push(1.0))]
 }
 
-fn no_room() -> Vec<Fault> {
+pub fn no_room() -> Vec<Fault> {
     vec![fault(11, 0, 0, |i| i.room = -1)]
 }
 
@@ -516,7 +524,7 @@ fn curve_limits() -> Cases {
     Ok(cases)
 }
 
-fn even_seam(values: usize) -> Vec<f64> {
+pub fn even_seam(values: usize) -> Vec<f64> {
     (0..values).map(|k| k as f64 / (values.max(2) - 1) as f64).collect()
 }
 
@@ -656,7 +664,7 @@ fn lay_records() -> Cases {
 }
 
 /// A tile with so many edges on each side, all of count 1.
-fn wide_tile(edges: [u16; 4]) -> Input {
+pub fn wide_tile(edges: [u16; 4]) -> Input {
     let mut start = 0;
     let sides = edges.map(|edges| -> Vec<u16> {
         start += edges;
@@ -933,7 +941,7 @@ fn random_seam(dice: &mut Dice, cells: usize) -> Vec<f64> {
 }
 
 /// A tile with corners about those of the square and curves of 2 to 7 points that wander; as a loop, each of as many.
-fn random_tile(dice: &mut Dice) -> Input {
+pub fn random_tile(dice: &mut Dice) -> Input {
     let near = |dice: &mut Dice, x: f64, y: f64, by: f64| [x + by * (unit(dice) - 0.5), y + by * (unit(dice) - 0.5)];
     let by = dice.pick(&[0.0, 0.1, 0.4, 1.0]);
     let corners = [[0.0, 0.0], [1.0, 0.0], [1.0, 1.0], [0.0, 1.0]].map(|[x, y]| near(dice, x, y, by));

@@ -6,9 +6,9 @@ use std::collections::HashSet;
 use std::fmt;
 use std::fs;
 
-/// The items of 02 that this library has. A request adds its own here (item 2 is the next): then the vectors that need it are run, and
-/// those that it changed are passed over.
-pub const LANDED: [i64; 5] = [5, 7, 9, 12, 13];
+/// The items of 02 that this library has; the others have not landed. A request adds its own here: then the vectors that need it are run,
+/// and those that it changed are passed over.
+pub const LANDED: [i64; 6] = [2, 5, 7, 9, 12, 13];
 
 /// The ids of vectors whose answer a landed item changed.
 #[derive(Default)]

@@ -10,13 +10,13 @@
 //! - `solver`, `geometry`: an operation a function, on plain lists.
 //! - `words`, `case`: cases and answers as text.
 //! - `farm`: records, and farms made of rows.
-//! - `lay`: 01's lay, which the Rust does not have.
+//! - `lay`: 01's lay with 02's strips (item 2), which the Rust does not have.
 //! - `ranges`: a plain model of rounds and solves within ranges, which the Rust does not have.
 //! - `turned`: sheets turned round (02, item 13).
 //! - `landed`: 02's items that have landed, and which vectors hold by them.
 //! - `stored`, `grids`: stored cases of the solver and of geometry; `json`, `vector`: from the vectors; `dice`, `generate`,
-//!   `generate_wide`, `generate_geometry`, `generate_stones`, `generate_ranges`, `generate_limits`, `generate_turned`: made here; `pack`:
-//!   as bytes (src/bin/stored.rs).
+//!   `generate_wide`, `generate_geometry`, `generate_stones`, `generate_strips`, `generate_ranges`, `generate_limits`, `generate_turned`:
+//!   made here; `pack`: as bytes (src/bin/stored.rs).
 //! - `tool`: how a tool ends.
 
 include!(concat!(env!("OUT_DIR"), "/published.rs"));
@@ -32,6 +32,7 @@ pub mod generate_geometry;
 pub mod generate_limits;
 pub mod generate_ranges;
 pub mod generate_stones;
+pub mod generate_strips;
 pub mod generate_turned;
 pub mod generate_wide;
 pub mod geometry;

@@ -201,24 +201,24 @@ fn holds(list: &str, words: &str) -> Result<(bool, usize, usize), String> {
     Ok((holds, passed_over.changed, passed_over.not_applying))
 }
 
-/// By its id only under an item that has landed; by `from` and `until`.
+/// By its id only under an item that has landed; by `from` and `until`. There is no item 99, so it never lands.
 #[test]
 fn vectors_of_today() {
-    assert_eq!(LANDED, [5, 7, 9, 12, 13]);
-    let list = "{\n\"item 2\": [\n\"a\"\n],\n\"item 12\": [\"b\", \"c\"]\n}";
+    assert_eq!(LANDED, [2, 5, 7, 9, 12, 13]);
+    let list = "{\n\"item 99\": [\n\"a\"\n],\n\"item 12\": [\"b\", \"c\"]\n}";
     let (kept, changed, not_applying) = (Ok((true, 0, 0)), Ok((false, 1, 0)), Ok((false, 0, 1)));
     assert_eq!(holds(list, ""), kept);
     assert_eq!(holds(list, "\"id\":7,"), kept);
     assert_eq!(holds(list, "\"id\":\"a\","), kept);
     assert_eq!(holds(list, "\"id\":\"c\","), changed);
-    assert_eq!(holds(list, "\"id\":\"c\",\"from\":[2],"), changed);
+    assert_eq!(holds(list, "\"id\":\"c\",\"from\":[99],"), changed);
     assert_eq!(holds("{}", "\"id\":\"c\","), kept);
     for (items, expected) in [
         ("\"from\":[],\"until\":[],\"either\":[12],", &kept),
-        ("\"from\":[9,12],\"until\":[2],", &kept),
-        ("\"from\":[2,9,12],\"until\":[],", &not_applying),
+        ("\"from\":[9,12],\"until\":[99],", &kept),
+        ("\"from\":[9,12,99],\"until\":[],", &not_applying),
         ("\"from\":[9],\"until\":[12],", &not_applying),
-        ("\"from\":[9],\"either\":[2],", &kept),
+        ("\"from\":[9],\"either\":[99],", &kept),
     ] {
         assert_eq!(holds(list, items), *expected, "{items}");
     }
@@ -250,12 +250,13 @@ fn bad_lists() {
     }
 }
 
-/// A vector that is wrong is passed over if a list has it, wherever the list stands; and its function is then not asked for.
+/// A vector that is wrong is passed over if a list has it under an item that has landed, wherever the list stands; and its function is then
+/// not asked for. There is no item 99.
 #[test]
 fn stored_passes_over() {
     let wrong =
         "{\"id\":\"a\",\"fn\":\"root\",\"in\":{\"x\":\"4010000000000000\"},\"out\":{\"refusal\":0,\"root\":\"4010000000000000\"}}\n";
-    let later = "{\"id\":\"b\",\"fn\":\"lay_farm\",\"from\":[1],\"until\":[],\"in\":{},\"out\":{}}\n";
+    let later = "{\"id\":\"b\",\"fn\":\"no_such\",\"from\":[99],\"until\":[],\"in\":{},\"out\":{}}\n";
     let broken = "{\"id\":\"c\",\"fn\":\"rot\",\"in\":{},\"out\":{}}\n";
     let run = |item: u32| {
         with_file(&format!("item-{item}.json"), &format!("{{\"item {item}\": [\"a\"]}}"), |list| {
@@ -275,5 +276,5 @@ fn stored_passes_over() {
     complains(&output, "tests/none");
     let said = String::from_utf8_lossy(&output.stdout);
     assert!(said.contains("0 vectors, 0 left out as too slow; 0 of inner functions; 1 changed by 02; 1 do not apply"), "{said}");
-    complains(&fewer(2), "line 1: the vector says");
+    complains(&fewer(99), "line 1: the vector says");
 }

@@ -7,7 +7,7 @@ use compare::limits::{RECORD, SIDE_EDGES};
 use compare::stored::Case;
 use compare::together::call::{difference, Call, Spacing, Step};
 use compare::together::{expected, line, turned};
-use compare::{former, generate_limits, generate_ranges, generate_stones, generate_turned};
+use compare::{former, generate_limits, generate_ranges, generate_stones, generate_strips, generate_turned};
 use std::process::{Command, Output};
 
 fn replay(arguments: &[&str]) -> Output {
@@ -63,13 +63,14 @@ fn differences() {
     }
 }
 
-/// Vectors that are listed as changed by an item that has landed, or do not apply by their own items, are passed over and counted.
+/// Vectors that are listed as changed by an item that has landed, or do not apply by their own items, are passed over and counted. There
+/// is no item 99, so it never lands.
 #[test]
 fn passed_over() {
     let wrong = ROOT.replace("\"4000000000000000\"", "\"4000000000000001\"");
-    let later = wrong.replace("\"id\":\"a\"", "\"id\":\"b\",\"from\":[2,9],\"until\":[]");
+    let later = wrong.replace("\"id\":\"a\"", "\"id\":\"b\",\"from\":[9,99],\"until\":[]");
     let ended = wrong.replace("\"id\":\"a\"", "\"id\":\"c\",\"from\":[],\"until\":[12]").replace("root", "rot");
-    let now = ROOT.replace("\"id\":\"a\"", "\"id\":\"d\",\"from\":[9,12],\"until\":[2]");
+    let now = ROOT.replace("\"id\":\"a\"", "\"id\":\"d\",\"from\":[9,12],\"until\":[99]");
     let temporary = |name: &str| std::env::temp_dir().join(format!("together-{}-{name}", std::process::id()));
     let run = |item: u32| {
         let (list, vectors) = (temporary(&format!("{item}.json")), temporary(&format!("{item}.jsonl")));
@@ -86,7 +87,7 @@ fn passed_over() {
     assert_eq!(output.status.code(), Some(0));
     let said = String::from_utf8_lossy(&output.stdout);
     assert!(said.contains("1 as expected, 0 different") && said.contains("; 1 changed by 02; 2 do not apply"), "{said}");
-    complains(&run(2), "1 as expected, 1 different, 0 of inner functions, which are not exported; 2 do not apply");
+    complains(&run(99), "1 as expected, 1 different, 0 of inner functions, which are not exported; 2 do not apply");
     complains(&replay(&["tests/no-such-file.json"]), "tests/no-such-file.json");
 }
 
@@ -185,10 +186,10 @@ fn written_limits() {
     }
 }
 
-/// The generated cases of ranges, of limits, of turned sheets and of stones, which `scale` does not make, or not all.
+/// The generated cases of ranges, of limits, of turned sheets, of stones and of strips, which `scale` does not make, or not all.
 #[test]
 fn generated() {
-    let cases = [generate_ranges::all(), generate_limits::all(), generate_turned::all(), generate_stones::all()];
+    let cases = [generate_ranges::all(), generate_limits::all(), generate_turned::all(), generate_stones::all(), generate_strips::all()];
     for case in cases.into_iter().flat_map(|cases| cases.expect("the oracle and the model answer")) {
         let call = match case {
             Case::Solve(c) => Call::Solve { regions: c.records, spacing: c.spacing, counts: c.before, limit: c.limit },

@@ -1,5 +1,6 @@
-//! scale SEED COUNT: all short inputs of some kinds, 01's limits, COUNT random calls and the ends of curves, through the oracle and through
-//! this library, every result and buffer compared; calls of the solver once more on a turned sheet. Exit status 0 only if none differs.
+//! scale SEED COUNT: all short inputs of some kinds, 01's limits, COUNT random calls, the ends of curves and the tiles of solved farms,
+//! through the oracle and through this library, every result and buffer compared; calls of the solver once more on a turned sheet, strips
+//! once more with other breaks where none are read. Exit status 0 only if none differs, and no tile of a solved farm is 22.
 
 use compare::together::{check_version, scale};
 use std::env;

@@ -7,7 +7,9 @@
 use compare::landed::{self, Changed, PassedOver};
 use compare::stored::{self, Case};
 use compare::tool::ended;
-use compare::{generate, generate_geometry, generate_limits, generate_ranges, generate_stones, generate_turned, pack, vector};
+use compare::{
+    generate, generate_geometry, generate_limits, generate_ranges, generate_stones, generate_strips, generate_turned, pack, vector,
+};
 use std::collections::HashSet;
 use std::process::ExitCode;
 use std::{env, fs};
@@ -31,7 +33,8 @@ fn run() -> Result<(), String> {
     cases.extend(affordable("ranges", generate_ranges::all()?));
     cases.extend(affordable("limits", generate_limits::all()?));
     cases.extend(affordable("turned sheets", generate_turned::all()?));
-    for (what, generated) in [("geometry", generate_geometry::all()?), ("stones", generate_stones::all()?)] {
+    let of_geometry = [("geometry", generate_geometry::all()?), ("stones", generate_stones::all()?), ("strips", generate_strips::all()?)];
+    for (what, generated) in of_geometry {
         println!("generated: {} of {what}", generated.len());
         cases.extend(generated);
     }

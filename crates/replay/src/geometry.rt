@@ -5,17 +5,16 @@ use crate::reading::INPUT;
 use base::verdict::Verdict;
 use curves::answer::GridAnswer;
 use floats::root::RootAnswer;
-use regions::region::PLACES;
 use regions::region::RECORD_SIZE;
 
-// The longest lists of any case: two records, 257 counts, one break more than a full side takes, 1,025 points of a curve, 1,026 values of a
-// seam, 4,098 points of a loop. The longest outputs have the quads of 1,025 by 2 cells, and the points and the cells of a mesh of 1,024 by 1
-// with one value more.
+// The longest lists of any case: two records, 257 counts, 1,026 breaks (of an empty pair, where any number will do), 1,025 points of a curve,
+// 1,026 values of a seam, 4,098 points of a loop. The longest outputs have the quads of 1,025 by 2 cells, and the points and the cells of a
+// mesh of 1,024 by 1 with one value more.
 const RECORDS: usize = 2 * RECORD_SIZE;
 
 const EDGES: usize = 257;
 
-const BREAKS: usize = PLACES as usize + 2;
+const BREAKS: usize = 1026;
 
 const CURVE: usize = 2050;
 

@@ -2,7 +2,9 @@
 
 use super::Sink;
 use crate::farm::record;
+use crate::generate_strips::odd_breaks;
 use crate::grids::needed;
+use crate::lay;
 use crate::limits::SEARCH;
 use crate::together::call::{Call, Sides, Spacing, Step, LENT_NUMBER};
 
@@ -17,6 +19,7 @@ pub fn all(sink: Sink) -> Result<(), String> {
     middle_values(sink)?;
     short_seams(sink)?;
     lays(sink)?;
+    strips(sink)?;
     roots(sink)
 }
 
@@ -231,6 +234,27 @@ fn lays(sink: Sink) -> Result<(), String> {
                         sink(Call::Lay { record, counts: counts.clone(), breaks, curves: square(), out: 64 })?;
                     }
                 }
+            }
+        }
+    }
+    Ok(())
+}
+
+/// Each side with no edge, one or two, of counts 0 to 2, and with up to three breaks, in every combination: these lead from 0 to 1, or are
+/// not read and would not pass.
+fn strips(sink: Sink) -> Result<(), String> {
+    let sides: [[&[u16]; 3]; 2] = [[&[], &[0], &[0, 1]], [&[], &[1], &[1, 0]]];
+    let read: [&[f64]; 4] = [&[], &[0.0], &[0.0, 1.0], &[0.0, 0.5, 1.0]];
+    for edges in tuples(&[0usize, 1, 2], 4) {
+        let record = record(std::array::from_fn(|side| sides[side / 2][edges[side]]));
+        let unread = lay::unread(&record);
+        for lengths in tuples(&[0usize, 1, 2, 3], 4) {
+            let breaks: Sides = std::array::from_fn(|side| match lengths[side] {
+                length if unread[side] => odd_breaks(length),
+                length => read[length].to_vec(),
+            });
+            for counts in tuples(&[0, 1, 2], 2) {
+                sink(Call::Lay { record: record.clone(), counts, breaks: breaks.clone(), curves: square(), out: 40 })?;
             }
         }
     }

@@ -1,10 +1,12 @@
-//! Random calls of root, grid, lay and mesh: tiles with straight and crooked sides, points on a small lattice, seams of all kinds, damaged
-//! ones.
+//! Random calls of root, grid, lay and mesh: tiles with straight and crooked sides, points on a small lattice, seams of all kinds, strips,
+//! damaged ones.
 
+use super::strips;
 use crate::farm::{lists, record};
 use crate::former;
 use crate::generate::{LENGTHS, PLACES};
 use crate::grids;
+use crate::lay;
 use crate::limits::SIDE;
 use crate::together::call::{Call, Sides};
 use crate::together::random::Random;
@@ -67,7 +69,7 @@ fn needed(cells: [u32; 2]) -> [usize; 3] {
     grids::needed(cells[0] as usize, cells[1] as usize)
 }
 
-fn lent(random: &mut Random, needed: usize) -> usize {
+pub fn lent(random: &mut Random, needed: usize) -> usize {
     match random.below(12) {
         0 => needed.saturating_sub(1),
         1 => needed + random.within(1, 9) as usize,
@@ -129,7 +131,7 @@ fn side(random: &mut Random, from: Point, to: Point) -> Vec<f64> {
     list
 }
 
-fn curves(random: &mut Random) -> Sides {
+pub fn curves(random: &mut Random) -> Sides {
     let corners = corners(random);
     let mut curves: Sides = std::array::from_fn(|k| side(random, corners[k], corners[(k + 1) % 4]));
     if random.chance(6) {
@@ -189,7 +191,7 @@ fn pieces(random: &mut Random) -> Vec<f64> {
 // ------------------------------------------------------------------------------------------------------------------------------------
 
 /// A seam that rises from 0 to 1.
-fn seam(random: &mut Random, cells: usize) -> Vec<f64> {
+pub fn seam(random: &mut Random, cells: usize) -> Vec<f64> {
     if random.chance(2) {
         return even(cells);
     }
@@ -248,6 +250,7 @@ fn damage_seam(random: &mut Random, seams: &mut Sides) {
     }
 }
 
+/// A tile whose sides mostly add up alike; every second one loses the edges of some sides.
 fn lay(random: &mut Random) -> Call {
     let (across, up) = (random.within(1, 4), random.within(1, 4));
     let mut counts = Vec::new();
@@ -265,7 +268,14 @@ fn lay(random: &mut Random) -> Call {
         damage_lay(random, &mut record, &mut counts, &mut breaks);
     }
     let curves = curves(random);
-    Call::Lay { record, counts, breaks, curves, out: lent(random, 8 * (across * up) as usize) }
+    let mut out = lent(random, 8 * (across * up) as usize);
+    if random.chance(2) {
+        strips::empty(random, &mut record, &mut breaks);
+        let unread = lay::unread(&record);
+        let cells = |side: usize, cells: u32| if unread[side] { 1 } else { cells };
+        out = lent(random, 8 * (cells(0, across) * cells(3, up)) as usize);
+    }
+    Call::Lay { record, counts, breaks, curves, out }
 }
 
 /// Counts that add up to a number, now and then with a zero.

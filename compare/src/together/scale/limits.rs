@@ -5,9 +5,10 @@ use crate::farm::{grid, record, rows, Farm};
 use crate::former;
 use crate::generate::{self, LENGTHS, LISTED, PLACES};
 use crate::generate_limits::LAST_WAYS;
+use crate::generate_strips::odd_breaks;
 use crate::generate_wide::{self, wide_fields, Wide};
 use crate::grids::needed;
-use crate::limits::{CELLS, SEARCH, SEARCH_UNSTATED, SIDE};
+use crate::limits::{CELLS, CURVE_POINTS, EDGES, SEAM, SEARCH, SEARCH_UNSTATED, SIDE};
 use crate::together::call::{Call, Sides, Spacing, Step, LENT_NUMBER};
 use crate::together::speed::{bent, even, seams, straight};
 
@@ -24,6 +25,8 @@ pub fn all(sink: Sink) -> Result<(), String> {
     grid_sizes(sink)?;
     loops(sink)?;
     lay(sink)?;
+    unread_breaks(sink)?;
+    strips(sink)?;
     far_corners(sink)?;
     largest(sink)
 }
@@ -354,6 +357,56 @@ fn same_count(sink: Sink, times: u16) -> Result<(), String> {
     for count in [0, most - 1, most, most + 1, u32::MAX / u32::from(times) + 1, u32::MAX] {
         let breaks: Sides = std::array::from_fn(|_| even(times.into()));
         sink(Call::Lay { record: record.clone(), counts: vec![count], breaks, curves: bent(4), out: 0 })?;
+    }
+    Ok(())
+}
+
+/// The pair of sides without an edge, bottom and top or right and left; the other two have these edges.
+fn strip(unmarked: usize, edges: &[u16]) -> Vec<u16> {
+    record(std::array::from_fn(|side| if side % 2 == unmarked { &[] } else { edges }))
+}
+
+/// Breaks that are not read, about as many as a side and a seam may have and far more: on one side of a pair, on both, on all four; and on a
+/// side that is empty alone, where they are 27.
+fn unread_breaks(sink: Sink) -> Result<(), String> {
+    let lengths = [usize::from(PLACES), usize::from(PLACES) + 1, SEAM - 1, SEAM, SEAM + 1, SEAM + 2, 100_000, 1_000_000];
+    let records = [strip(0, &[0]), strip(1, &[0]), record([&[]; 4]), record([&[], &[0], &[0], &[0]]), record([&[0], &[0], &[0], &[]])];
+    for (length, record) in lengths.into_iter().flat_map(|length| records.iter().map(move |record| (length, record))) {
+        for sides in [&[0][..], &[1], &[2], &[3], &[0, 2], &[1, 3], &[0, 1, 2, 3]] {
+            let breaks: Sides = std::array::from_fn(|side| match (sides.contains(&side), record[side * SIDE]) {
+                (false, 0) => vec![],
+                (true, 0) => odd_breaks(length),
+                _ => vec![0.0, 1.0],
+            });
+            sink(Call::Lay { record: record.clone(), counts: vec![2], breaks, curves: bent(3), out: 32 })?;
+        }
+    }
+    Ok(())
+}
+
+/// Strips of 1,024 cells and about that, of one edge and of as many as there may be; their curves, counts and output at their limits.
+fn strips(sink: Sink) -> Result<(), String> {
+    for unmarked in [0, 1] {
+        let breaks = |edges: usize| std::array::from_fn(|side| if side % 2 == unmarked { vec![] } else { even(edges) });
+        for (edges, least) in [(1, CELLS - 2), (u32::from(PLACES), CELLS / u32::from(PLACES) - 1)] {
+            let side: Vec<u16> = (0..edges as u16).collect();
+            for count in least..least + 4 {
+                let needed = 8 * (edges * count) as usize;
+                for out in [needed - 1, needed, needed + 1] {
+                    let (record, counts) = (strip(unmarked, &side), vec![count; edges as usize]);
+                    sink(Call::Lay { record, counts, breaks: breaks(edges as usize), curves: bent(4), out })?;
+                }
+            }
+        }
+        for points in [CURVE_POINTS - 1, CURVE_POINTS, CURVE_POINTS + 1] {
+            let curves = long_curve(unmarked, points);
+            sink(Call::Lay { record: strip(unmarked, &[0]), counts: vec![3], breaks: breaks(1), curves, out: 24 })?;
+        }
+        for length in [0, 1, EDGES - 1, EDGES, EDGES + 1] {
+            for record in [strip(unmarked, &[0]), record([&[]; 4])] {
+                sink(Call::Lay { record, counts: vec![1; length], breaks: breaks(1), curves: bent(4), out: 8 })?;
+            }
+        }
     }
     Ok(())
 }

@@ -2,7 +2,9 @@
 //!
 //! - `exhaustive`: all short inputs of some kinds; `limits`: 01's limits, with one below and one above; `stones`: the ends of curves.
 //! - `solver`, `geometry`: random calls, most of them small, and damaged ones.
+//! - `tiles`: farms that are solved, and their tiles laid from the counts.
 //! - `turned`: each call of the solver once more, on its sheet turned round.
+//! - `strips`: each call of lay with an empty pair of sides once more, with other breaks there.
 //! - `shrink`: the smallest form of a difference.
 
 mod exhaustive;
@@ -11,6 +13,8 @@ mod limits;
 mod shrink;
 mod solver;
 mod stones;
+mod strips;
+mod tiles;
 mod turned;
 
 use super::call::{difference, Call, Effect};
@@ -38,18 +42,23 @@ pub struct Run {
     seed: u64,
     tallies: BTreeMap<(&'static str, &'static str), Tally>,
     turned: turned::Tallies,
+    strips: strips::Tally,
+    tiles: tiles::Tally,
     /// The differences shown of each function, and of each on a turned sheet.
     shown: BTreeMap<(&'static str, &'static str), Vec<String>>,
     pub cases: u64,
     pub different: u64,
 }
 
-/// All short inputs, the limits, `count` random calls, and the ends of curves.
+/// Of so many random calls there is one farm whose tiles are laid.
+const FARMS: u64 = 32;
+
+/// All short inputs, the limits, `count` random calls, the ends of curves, and tiles of farms.
 pub fn run(seed: u64, count: u64) -> Result<Run, String> {
     let mut run = Run::new(seed);
     let start = clock::now();
-    exhaustive::all(&mut |call| run.check("short", call))?;
-    limits::all(&mut |call| run.check("limits", call))?;
+    exhaustive::all(&mut |call| run.check("short", call).map(drop))?;
+    limits::all(&mut |call| run.check("limits", call).map(drop))?;
     for index in 0..count {
         // Each case has its own numbers, so that it is the same whatever came before it.
         let mut random = Random::new(seed.wrapping_mul(0xD134_2543_DE82_EF95).wrapping_add(index));
@@ -57,17 +66,30 @@ pub fn run(seed: u64, count: u64) -> Result<Run, String> {
         run.check("random", call)?;
     }
     // Behind the random calls, since how a call is turned goes by how many came before it.
-    stones::all(&mut |call| run.check("stones", call))?;
+    stones::all(&mut |call| run.check("stones", call).map(drop))?;
+    for index in 0..count.div_ceil(FARMS) {
+        run.check_farm(&mut Random::new(seed.wrapping_mul(0xC2B2_AE3D_27D4_EB4F).wrapping_add(index)))?;
+    }
     run.report(clock::now() - start);
     Ok(run)
 }
 
 impl Run {
     fn new(seed: u64) -> Run {
-        Run { seed, tallies: BTreeMap::new(), turned: Default::default(), shown: BTreeMap::new(), cases: 0, different: 0 }
+        Run {
+            seed,
+            tallies: BTreeMap::new(),
+            turned: Default::default(),
+            strips: Default::default(),
+            tiles: Default::default(),
+            shown: BTreeMap::new(),
+            cases: 0,
+            different: 0,
+        }
     }
 
-    fn check(&mut self, kind: &'static str, call: Call) -> Result<(), String> {
+    /// Compares a call; what is expected of it.
+    fn check(&mut self, kind: &'static str, call: Call) -> Result<Vec<Effect>, String> {
         let expected = expected::effects(&call)?;
         self.cases += 1;
         let tally = self.tallies.entry((kind, call.function())).or_default();
@@ -80,9 +102,61 @@ impl Run {
         }
         if difference(&expected, &call.made()).is_some() {
             self.different += 1;
-            return self.show(call);
+            self.show(call)?;
+        } else {
+            self.check_unread(&call, &expected)?;
+            self.check_turned(call, &expected)?;
         }
-        self.check_turned(call, &expected)
+        Ok(expected)
+    }
+
+    /// A strip again, with other breaks where they are not read: its effect must be the one that is expected of it as it was.
+    fn check_unread(&mut self, call: &Call, expected: &[Effect]) -> Result<(), String> {
+        let seed = self.seed.wrapping_mul(0x9FB2_1C65_1E98_DF25).wrapping_add(self.cases);
+        let Some(other) = strips::with_other_breaks(call, &mut Random::new(seed)) else {
+            return Ok(());
+        };
+        self.strips.count(call, expected);
+        if difference(expected, &other.made()).is_some() {
+            self.different += 1;
+            self.show(other)?;
+        }
+        Ok(())
+    }
+
+    /// A farm is solved and its tiles are laid from the counts; then rounds are made on these, and the tiles are laid from what they leave.
+    fn check_farm(&mut self, random: &mut Random) -> Result<(), String> {
+        let mut solve = tiles::solve(random);
+        let solved = self.left("farms", solve.clone())?;
+        if solved.refusal != 0 {
+            return Ok(());
+        }
+        self.tiles.farm();
+        let records = tiles::regions(&mut solve);
+        self.check_tiles(random, &records, &solved.numbers)?;
+        let rounds = tiles::rounds(random, &records.concat(), &solved.numbers);
+        let after = self.left("farms", rounds)?;
+        self.check_tiles(random, &records, &after.numbers)
+    }
+
+    /// Compares a call; what this library's last answer is, and the counts that it leaves.
+    fn left(&mut self, kind: &'static str, call: Call) -> Result<Effect, String> {
+        let last = call.made().pop().ok_or("a call of the solver has an effect")?;
+        self.check(kind, call)?;
+        Ok(last)
+    }
+
+    /// Each region of a farm laid from counts that a solve, or rounds begun on its counts, left: none is 22.
+    fn check_tiles(&mut self, random: &mut Random, records: &[Vec<u16>], counts: &[u32]) -> Result<(), String> {
+        for record in records {
+            let tile = tiles::tile(random, record, counts);
+            let expected = self.check("farms", tile.clone())?;
+            if self.tiles.tile(record, &expected) {
+                self.different += 1;
+                println!("a tile of a solved farm is 22\n{}", line::write("unequal", "", &tile, &expected));
+            }
+        }
+        Ok(())
     }
 
     /// The call again, on its sheet turned round: its effects must be those that are expected on the sheet as it was.
@@ -154,5 +228,7 @@ impl Run {
         let [turned, exchanged] = self.turned.calls();
         println!("\n{} cases, {} different, {seconds:.0} s of CPU time", self.cases, self.different);
         println!("{turned} of them once more on a turned sheet, {exchanged} with sides exchanged");
+        self.strips.report();
+        self.tiles.report();
     }
 }

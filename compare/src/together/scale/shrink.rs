@@ -1,6 +1,7 @@
 //! The smallest form of a call that differs: as long as a simpler call differs too, that one is taken.
 
 use crate::generate::PLACES;
+use crate::lay;
 use crate::limits::{RECORD, SIDE};
 use crate::together::call::{difference, Call, Spacing};
 use crate::together::expected;
@@ -33,7 +34,7 @@ pub fn smaller(call: Call, tries: usize, has: impl Fn(&Call) -> bool) -> Call {
 
 /// Calls that are simpler in one place, the boldest first. Those of a kind are made when their turn comes: of many regions they are many.
 fn simpler(call: &Call) -> impl Iterator<Item = Call> + '_ {
-    let kinds = [rounds, regions, sides, places, edges, points, seams, breaks, sizes, values];
+    let kinds = [rounds, shorter_breaks, regions, sides, places, edges, points, seams, breaks, sizes, values];
     kinds.into_iter().flat_map(move |kind: fn(&Call, &mut Vec<Call>)| {
         let mut found = Vec::new();
         kind(call, &mut found);
@@ -222,12 +223,39 @@ fn seams(call: &Call, found: &mut Vec<Call>) {
     }
 }
 
+/// Longer lists of breaks only lose their ends, and are not made simpler value by value: there would be too many ways.
+const LONG: usize = 2 * SIDE;
+
+/// A side of lay has fewer breaks, from none on ever nearer to as many; and where they are not read, all at once are 0.
+fn shorter_breaks(call: &Call, found: &mut Vec<Call>) {
+    let Call::Lay { record, breaks, .. } = call else {
+        return;
+    };
+    let unread = lay::unread(record);
+    for side in 0..4 {
+        let length = breaks[side].len();
+        let mut with = |list: Vec<f64>| {
+            let mut simpler = call.clone();
+            if let Call::Lay { breaks, .. } = &mut simpler {
+                breaks[side] = list;
+            }
+            found.push(simpler);
+        };
+        for less in std::iter::successors(Some(length), |less| Some(less / 2)).take_while(|&less| less > 0) {
+            with(breaks[side][..length - less].to_vec());
+        }
+        if unread[side] && breaks[side].iter().any(|x| x.to_bits() != 0) {
+            with(vec![0.0; length]);
+        }
+    }
+}
+
 /// A side of lay loses an edge and a break.
 fn breaks(call: &Call, found: &mut Vec<Call>) {
     let Call::Lay { breaks, .. } = call else {
         return;
     };
-    for side in 0..4 {
+    for side in (0..4).filter(|&side| breaks[side].len() <= LONG) {
         for place in 0..breaks[side].len() {
             let mut fewer = call.clone();
             if let Call::Lay { record, breaks, .. } = &mut fewer {
@@ -307,7 +335,7 @@ fn floats(call: &mut Call) -> Vec<&mut f64> {
     match call {
         Call::Root { x } => vec![x],
         Call::FromParameters { curves, seams, .. } => curves.iter_mut().chain(seams).flatten().collect(),
-        Call::Lay { breaks, curves, .. } => breaks.iter_mut().chain(curves).flatten().collect(),
+        Call::Lay { breaks, curves, .. } => breaks.iter_mut().filter(|list| list.len() <= LONG).chain(curves).flatten().collect(),
         Call::Curves { .. } | Call::MeshCurves { .. } | Call::Checked { .. } | Call::Mesh { .. } => {
             curves(call).into_iter().flatten().collect()
         }
@@ -435,5 +463,37 @@ mod tests {
         };
         assert_eq!((seams, out), ([vec![], vec![], vec![0.5], vec![]], 0));
         assert_eq!(curves, [vec![], vec![0.0; 4], vec![], vec![]]);
+    }
+
+    /// Breaks that are not read fall away, but for as many as make the difference, which are 0.
+    #[test]
+    fn strip() {
+        let regions = [record([&[], &[0, 1], &[], &[2]]), record([&[0, 1], &[], &[2], &[]])];
+        for (side, record) in regions.into_iter().enumerate() {
+            let breaks = std::array::from_fn(|k| vec![f64::NAN; if k % 2 == side { 100_000 } else { 3 }]);
+            let call = Call::Lay { record, counts: vec![1, 2, 3], breaks, curves: bent(5), out: 24 };
+            let has = |call: &Call| match call {
+                Call::Lay { record, breaks, .. } => lay::unread(record)[side] && breaks[side].len() >= 1026,
+                _ => false,
+            };
+            let Call::Lay { counts, mut breaks, curves, out, .. } = smallest(call, has) else {
+                panic!("the function has changed");
+            };
+            assert_eq!(std::mem::take(&mut breaks[side]), vec![0.0; 1026]);
+            assert_eq!((counts, breaks.concat(), curves.concat(), out), (vec![], vec![], vec![], 0));
+        }
+    }
+
+    /// A value that must stay a NaN stays one, by itself.
+    #[test]
+    fn unread_value() {
+        let breaks = [vec![0.5, f64::NAN, 2.0], vec![0.0, 1.0], vec![f64::NAN; 2000], vec![0.0, 1.0]];
+        let call = Call::Lay { record: record([&[], &[0], &[], &[0]]), counts: vec![1], breaks, curves: bent(3), out: 8 };
+        let has = |call: &Call| matches!(call, Call::Lay { breaks, .. } if breaks[0].iter().any(|x| x.is_nan()));
+        let Call::Lay { breaks, .. } = smallest(call, has) else {
+            panic!("the function has changed");
+        };
+        assert!(breaks[0].len() <= 2 && breaks[0].iter().filter(|x| x.is_nan()).count() == 1, "{breaks:?}");
+        assert_eq!(breaks[1..].concat(), vec![]);
     }
 }

@@ -20,8 +20,7 @@ pub fn call(random: &mut Random) -> Call {
     let regions = farm.regions;
     match random.below(16) {
         0..=4 => {
-            let mode = random.pick(&[Ideals::Steps, Ideals::Steps, Ideals::Any, Ideals::Near, Ideals::Tiny]);
-            let (spacing, counts) = (spacing(random, mode, edges), lent(random, edges));
+            let (spacing, counts) = (solve_spacing(random, edges), lent(random, edges));
             Call::Solve { regions, spacing, counts, limit: limit(random) }
         }
         5..=9 => {
@@ -72,7 +71,7 @@ fn wide_call(random: &mut Random) -> Call {
 // Regions
 // ------------------------------------------------------------------------------------------------------------------------------------
 
-fn farm(random: &mut Random) -> Farm {
+pub fn farm(random: &mut Random) -> Farm {
     match random.below(64) {
         0 => column(random),
         1..=31 => row_farm(random),
@@ -292,6 +291,12 @@ fn spacing(random: &mut Random, mode: Ideals, edges: usize) -> Spacing {
     Spacing::Within { least, most }
 }
 
+/// Of a solve, which makes as many moves as are wanted.
+pub fn solve_spacing(random: &mut Random, edges: usize) -> Spacing {
+    let mode = random.pick(&[Ideals::Steps, Ideals::Steps, Ideals::Any, Ideals::Near, Ideals::Tiny]);
+    spacing(random, mode, edges)
+}
+
 /// Hardly an edge is wanted: at most one in eight gains anything by its first +1.
 fn few(random: &mut Random, edges: usize) -> Spacing {
     let wanted = |random: &mut Random| {
@@ -377,7 +382,7 @@ fn limit(random: &mut Random) -> Option<u32> {
     }
 }
 
-fn step(random: &mut Random, edges: usize) -> Step {
+pub fn step(random: &mut Random, edges: usize) -> Step {
     let limit = limit(random);
     let mode = any_mode(random);
     Step::new(spacing(random, mode, edges), limit)
