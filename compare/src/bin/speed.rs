@@ -1,8 +1,8 @@
 //! speed [all] [limits] [FARMS]: the speed list through the Rust and through this library, as tables of ratios; rounds and solves within
 //! ranges beside those by ideals; solves without a limit. `all`: also the whole solves that take the Rust minutes. `limits`: the table of
-//! solves without a limit alone. speed grids: the roots and the grids alone.
+//! solves without a limit alone. speed grids: the roots, the grids and lay alone.
 
-use compare::together::{check_version, farms, speed, speed_limits, speed_ranges};
+use compare::together::{check_version, farms, speed, speed_lays, speed_limits, speed_ranges};
 use compare::tool::ended;
 use std::env;
 use std::process::ExitCode;
@@ -17,7 +17,8 @@ fn run() -> Result<(), String> {
     let words: Vec<&str> = words.iter().map(String::as_str).collect();
     if words[..] == ["grids"] {
         speed::roots()?;
-        return speed::grids();
+        speed::grids()?;
+        return speed_lays::table();
     }
     let (all, rest) = said(&words, "all");
     let (limits, rest) = said(rest, "limits");
@@ -30,6 +31,7 @@ fn run() -> Result<(), String> {
     if !limits {
         speed::roots()?;
         speed::grids()?;
+        speed_lays::table()?;
         speed::searches(&farms)?;
         speed::solves(&farms, all)?;
         speed_ranges::searches(&farms)?;

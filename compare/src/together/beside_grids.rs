@@ -1,11 +1,13 @@
-//! Grids, meshes and roots by two builds of this library in turn, with equal results. The tile is that of `speed`, rounded. These functions
-//! take the same in every version. Both builds write to one buffer: of two, one may lie better in memory, by some percent of a large grid.
+//! Grids, meshes, lays and roots by two builds of this library in turn, with equal results. The tile is that of `speed`, rounded. But for lay
+//! these functions take the same in every version; a lay that a build refuses, for its record or its empty sides, is left out. Both builds write to one buffer: of two, one may lie better in memory, by some percent of a large grid.
 
 use super::beside::{found, mean, open, EFFORT};
 use super::call::Sides;
 use super::clock::{race, Effort, Pair};
 use super::random::Random;
 use super::speed::{bent, seams, seconds, CELLS};
+use super::speed_lays;
+use crate::lay::Region;
 use std::cell::RefCell;
 use std::ffi::c_void;
 use std::mem::transmute;
@@ -35,6 +37,31 @@ type SeamedFn = unsafe extern "C" fn(
 ) -> u32;
 type MeshFn =
     unsafe extern "C" fn(List, usize, List, usize, List, usize, List, usize, u32, u32, *mut f64, usize, *mut u32, usize, Answer) -> u32;
+type LayFn = unsafe extern "C" fn(
+    *const u16,
+    usize,
+    *const u32,
+    usize,
+    List,
+    usize,
+    List,
+    usize,
+    List,
+    usize,
+    List,
+    usize,
+    List,
+    usize,
+    List,
+    usize,
+    List,
+    usize,
+    List,
+    usize,
+    *mut f64,
+    usize,
+    Answer,
+) -> u32;
 type RootFn = unsafe extern "C" fn(f64, *mut [f64; 1]) -> u32;
 
 /// The turns of a grid of a million points.
@@ -44,6 +71,7 @@ const LARGE: Effort = Effort { turn: 0.0, seconds: 2.0, turns: 15 };
 pub struct Grids {
     seamed: SeamedFn,
     mesh: MeshFn,
+    lay: LayFn,
     root: RootFn,
 }
 
@@ -57,6 +85,7 @@ impl Grids {
             Ok(Grids {
                 seamed: transmute::<*mut c_void, SeamedFn>(found(object, name, c"juplatsk_coons_from_parameters")?),
                 mesh: transmute::<*mut c_void, MeshFn>(found(object, name, c"juplatsk_mesh_tile_curves")?),
+                lay: transmute::<*mut c_void, LayFn>(found(object, name, c"juplatsk_lay_region")?),
                 root: transmute::<*mut c_void, RootFn>(found(object, name, c"juplatsk_root")?),
             })
         }
@@ -85,6 +114,42 @@ impl Grids {
     }
 
     /// The sum of the roots' bits.
+    fn lay(&self, Region { record, counts, breaks: [b0, b1, b2, b3], curves: [b, r, t, l] }: &Region, out: &mut [f64]) -> u32 {
+        let mut answer = [0; 3];
+        let list = |list: &Vec<f64>| (list.as_ptr(), list.len());
+        let (b0, b1, b2, b3, b, r, t, l) = (list(b0), list(b1), list(b2), list(b3), list(b), list(r), list(t), list(l));
+        let (region, numbers) = ((record.as_ptr(), record.len()), (counts.as_ptr(), counts.len()));
+        let (lent, length) = (out.as_mut_ptr(), out.len());
+        // SAFETY: as above.
+        unsafe {
+            (self.lay)(
+                region.0,
+                region.1,
+                numbers.0,
+                numbers.1,
+                b0.0,
+                b0.1,
+                b1.0,
+                b1.1,
+                b2.0,
+                b2.1,
+                b3.0,
+                b3.1,
+                b.0,
+                b.1,
+                r.0,
+                r.1,
+                t.0,
+                t.1,
+                l.0,
+                l.1,
+                lent,
+                length,
+                &mut answer,
+            )
+        }
+    }
+
     fn roots(&self, values: &[f64]) -> u64 {
         let mut root = [0.0];
         values.iter().fold(0, |sum: u64, &x| {
@@ -122,6 +187,11 @@ pub fn tables(old: &Grids, new: &Grids) -> Result<(), String> {
                 row(format!("quads, {cells} by {cells}, {name}"), length.to_string(), pair);
             }
             row(format!("mesh, {cells} by {cells}"), length.to_string(), mesh(old, new, effort, &curves, cells)?);
+        }
+    }
+    for laid in &speed_lays::TILES {
+        if let Some(pair) = lay(old, new, laid)? {
+            row(format!("lay, {}", laid.name().replace(" | ", ", edges ")), "16".to_string(), pair);
         }
     }
     let mut random = Random::new(1);
@@ -162,6 +232,23 @@ fn mesh(old: &Grids, new: &Grids, effort: Effort, curves: &Sides, cells: usize) 
         build.mesh(curves, cells, points, indices)
     };
     race(effort, || run(old), || run(new), same)
+}
+
+/// None if a build refuses the tile.
+fn lay(old: &Grids, new: &Grids, laid: &speed_lays::Tile) -> Result<Option<Pair>, String> {
+    let region = laid.region(tile(16));
+    let lent = || vec![f64::NAN; laid.room()];
+    let written = |build: &Grids| {
+        let mut out = lent();
+        (build.lay(&region, &mut out), bits(&out))
+    };
+    let (before, after) = (written(old), written(new));
+    if before.0 != 0 || after.0 != 0 {
+        return Ok(None);
+    }
+    same(&before, &after)?;
+    let out = RefCell::new(lent());
+    race(EFFORT, || old.lay(&region, &mut out.borrow_mut()), || new.lay(&region, &mut out.borrow_mut()), same).map(Some)
 }
 
 fn bits(values: &[f64]) -> Vec<u64> {

@@ -5,8 +5,8 @@
 //! - `line`: a call and its effect as a line of the vectors' format.
 //! - `expected`: the effect that the oracle and 01 give; `turned`: that of the same call on a turned sheet.
 //! - `clock`, `farms`, `speed`, `growth`, `plot`: both timed in turn; `speed_ranges`: within ranges beside by ideals, and beside the model;
-//!   `speed_limits`: solves without a limit.
-//! - `beside`: two builds of this library, timed in turn; `beside_grids`: their grids, meshes and roots.
+//!   `speed_limits`: solves without a limit; `speed_lays`: lay beside the model.
+//! - `beside`: two builds of this library, timed in turn; `beside_grids`: their grids, meshes, lays and roots.
 //! - `scale`: both on many calls; `random`: numbers from a seed.
 
 pub mod beside;
@@ -23,6 +23,7 @@ pub mod plot;
 pub mod random;
 pub mod scale;
 pub mod speed;
+pub mod speed_lays;
 pub mod speed_limits;
 pub mod speed_ranges;
 pub mod turned;

@@ -244,7 +244,7 @@ pub fn seams(cells: usize, slanted: bool) -> Sides {
     [even.clone(), other.clone(), other, even]
 }
 
-fn published(curves: &Sides) -> Result<BoundaryCurves, String> {
+pub fn published(curves: &Sides) -> Result<BoundaryCurves, String> {
     geometry::curves(curves).map_err(|stop| stop.to_string())
 }
 
@@ -265,9 +265,9 @@ pub fn from_parameters(effort: Effort, curves: &Sides, seams: &Sides, out: &mut 
     race(effort, rust, here, |quads, refusal| same_quads(quads, *refusal, &out.borrow()))
 }
 
-type Quads = Result<Vec<[[f64; 2]; 4]>, String>;
+pub type Quads = Result<Vec<[[f64; 2]; 4]>, String>;
 
-fn same_quads(rust: &Quads, refusal: u32, out: &[f64]) -> Result<(), String> {
+pub fn same_quads(rust: &Quads, refusal: u32, out: &[f64]) -> Result<(), String> {
     match (rust, refusal) {
         (Ok(quads), 0) => same_floats(quads.iter().flatten().flatten(), out),
         (rust, _) => Err(format!("refused with {refusal}; the Rust: {:?}", rust.as_ref().err())),
