@@ -1,4 +1,4 @@
-/* Calls the library from C: cases of the bench table, counts within ranges, search limits, a full side, records of before, a grid, a lay, a
+/* Calls the library from C: cases of the bench table, counts within ranges, search limits, a full side, records of before, a grid, lays, a
  * mesh, refusals, and the borders that the header guards. What it prints is compared with the file `expected`. */
 #include "../include/juplatsk.h"
 
@@ -286,6 +286,36 @@ static void grids(void)
          3);
 }
 
+/* Tiles with two opposite sides without edges: one quad across, and the breaks of these sides are not read. */
+static void strips(void)
+{
+    static const double ends[2] = {0, 1};
+    static const double unread[3] = {2, NAN, -1};
+    static const uint32_t counts[2] = {2, 2};
+    uint16_t tile[JP_RECORD] = {0};
+    uint32_t answer[3];
+    double out[17];
+    out[16] = 7;
+    one_edge(tile, 1, 0);
+    one_edge(tile, 3, 1);
+    tell("strip", jp_lay_region(tile, JP_RECORD, counts, 2, NULL, 0, ends, 2, unread, 3, ends, 2, bottom, 4, right, 4, top, 4, left, 4, out,
+                                17, answer),
+         answer, 3);
+    tell_values("quads, and past them", out, 17);
+    memset(tile, 0, sizeof tile);
+    tell("no edges", jp_lay_region(tile, JP_RECORD, counts, 2, NULL, 0, unread, 3, ends, 2, NULL, 0, bottom, 4, right, 4, top, 4, left, 4, out,
+                                   17, answer),
+         answer, 3);
+    tell_values("its quad", out, 8);
+    one_edge(tile, 2, 0);
+    tell("an edge on the top alone", jp_lay_region(tile, JP_RECORD, counts, 2, NULL, 0, NULL, 0, ends, 2, NULL, 0, bottom, 4, right, 4, top, 4,
+                                                 left, 4, out, 17, answer),
+         answer, 3);
+    tell("with a break for the bottom", jp_lay_region(tile, JP_RECORD, counts, 2, ends, 1, NULL, 0, ends, 2, NULL, 0, bottom, 4, right, 4, top,
+                                                      4, left, 4, out, 17, answer),
+         answer, 3);
+}
+
 static void refusals(void)
 {
     const jp_search_limit limit = jp_limit_default();
@@ -362,6 +392,7 @@ int main(void)
     full_side();
     records_of_before();
     grids();
+    strips();
     refusals();
     borders();
     return 0;

@@ -68,9 +68,13 @@
  * -------------------
  * docs/DIFFERENCES.md has these facts in full; rust/tests/facts.rs shows each.
  *   A count of 0 is an answer. Lay then sets no peg of that edge where it begins, at its left or lower end. If it is the first of its
- *     side and has a length, lay refuses with 21; if the side has no piece at all, with 18. A tile of 12 by 9 m, its top an edge of 9 m and
- *     a gateway of 3 m, ideals length / 9: count 0 for the gateway, no peg at 9 m. Look for counts of 0 after a solve. With a range from
- *     1 for that edge a count of 1 costs nothing and 0 costs 1, and that is all: the count may still be 0.
+ *     side and has a length, lay refuses with 21; if the side has no piece at all, with 18, unless neither it nor the opposite one has
+ *     edges. A tile of 12 by 9 m, its top an edge of 9 m and a gateway of 3 m, ideals length / 9: count 0 for the gateway, no peg at 9 m.
+ *     Look for counts of 0 after a solve. With a range from 1 for that edge a count of 1 costs nothing and 0 costs 1, and that is all: the
+ *     count may still be 0.
+ *   Two opposite sides without edges have one quad across: no peg between their corners, whatever their neighbours set there. A strip of
+ *     18 by 27 m without edges on its short sides, on top of a tile whose top has two pieces: a peg at 9 m in the tile, none in the strip.
+ *     Where a strip meets another tile list the common edge, and one opposite to it.
  *   jp_coons_curves, jp_coons_checked and both meshes space the points of each side evenly and know nothing of edges: with solved counts
  *     the number of points agrees with the neighbours', and not where they stand. A side of 19 m whose neighbours meet at 14 m, one
  *     piece each: the mesh has its middle point at 9.5 m. Use jp_lay_region where a side has more than one edge.
@@ -133,7 +137,7 @@ enum {
     JP_CROSSING_OUTSIDE = 24,   /* i, j */
     JP_BAD_QUAD_AREA = 25,      /* i, j: the quad's area is not finite or not above 0 */
     JP_NO_CELLS = 26,           /* n_u or n_v is 0 */
-    JP_BREAKS_MISMATCH = 27,    /* side: its breaks are not one more than its edges */
+    JP_BREAKS_MISMATCH = 27,    /* side: its breaks are not one more than its edges, and its pair is not empty */
     JP_ROOT_UNDEFINED = 28,     /* root of a NaN or of a number below 0 */
     JP_RANGE_REVERSED = 35,     /* edge: its least is above its most */
 
@@ -156,7 +160,7 @@ enum { JP_SIDES = 4, JP_RECORD = JP_SIDES * (JP_PLACES + 1) };
 /* The version of this header, as one number JP_VERSION. A new major or minor may take other arguments, read lists or records in another
  * way, or answer otherwise, and is not called by a header of another one; a new patch is called and answers as before. */
 #define JP_VERSION_MAJOR 0
-#define JP_VERSION_MINOR 5
+#define JP_VERSION_MINOR 6
 #define JP_VERSION_PATCH 0
 #define JP_VERSION (10000 * JP_VERSION_MAJOR + 100 * JP_VERSION_MINOR + JP_VERSION_PATCH)
 
@@ -268,8 +272,8 @@ static inline const char *jp_refusal_text(uint32_t number)
         return "the area of the corners, as it is worked out, is at or below 0; if they run clockwise, turn their order round; far from "
                "the origin, move it near the tile";
     case JP_SEAM_TOO_SHORT:
-        return "seam `first` has fewer than two values; give it 0 and 1 at least (to jp_lay_region a side with edges, whose counts add up "
-               "to 1 or more)";
+        return "seam `first` has fewer than two values; give it 0 and 1 at least (to jp_lay_region a side whose counts add up to 1 or "
+               "more, or no edges on it and on the opposite side)";
     case JP_SEAM_OUT_OF_RANGE:
         return "value `second` of seam `first` is not from 0 to 1; mend the seam, or in jp_lay_region the side's breaks";
     case JP_SEAM_FALLING:
@@ -290,7 +294,8 @@ static inline const char *jp_refusal_text(uint32_t number)
     case JP_NO_CELLS:
         return "n_u or n_v is 0; give 1 or more";
     case JP_BREAKS_MISMATCH:
-        return "the breaks of side `first` are not one more than its edges; give where each edge begins, and 1 as the last";
+        return "the breaks of side `first` are not one more than its edges; give where each edge begins, and 1 as the last (only two "
+               "opposite sides that both have no edges take any)";
     case JP_ROOT_UNDEFINED:
         return "a NaN or a number below 0 has no root; give a number from 0 up";
     case JP_RANGE_REVERSED:
@@ -643,12 +648,16 @@ static inline uint32_t jp_coons_curves(const double *bottom, size_t bottom_len, 
                                  n_u, n_v, jp_f64_out(out), out_len, answer);
 }
 
-/* The quads of one region, by the counts of its edges: edge i of a side has the part of the side's curve from break i to break i + 1.
+/* The quads of one region, by the counts of its edges: edge i of a side has the part of the side's curve from break i to break i + 1. Where
+ * neither of two opposite sides has edges there is one quad across, from 0 to 1.
  * Reads   region: one record; counts, of all edges; breaks0 to breaks3, of sides 0 to 3: one more than the side has edges, from 0 up
- *         to 1, sides 0 and 2 from left to right, 1 and 3 from bottom to top; curves.
- * Writes  out: 8 values a quad, as many as the counts of sides 0 and 3 add up to, multiplied; answer: place, place, number of quads.
+ *         to 1, sides 0 and 2 from left to right, 1 and 3 from bottom to top; of two opposite sides without edges they are not read, and
+ *         may be any list, NULL with 0 too; curves.
+ * Writes  out: 8 values a quad, as many as the counts of sides 0 and 3 add up to, multiplied, where 1 stands for a side if neither it nor
+ *         the opposite one has edges; answer: place, place, number of quads.
  * Refuses 1, 3, 27, 1 (the counts of a side add up to over 1,024), then as jp_coons_from_parameters from 13 on. Among these 18 stands for a
- *         side without a piece, and 21 also for a side that begins with an edge of count 0 that has a length. */
+ *         side without a piece, unless it and the opposite one have no edges, and 21 also for a side that begins with an edge of count 0
+ *         that has a length. */
 static inline uint32_t jp_lay_region(const uint16_t *region, size_t region_len, const uint32_t *counts, size_t counts_len,
                                      const double *breaks0, size_t breaks0_len, const double *breaks1, size_t breaks1_len,
                                      const double *breaks2, size_t breaks2_len, const double *breaks3, size_t breaks3_len,

@@ -170,6 +170,8 @@ pub fn coons_checked(points: &[Point], n_u: usize, n_v: usize) -> Result<Vec<Qua
 /// break `i` to break `i + 1` and is cut into so many pieces as its count says. `breaks` has for each side one value more than the side has
 /// edges, rising from 0 to 1: sides 0 and 2 from left to right, 1 and 3 from bottom to top.
 ///
+/// Where neither of two opposite sides has edges there is one quad across, from 0 to 1, and their breaks are not read: any will do.
+///
 /// ```
 /// use juplatsk::{lay_region, solve_counts, BoundaryCurves, Region};
 ///
@@ -180,13 +182,19 @@ pub fn coons_checked(points: &[Point], n_u: usize, n_v: usize) -> Result<Vec<Qua
 /// let quads = lay_region(&region, &counts, [&[0.0, 1.0], &[0.0, 1.0], &[0.0, 0.25, 1.0], &[0.0, 1.0]], &square)?;
 /// assert_eq!(quads.len(), 4);
 /// assert_eq!(quads[1], [[0.25, 0.0], [0.5, 0.0], [0.25, 1.0], [0.125, 1.0]]);
+///
+/// // a strip: edges on its long sides, none on its short ones
+/// let strip = Region::new([vec![], vec![0], vec![], vec![1]]);
+/// let quads = lay_region(&strip, &[2, 2], [&[], &[0.0, 1.0], &[], &[0.0, 1.0]], &square)?;
+/// assert_eq!(quads, [[[0.0, 0.0], [1.0, 0.0], [1.0, 0.5], [0.0, 0.5]], [[0.0, 0.5], [1.0, 0.5], [1.0, 1.0], [0.0, 1.0]]]);
 /// # Ok::<(), juplatsk::Refusal>(())
 /// ```
 ///
-/// Refused by 1, 3, 27, 13 to 25: by 18 where a side has no piece, and by 21 also where a side begins with an edge of count 0 that has a
-/// length. With counts that a solve found for a list of regions, no region of the list is refused by 22.
+/// Refused by 1, 3, 27, 13 to 25: by 18 where a side has no piece, unless it and the opposite one have no edges, and by 21 also where a side
+/// begins with an edge of count 0 that has a length. With counts that a solve found for a list of regions, no region of the list is refused
+/// by 22.
 pub fn lay_region(region: &Region, counts: &[usize], breaks: [&[f64]; 4], curves: &BoundaryCurves) -> Result<Vec<Quad>, Refusal> {
-    let room = cells(region.pieces(0, counts), region.pieces(3, counts));
+    let room = cells(region.quads_along(0, counts), region.quads_along(3, counts));
     let exceeded = || limit::of_lay(region, counts, curves.lists());
     naming(exceeded, quads(room, |out| raw::lay_region(&region.record(), &wide_counts(counts), breaks, curves.lists(), out)))
 }

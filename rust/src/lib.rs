@@ -41,8 +41,8 @@
 //! Facts that decide whether pegs meet. `tests/facts.rs` shows each; docs/DIFFERENCES.md of the repository has them in full.
 //!
 //! - **A count of 0 is an answer.** Lay then sets no peg of that edge where it begins, at its left or lower end; it is refused by 21 if the edge is the
-//!   first of its side and has a length, by 18 if the side has no piece at all. Look for counts of 0 after a solve. With a range from 1 for that edge
-//!   a count of 1 costs nothing and 0 costs 1, and that is all: the count may still be 0.
+//!   first of its side and has a length, by 18 if the side has no piece at all, unless neither it nor the opposite one has edges. Look for counts of 0
+//!   after a solve. With a range from 1 for that edge a count of 1 costs nothing and 0 costs 1, and that is all: the count may still be 0.
 //!
 //!   ```
 //!   use juplatsk::{solve_counts, solve_counts_within, Region};
@@ -58,6 +58,9 @@
 //!   assert_eq!(solve_counts_within(&tile, &ranges)?, [2, 1, 1, 1, 1]);
 //!   # Ok::<(), juplatsk::Refusal>(())
 //!   ```
+//! - **A strip has no peg of its neighbour on its short sides.** Two opposite sides without edges have one quad across: no peg between their corners,
+//!   whatever their neighbours set there. A strip of 18 m by 27 m without edges on its short sides, on top of a tile whose top has two pieces: a peg
+//!   at 9 m in the tile, none in the strip. Where a strip meets another tile list the common edge, and one opposite to it.
 //! - **Even seams know nothing of T-junctions.** [`coons_curves`], [`coons_checked`] and the meshes space the points of a side evenly: with solved
 //!   counts the number of points agrees with the neighbours', and not where they stand. A side of 19 m whose neighbours meet at 14 m, one piece
 //!   each, gets its middle point at 9.5 m. Use [`lay_region`] where a side has more than one edge.

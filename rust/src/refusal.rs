@@ -110,7 +110,7 @@ impl Refusal {
             15 => BAD_LENGTH,
             16 => "the curves do not meet there; let each curve begin at the point where the one before it ends",
             17 => CLOCKWISE,
-            18 => "the seam has fewer than two values; give it 0 and 1 at least (to lay_region a side with edges, whose counts add up to 1 or more)",
+            18 => SEAM_SHORT,
             19 => "the value is not from 0 to 1; mend the seam, or in lay_region the side's breaks",
             20 => "the value is below the one before it; mend the seam, or in lay_region the side's breaks",
             21 => SEAM_ENDS,
@@ -119,7 +119,7 @@ impl Refusal {
             24 => "the two grid lines there cross outside the tile; make the seams of opposite sides more alike",
             25 => BAD_AREA,
             26 => "n_u or n_v is 0; give 1 or more",
-            27 => "the side's breaks are not one more than its edges; give where each edge begins, and 1 as the last",
+            27 => BAD_BREAKS,
             28 => "a NaN or a number below 0 has no root; give a number from 0 up",
             35 => "the least of its range is above the most; change their places",
             BAD_VERSION => "the versions of archive and package do not fit; link the archive that was made with this package",
@@ -137,12 +137,16 @@ const BAD_LENGTH: &str =
 const CLOCKWISE: &str =
     "the area of the corners, as it is worked out, is at or below 0; if they run clockwise, turn their order round; far from \
                          the origin, move it near the tile";
+const SEAM_SHORT: &str = "the seam has fewer than two values; give it 0 and 1 at least (to lay_region a side whose counts add up to 1 or \
+                          more, or no edges on it and on the opposite side)";
 const SEAM_ENDS: &str =
     "the seam does not start at 0 or does not end at 1; to lay_region give breaks from 0 to 1, and where the side's first edge \
                          has count 0, solve again with a range from 1 for it";
 const BAD_AREA: &str =
     "the quad's area, as it is worked out, is not finite or not above 0; let no two seam values (or breaks) in a row be equal, \
                         straighten the curves, or, far from the origin, move it near the tile";
+const BAD_BREAKS: &str = "the side's breaks are not one more than its edges; give where each edge begins, and 1 as the last (only two \
+                          opposite sides that both have no edges take any)";
 
 /// The answer; a refusal by number 1 names the limit that is exceeded.
 pub(crate) fn naming<T>(exceeded: impl FnOnce() -> Option<Limit>, answer: Result<T, Refusal>) -> Result<T, Refusal> {

@@ -62,6 +62,16 @@ impl Region {
         let count = |&edge: &usize| counts.get(edge).copied().unwrap_or(0);
         self.sides[side].iter().map(count).fold(0, usize::saturating_add)
     }
+
+    /// How many quads lay sets along a side: as many as its counts add up to, and one where neither it nor the opposite side has edges.
+    pub(crate) fn quads_along(&self, side: usize, counts: &[usize]) -> usize {
+        let empty = self.sides[side].is_empty() && self.sides[(side + 2) % 4].is_empty();
+        if empty {
+            1
+        } else {
+            self.pieces(side, counts)
+        }
+    }
 }
 
 fn records(regions: &[Region]) -> Vec<u16> {

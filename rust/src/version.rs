@@ -3,7 +3,7 @@
 use crate::archive;
 use crate::refusal::{Refusal, BAD_VERSION};
 
-/// The version of this package as one number: 10,000 times its first part, 100 times its second and its third. 0.5.0 is 500.
+/// The version of this package as one number: 10,000 times its first part, 100 times its second and its third. 0.6.0 is 600.
 pub const VERSION: u32 = 10_000 * number(env!("CARGO_PKG_VERSION_MAJOR"))
     + 100 * number(env!("CARGO_PKG_VERSION_MINOR"))
     + number(env!("CARGO_PKG_VERSION_PATCH"));

@@ -365,6 +365,36 @@ fn large_numbers() {
     assert_eq!(refusal(lay_region(&tile(), &[1 << 40; 4], breaks, &square())), (1, 0, 0));
 }
 
+/// Two opposite sides without edges have one quad across, and nothing of their breaks shows. One such side alone, and edges of count 0, are
+/// turned away as ever.
+#[test]
+fn strips() {
+    let (unit, nan): (&[f64], &[f64]) = (&[0.0, 1.0], &[f64::NAN; 3]);
+    let long = vec![f64::INFINITY; 2000];
+    let upright = region([&[], &[0], &[], &[1]]);
+    let quads = lay_region(&upright, &[3, 3], [&[], unit, &[], unit], &square()).unwrap();
+    assert_eq!(quads.len(), 3);
+    assert_eq!((quads[0][1], quads[2][3]), ([1.0, 0.0], [0.0, 1.0]));
+    for unread in [[&[0.5], nan], [nan, &[]], [unit, &long], [&long, &[1.0, 0.0]]] {
+        assert_eq!(lay_region(&upright, &[3, 3], [unread[0], unit, unread[1], unit], &square()), Ok(quads.clone()));
+    }
+    let level = region([&[0], &[], &[1], &[]]);
+    assert_eq!(lay_region(&level, &[1024, 1024], [unit, nan, unit, &[]], &square()).map(|quads| quads.len()), Ok(1024));
+    let none = region([&[], &[], &[], &[]]);
+    let whole = [[0.0, 0.0], [1.0, 0.0], [1.0, 1.0], [0.0, 1.0]];
+    assert_eq!(lay_region(&none, &[], [&[], nan, unit, &long], &square()), Ok(vec![whole]));
+
+    let lay = |sides, counts: &[usize], breaks| refusal(lay_region(&region(sides), counts, breaks, &square()));
+    assert_eq!(lay([&[], &[0], &[1], &[2]], &[1; 3], [&[], unit, unit, unit]), (27, 0, 0));
+    assert_eq!(lay([&[], &[0], &[1], &[2]], &[1; 3], [&[0.0], unit, unit, unit]), (18, 0, 0));
+    assert_eq!(lay([&[0], &[1], &[2], &[]], &[1; 3], [unit, unit, unit, &[0.0]]), (18, 3, 0));
+    assert_eq!(lay([&[0], &[1], &[2], &[3]], &[0, 1, 0, 1], [unit; 4]), (18, 0, 0));
+    assert_eq!(lay([&[], &[0], &[], &[1]], &[1; 2], [nan, unit, nan, &[0.0]]), (27, 3, 0));
+    assert_eq!(lay([&[], &[0], &[], &[1]], &[1, 2], [nan, unit, nan, unit]), (22, 1, 0));
+    assert_eq!(lay([&[], &[0], &[], &[1]], &[1025, 1025], [nan, unit, nan, unit]), (1, 0, 0));
+    assert_eq!(lay([&[], &[0], &[], &[2]], &[1, 1], [nan, unit, nan, &[]]), (3, 0, 3));
+}
+
 /// The pieces of a farm fit together: whatever the ideals, opposite sides come to the same, and each tile can be laid.
 #[test]
 fn tiles_fit() {

@@ -166,6 +166,39 @@ fn count_of_zero_leaves_out_a_peg() {
     assert_eq!(xs(&between.pegs(0, 2, &counts))[4..7], [38.4, 48.0, 51.0]);
 }
 
+/// Two opposite sides without edges have one quad across: no peg between their corners, whatever their neighbours set there. Where a strip
+/// meets another tile, list the common edge, and one opposite to it.
+#[test]
+fn strip_has_no_peg_of_its_neighbour() {
+    // a tile of 18 m by 9 m, and above it a strip of 27 m whose short sides, 18 m, have no edges
+    let (unit, unread): (&[f64], &[f64]) = (&[0.0, 1.0], &[]);
+    let tile = region([&[0], &[1], &[2], &[3]]);
+    let strip = region([&[], &[4], &[], &[5]]);
+    let above = BoundaryCurves::from_corners([[0.0, 9.0], [18.0, 9.0], [18.0, 36.0], [0.0, 36.0]]);
+    let below = BoundaryCurves::from_corners([[0.0, 0.0], [18.0, 0.0], [18.0, 9.0], [0.0, 9.0]]);
+    let ideals = [2.0, 1.0, 2.0, 1.0, 3.0, 3.0];
+    let counts = solve_counts(&[tile.clone(), strip.clone()], &ideals).unwrap();
+    let of_tile = lay_region(&tile, &counts, [unit; 4], &below).unwrap();
+    let of_strip = lay_region(&strip, &counts, [unread, unit, unread, unit], &above).unwrap();
+    assert_eq!(xs(&side_pegs(&of_tile, 2, 2)), [0.0, 9.0, 18.0]);
+    assert_eq!(xs(&side_pegs(&of_strip, 1, 0)), [0.0, 18.0]);
+
+    // edge 2 belongs to both, and edge 6 lies opposite
+    let marked = region([&[2], &[4], &[6], &[5]]);
+    let counts = solve_counts(&[tile, marked.clone()], &[ideals.as_slice(), &[2.0]].concat()).unwrap();
+    let of_marked = lay_region(&marked, &counts, [unit; 4], &above).unwrap();
+    assert_eq!(xs(&side_pegs(&of_marked, 2, 0)), [0.0, 9.0, 18.0]);
+
+    // a field 3 m wide, which has no quads with its edges (18), has them without
+    let narrow = BoundaryCurves::from_corners([[0.0, 0.0], [3.0, 0.0], [3.0, 18.0], [0.0, 18.0]]);
+    let field = region([&[0], &[1], &[2], &[3]]);
+    let counts = solve_counts(std::slice::from_ref(&field), &[3.0 / 9.0, 2.0, 3.0 / 9.0, 2.0]).unwrap();
+    assert_eq!(counts, [0, 2, 0, 2]);
+    assert_eq!(lay_region(&field, &counts, [unit; 4], &narrow).unwrap_err().number, 18);
+    let strip = region([&[], &[1], &[], &[3]]);
+    assert_eq!(lay_region(&strip, &counts, [unread, unit, unread, unit], &narrow).map(|quads| quads.len()), Ok(2));
+}
+
 /// A least of 1 is a wish and no bound: the count may still be 0, if what it asks of the opposite side costs too much or cannot be had.
 /// Look for counts of 0 after a solve within ranges too; a wider range on the opposite side may help.
 #[test]
