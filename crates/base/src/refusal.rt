@@ -46,6 +46,7 @@ pub enum Check {
 
 impl Check {
     // The first refusal of two tests in a row.
+    #[tactic(auto, unfolding(crate::specs::Refusal::outcome))]
     pub fn and(self, next: Check) -> Check
         ensures { outcome result ≡ then_test (outcome self) (outcome next) }
     {

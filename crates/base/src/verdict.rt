@@ -53,6 +53,7 @@ fn with_places(number: u32, first: u32, second: u32) -> Verdict
     }
 }
 
+#[tactic(auto, unfolding(crate::specs::Refusal::verdict_of))]
 pub fn verdict_of(refusal: Refusal) -> Verdict
     ensures { result ≡ verdict_of refusal }
 {
