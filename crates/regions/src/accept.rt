@@ -113,7 +113,7 @@ fn check_pair(a: &[u16], b: &[u16], n: usize, region: u32, first: u32) -> Check
 // The record that stands first: sides 0 and 2, then 1 and 3.
 fn check_region(records: &[u16], n: usize, region: u32) -> Check
     requires places_in_bounds { record_size places ≤ length records.now }
-    requires t { T (sides_fit places 1 records.now) }
+    requires sides_fit { T (sides_fit places 1 records.now) }
     ensures { outcome result ≡ region_test places n region records.now }
 {
     let bottom = side(records, 0);

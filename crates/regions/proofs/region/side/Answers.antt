@@ -7,11 +7,9 @@ use native.Mathlib.Omega.{arith}
 use native.Mathlib.Numerals.{add-one}
 use lib.ListN.{length, get_or, take, drop, length-drop, get_or-eq_default}
 use lib.Seq.{take_all}
-use borrow.Author.Rules.{rules}
 use Rattle.regions.specs.Region.{places, side, side_size}
 use Rattle.regions.proofs.accept.Laws.{rest}
-use Rattle.regions.proofs.region.side.Statement.{statement}
-use Rattle.regions.proofs.region.side.Tie as tie
+use Rattle.regions.proofs.region.side.Goals as goal
 
 -- the list ends before the number of edges
 no-side : (l : List ℕ) (k : ℕ) → length l ≤ k * side_size places → [] ≡ side places l k
@@ -31,29 +29,17 @@ whole_side l k =
     let e : k * side_size places + 1 + get_or l (k * side_size places) 0 - (k * side_size places + 1) ≡ get_or l (k * side_size places) 0 = omega arith in
     ap (λ (n : ℕ). take n (drop (k * side_size places + 1) l)) e ∙ ap (λ (n : ℕ). take (get_or l (k * side_size places) 0) (drop n l)) (add-one (k * side_size places))
 
-returns : tie.Need-returns
-returns c = no-side c.before.before.args.records.now c.before.before.args.k c.before.if1.true
+pub returns-then-at-records : goal.returns-then-at-records
+returns-then-at-records c = no-side c.args.records.now c.args.k c.if-at-records.true
 
-cast-n : tie.Need-overflow-cast-n
-cast-n c = omega (arith, c.shared-slice-known.given (c.before.before.args.k * side_size places))
+pub overflow_cast-n : goal.overflow_cast-n
+overflow_cast-n c = omega (arith, c.type_inv.records (c.args.k * side_size places))
 
-add-end : tie.Need-overflow-add-end
-add-end c = omega (arith, c.shared-slice-known.given (c.before.before.args.k * side_size places))
+pub overflow_add-end : goal.overflow_add-end
+overflow_add-end c = omega (arith, c.type_inv.records (c.args.k * side_size places))
 
-returns-2 : tie.Need-returns-2
-returns-2 c =
-    let entry : tie.Start = search in
-    cut-side entry.args.records.now entry.args.k c.before.if2.true
+pub returns-then-end-records : goal.returns-then-end-records
+returns-then-end-records c =     cut-side c.args.records.now c.args.k c.if-end-records.true
 
-returns-3 : tie.Need-returns-3
-returns-3 c =
-    let entry : tie.Start = search in
-    whole_side entry.args.records.now entry.args.k
-
-pub side_spec : {M : Type 1} → statement M
-side_spec =
-    tie.close
-    (tie.spec
-    (λ c. search rules) (λ c. search rules) returns (λ c. search rules) (λ c. search rules) cast-n (λ c. search rules) add-end
-    (λ c. search rules) (λ c. search rules) (λ c. search rules) (λ c. search rules) returns-2 (λ c. search rules) (λ c. search rules)
-    (λ c. search rules) (λ c. search rules) returns-3)
+pub returns : goal.returns
+returns c =     whole_side c.args.records.now c.args.k
