@@ -1,7 +1,7 @@
 -- A pair of sides that does not pass is refused by 3, 4 or 5, on one of its two sides; and chains of tests that fail at the same pairs have the same
 -- outcome, but for which of these it is (`SameFault`: specs/Turned). Assumes nothing.
 use mathlib.Core.Path.{◌≡◌, refl, sym, ap, ◌∙◌}
-use mathlib.Core.Bool.{true, false, true≢false}
+use mathlib.Core.Bool.{false, true≢false}
 use mathlib.Core.List.{List, [], ◌∷◌}
 use Prim.Native.Nat.{ℕ, ◌%◌}
 use native.Mathlib.Omega.{arith}

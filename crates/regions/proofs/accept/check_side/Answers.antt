@@ -1,7 +1,6 @@
 -- `regions::accept::check_side` meets its contract. The loop's invariant: what is left of the test, with the edges before i as those seen,
 -- is the whole test. Assumes nothing.
 use mathlib.Core.Path.{sym, ◌∙◌}
-use Prim.Native.Nat.{◌-◌}
 use native.Mathlib.Omega.{arith}
 use borrow.Author.Tests.{lt-ltb, le-ltb}
 use lib.ListN.{get_or, take}

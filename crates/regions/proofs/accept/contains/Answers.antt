@@ -1,6 +1,5 @@
 -- `regions::accept::contains` meets its contract. The loop's invariant: some edge of the list is e just if some edge from i on is. Assumes nothing.
 use mathlib.Core.Path.{sym, ◌∙◌}
-use Prim.Native.Nat.{◌-◌}
 use borrow.Author.Tests.{eq-eqb, ne_eqb}
 use lib.ListN.{get_or}
 use lib.Dec.{eqb}

@@ -1,6 +1,6 @@
 -- `regions::accept::has_shared_edge` meets its contract. The loop's invariant: a shared edge stands in a just if one stands there from i on. Assumes nothing.
 use mathlib.Core.Path.{sym, ◌∙◌}
-use Prim.Native.Nat.{ℕ, ◌-◌}
+use Prim.Native.Nat.{ℕ}
 use Rattle.base.specs.Lists.{member}
 use Rattle.base.proofs.Turns.{any_here, any_next, any_end}
 use Rattle.regions.proofs.accept.has_shared_edge.Goals as goal

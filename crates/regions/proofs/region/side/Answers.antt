@@ -39,7 +39,7 @@ pub overflow_add-end : goal.overflow_add-end
 overflow_add-end c = omega (arith, c.type_inv.records (c.args.k * side_size places))
 
 pub returns-then-end-records : goal.returns-then-end-records
-returns-then-end-records c =     cut-side c.args.records.now c.args.k c.if-end-records.true
+returns-then-end-records c = cut-side c.args.records.now c.args.k c.if-end-records.true
 
 pub returns : goal.returns
-returns c =     whole_side c.args.records.now c.args.k
+returns c = whole_side c.args.records.now c.args.k
