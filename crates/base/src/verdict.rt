@@ -5,7 +5,7 @@ ghost use Rattle.base.specs.Refusal.{passed, refused, verdict_of};
 use crate::refusal::Refusal;
 
 // Number 0 stands for no refusal.
-#[derive(Drop)]
+#[derive(Clone, Copy)]
 pub struct Verdict {
     pub number: u32,
     pub first: u32,
