@@ -9,28 +9,28 @@ ghost use Rattle.floats.specs.inner.RootSteps.{NearestGiven, ToNearest, Found};
 
 use base::refusal::Refusal;
 
-#[derive(Drop)]
+#[derive(Clone, Copy)]
 pub enum RootAnswer {
     Value(f64),
     Refused(Refusal),
 }
 
 // A number of 53 binary digits, and a power of two.
-#[derive(Drop)]
+#[derive(Clone, Copy)]
 struct Digits {
     m: u64,
     p: u64,
 }
 
 // A whole root, and what the number has more than its square.
-#[derive(Drop)]
+#[derive(Clone, Copy)]
 struct Split {
     whole: u64,
     rest: u64,
 }
 
 // The exact root of a float: √(whole * whole + rest) times 2^exponent smallest floats, each 2^-1074.
-#[derive(Drop)]
+#[derive(Clone, Copy)]
 struct Apart {
     exponent: u64,
     whole: u64,
