@@ -8,7 +8,7 @@
 -- first edge has none, turn the path round and grow it once more. Now no edge of the path has a neighbour in the rest. The edges of a move are
 -- joined by neighbours, so that the rest has no edge, and the path lists the whole move. Assumes nothing.
 use mathlib.Core.Logic.{◌≢◌, ◌⊎◌, inl, inr}
-use mathlib.Core.Path.{◌≡◌, refl, sym, ap, ◌∙◌}
+use mathlib.Core.Path.{◌≡◌, refl, sym, ap, subst, ◌∙◌}
 use mathlib.Core.Bool.{Bool}
 use mathlib.Core.List.{List, [], ◌∷◌, ◌++◌, append_assoc, reverse_aux, reverse_aux-eq}
 use Prim.Native.Nat.{ℕ, zero, suc, ◌≤◌}
@@ -216,7 +216,7 @@ module _ (g : List Constraint) (counts : List ℕ) (r : List Change) (thin : Thi
         let u = edge_of w (f ∷ m) (reached x w j i) in
         let v = edge_of y r (member→in y (edges r) t) in
         elim (in_split v.0 (f ∷ m) rest ((p.lists v.0).0 v.1)) [
-          | inl k ↦ rw v.2 at (edges_in v.0 (f ∷ m) k)
+          | inl k ↦ subst (λ (z : ℕ). In z (edges (f ∷ m))) v.2 (edges_in v.0 (f ∷ m) k)
           | inr k ↦ absurd (free u.0 u.1 v.0 k
               (rw u.2 (rw v.2 s)))
         ]

@@ -18,7 +18,7 @@
 -- them and not through z, so somewhere it steps from one part to the other (`cross`). By the second fact r is a loop. It can be read from z,
 -- and the third fact applies to that reading. Assumes nothing.
 use mathlib.Core.Logic.{◌≢◌, ◌⊎◌, ◌↔◌, inl, inr, ⊎_swap}
-use mathlib.Core.Path.{◌≡◌, refl, sym, ap, ◌∙◌}
+use mathlib.Core.Path.{◌≡◌, refl, sym, ap, subst, ◌∙◌}
 use mathlib.Core.List.{List, [], ◌∷◌, ◌++◌, reverse, append-nil, append_assoc, reverse-append, reverse-cons, reverse-reverse}
 use Prim.Native.Nat.{ℕ}
 use native.Mathlib.Omega.{arith}
@@ -44,6 +44,7 @@ put_first z e = rw e
 
 -- where a change stands
 place : (z : Change) (l : List Change) → In z l → (p : List Change) × (s : List Change) × (l ≡ p ++ z ∷ s)
+place z [] i = elim i [ ]
 place z (x ∷ l) (inl e) = ([], l, ap {B = List Change} (λ y. y ∷ l) (sym e))
 place z (x ∷ l) (inr i) = let f = place z l i in (x ∷ f.0, f.1, put_first x f.2)
 
@@ -139,9 +140,9 @@ module _ (g : List Constraint) (counts : List ℕ) (r : List Change) (thin : Thi
   agree a b (x ∷ l) [] kl km dl dm w e = absurd ((e x).0 (inl refl))
   agree a b (x ∷ l) (y ∷ m) kl km dl dm w e = elim ((e y).1 (inl refl)) [
     | inl q ↦ (
-        let kx = rw q at km.1 in
-        let dx = rw q at dm.1 in
-        let ex = rw q at e in
+        let kx = subst (λ (z : Change). Linked g (b ∷ z ∷ m)) q km.1 in
+        let dx = subst (λ (z : Change). Distinct (edges (b ∷ z ∷ m))) q dm.1 in
+        let ex = subst (λ (z : Change). Rearranged (x ∷ l) (z ∷ m)) q e in
         let h = agree b x l m kl.1 kx dl.1 dx (λ z i. w z (inr i)) (rest_rearranged x l m dl.1.1 dx.1 ex) in
         ap {B = List Change} (λ z. z ∷ m) q ∙ put_first x h
         )

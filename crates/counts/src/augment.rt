@@ -15,7 +15,7 @@ use crate::search::{SearchState, fresh, infinity, run, wide};
 const NO_START: usize = CHANGES;
 
 // What the starts weighed so far come to: the kept cost, the start that it comes from, and whether any search was cut.
-#[derive(Drop)]
+#[derive(Clone, Copy)]
 pub struct Choice {
     pub kept: f64,
     pub winner: usize,
@@ -23,7 +23,7 @@ pub struct Choice {
 }
 
 // The move found: its cost, how many changes it has (none: 0), and whether any search was cut. Its changes stand in a buffer.
-#[derive(Drop)]
+#[derive(Clone, Copy)]
 pub struct FoundMove {
     pub kept: f64,
     pub len: u32,

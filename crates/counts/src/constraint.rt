@@ -9,7 +9,7 @@ ghost use Rattle.counts.specs.Solver.{constraint_holds};
 use regions::region::{RECORD_SIZE, side};
 
 // What a side adds up to.
-#[derive(Drop)]
+#[derive(Clone, Copy)]
 pub enum SideSum {
     Total(u64),
     OutOfRange,

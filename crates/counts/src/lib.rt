@@ -1,4 +1,6 @@
 // The public functions. Each takes any input; specs/Solver.antt defines what it answers and leaves.
+#![tactic(auto)]
+
 pub mod answer;
 mod augment;
 mod check;

@@ -28,7 +28,7 @@ use crate::limits::{CHANGES, EDGE_SLOTS, MARKS, NO_CONSTRAINT, PATH_SIZE};
 use regions::region::{SIDE_SIZE, opposite};
 
 // The kept cost and the length of the kept reading, how many entries there were, and whether one was turned back.
-#[derive(Drop)]
+#[derive(Clone, Copy)]
 pub struct SearchState {
     pub kept: f64,
     pub expansions: u32,
@@ -37,7 +37,7 @@ pub struct SearchState {
 }
 
 // Where the edges of a constraint stand in the records: `split` opposite ones from `opposite` on, then those of the own side from `own` on.
-#[derive(Drop)]
+#[derive(Clone, Copy)]
 pub struct Sides {
     pub opposite: usize,
     pub split: usize,
@@ -46,7 +46,7 @@ pub struct Sides {
 }
 
 // The changed edges that a constraint holds besides the last one.
-#[derive(Drop)]
+#[derive(Clone, Copy)]
 pub enum Changed {
     Nothing,
     One(usize),

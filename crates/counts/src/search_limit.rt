@@ -5,7 +5,7 @@ ghost use Rattle.counts.specs.Solver.{expansions as expansions_of};
 
 use crate::limits::DEFAULT_LIMIT;
 
-#[derive(Drop)]
+#[derive(Clone, Copy)]
 pub enum SearchLimit {
     Default,
     Expansions(u32),

@@ -21,7 +21,7 @@ fn wide_len(x: u32) -> usize
 }
 
 // How many moves a solve made, and whether it found a further one after the last that is allowed.
-#[derive(Drop)]
+#[derive(Clone, Copy)]
 pub struct MovesMade {
     pub moves: u32,
     pub more: bool,

@@ -255,7 +255,7 @@ module _ {g g' : List Constraint} {number : ℕ → ℕ} (like : AlikeGraphs g g
   unfolding try_start
   start_alike edge_cost allowed limit z b =
       ap (λ (st : State). cond (allowed z.0 z.1) (weigh st) (λ b. b) b)
-      (run_alike (record { graphs = like; same_cost = λ y s k. refl; same_allowed = λ y s k. refl }) limit z.0 z.1 tt)
+      (run_alike {edge_cost = edge_cost} {allowed = allowed} (record { graphs = like; same_cost = λ y s k. refl; same_allowed = λ y s k. refl }) limit z.0 z.1 tt)
 
   pub find_alike : (edge_cost : EdgeCost) (allowed : ℕ → Bool → Bool) (limit n : ℕ)
       → find_augmentation g edge_cost allowed limit n ≡ find_augmentation g' edge_cost allowed limit n

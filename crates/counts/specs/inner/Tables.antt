@@ -1,7 +1,7 @@
 -- What the search's tables, buffers and state stand for: the records that the contracts of the functions below the public ones cite.
 -- Assumes nothing.
 -- A slot is 2 * edge + k: constraint k (0 or 1) of the edge. A change is packed in one number, 2 * edge + 1 for +1 and 2 * edge for -1.
-use Rattle.std.specs.Prelude.{◌≢◌, ◌≡◌, Bool, true, false, cond, List, [], ◌∷◌, ℕ, ◌+◌, ◌-◌, ◌*◌, ◌/◌, ◌%◌, ◌≤◌, ◌<◌, length, get_or, set, take, drop, eqb, ltb, T, Float}
+use Rattle.std.specs.Prelude.{◌≢◌, ◌≡◌, Bool, true, false, cond, List, [], ◌∷◌, ℕ, ◌+◌, ◌*◌, ◌/◌, ◌%◌, ◌≤◌, ◌<◌, length, get_or, set, take, drop, eqb, ltb, T, Float}
 use Rattle.std.specs.Float.{nan}
 use Rattle.base.specs.Lists.{member}
 use Rattle.regions.specs.Region.{Constraint, places, graph, constraint, holds, own_side, opposite_side, incidence, side_size, across}
