@@ -2,7 +2,7 @@
 use base::refusal::Refusal;
 
 // How many quads the grid has, or why there is none.
-#[derive(Drop)]
+#[derive(Clone, Copy)]
 pub enum GridAnswer {
     Made(u32),
     Refused(Refusal),

@@ -13,13 +13,13 @@ use base::refusal::{Check, Refusal};
 use floats::scalar::{abs, max, min};
 
 // Where a curve begins and ends.
-#[derive(Drop)]
+#[derive(Clone, Copy)]
 pub(crate) struct Ends {
     pub(crate) start: Point,
     pub(crate) end: Point,
 }
 
-#[derive(Drop)]
+#[derive(Clone, Copy)]
 pub(crate) struct BoundaryEnds {
     pub(crate) bottom: Ends,
     pub(crate) right: Ends,
@@ -28,7 +28,7 @@ pub(crate) struct BoundaryEnds {
 }
 
 // Where the knots of sides 1 to 3 begin in the list of all knots, and where those of side 3 end. Those of side 0 begin at 0.
-#[derive(Drop)]
+#[derive(Clone, Copy)]
 pub(crate) struct Starts {
     pub(crate) right: usize,
     pub(crate) top: usize,
@@ -37,14 +37,14 @@ pub(crate) struct Starts {
 }
 
 // Four curves that join: where they stand in the list of knots, and the ends of bottom and top, by which every point of the patch goes.
-#[derive(Drop)]
+#[derive(Clone, Copy)]
 pub(crate) struct Patch {
     pub(crate) starts: Starts,
     pub(crate) bottom: Ends,
     pub(crate) top: Ends,
 }
 
-#[derive(Drop)]
+#[derive(Clone, Copy)]
 pub(crate) enum BoundaryAnswer {
     Joined(Patch),
     Refused(Refusal),

@@ -16,7 +16,7 @@ use floats::root::sqrt;
 use floats::scalar::{is_finite, is_positive};
 
 // A point of the curve, with the length run so far.
-#[derive(Drop)]
+#[derive(Clone, Copy)]
 pub(crate) struct Knot {
     pub(crate) x: f64,
     pub(crate) y: f64,
@@ -35,7 +35,7 @@ impl Knot {
     }
 }
 
-#[derive(Drop)]
+#[derive(Clone, Copy)]
 pub(crate) struct Segment {
     pub(crate) start: Knot,
     pub(crate) end: Knot,
@@ -298,7 +298,7 @@ fn length_along(curve: &[f64], t: f64) -> f64
 }
 
 // A point of the curve, with the number of its segment: a hint for the next one.
-#[derive(Drop)]
+#[derive(Clone, Copy)]
 pub(crate) struct Located {
     pub(crate) point: Point,
     pub(crate) segment: usize,

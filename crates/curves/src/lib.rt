@@ -1,5 +1,7 @@
 // The geometry above the counts: points, curves, their seams, the patch between them, its grid of points and quads, and lay, which grids a
 // region by its counts. Public are `coons` and `lay`, with `answer`, and `limits` for the mesh.
+#![tactic(auto)]
+
 pub mod answer;
 mod boundary;
 mod columns;

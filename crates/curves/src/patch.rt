@@ -9,7 +9,7 @@ use crate::boundary::Patch;
 use crate::curve::curve_near;
 use crate::point::Point;
 
-#[derive(Drop)]
+#[derive(Clone, Copy)]
 pub(crate) struct Column {
     pub(crate) bottom: Point,
     pub(crate) top: Point,
@@ -17,7 +17,7 @@ pub(crate) struct Column {
     pub(crate) high: Point,
 }
 
-#[derive(Drop)]
+#[derive(Clone, Copy)]
 pub(crate) struct Row {
     pub(crate) right: Point,
     pub(crate) left: Point,

@@ -6,13 +6,13 @@ ghost use Rattle.curves.specs.Point.{point_of, cross, signed_area};
 
 use base::refusal::Refusal;
 
-#[derive(Drop)]
+#[derive(Clone, Copy)]
 pub(crate) struct Point {
     pub(crate) x: f64,
     pub(crate) y: f64,
 }
 
-#[derive(Drop)]
+#[derive(Clone, Copy)]
 pub(crate) enum PointAnswer {
     At(f64, f64),
     Refused(Refusal),

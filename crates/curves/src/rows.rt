@@ -15,7 +15,7 @@ use crate::quad::{check_quad, has_area};
 use base::refusal::Check;
 
 // What an output holds of a grid: its quads, or its points for a mesh.
-#[derive(Drop)]
+#[derive(Clone, Copy)]
 pub(crate) enum Layout {
     Quads,
     Nodes,

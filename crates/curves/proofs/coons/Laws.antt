@@ -11,9 +11,9 @@ use lib.Dec.{T, T_not, ltb, eqb}
 use lib.Ieee.{Float}
 use borrow.Author.Tests.{lt-ltb, le-ltb, ltb-false}
 use Rattle.base.specs.declared.verdict.Verdict.{Verdict}
-use Rattle.base.specs.Refusal.{passed, refused, outcome, is_passed, then_test, refuse_if}
+use Rattle.base.specs.Refusal.{passed, refused, is_passed, then_test, refuse_if}
 use Rattle.base.proofs.BoolLaws.{not_T_false, T_true, by_truth}
-use Rattle.base.proofs.TestLaws.{then_left, then_right, then_both, not_refused, four_passed, follows}
+use Rattle.base.proofs.TestLaws.{then_left, then_right, then_both, not_refused, four_passed}
 use Rattle.base.specs.Buffers.{splice}
 use Rattle.curves.specs.Boundary.{BoundaryCurves, boundary_of, checked_curves}
 use Rattle.curves.specs.inner.Curves.{Sides, ShortCurves}

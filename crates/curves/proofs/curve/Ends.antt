@@ -1,7 +1,7 @@
 -- A curve by its parameter before it is clamped, which is where the code and the theorems take `curve_at` apart: at -0, 0 and all below it is the first
 -- point, at 1 and all above the last, infinities too, and else it is blended. Assumes nothing.
 use mathlib.Core.Path.{◌≡◌, refl, sym, ap, ◌∙◌}
-use mathlib.Core.Bool.{Bool, true, false, ◌||◌}
+use mathlib.Core.Bool.{true, false}
 use Prim.Native.Nat.{ℕ, ◌-◌, ◌≤◌}
 use borrow.Author.Tests.{le-ltb}
 use lib.Ieee.{Float, lt, le, eq, of_bits}

@@ -1,18 +1,16 @@
 -- A curve whose whole length is finite has finite points: a sum, a difference, a square or a root of what is not finite is not finite either, and
 -- each point is an end of some segment. So the points of a curve need no look of their own where its length passes. Assumes nothing.
 use mathlib.Core.Path.{◌≡◌, refl, sym, ap, subst, ◌∙◌}
-use mathlib.Core.Bool.{Bool, true, false, not, ◌&&◌}
+use mathlib.Core.Bool.{Bool, true, not}
 use mathlib.Core.List.{List}
 use Prim.Native.Nat.{ℕ, zero, suc, ◌+◌, ◌-◌, ◌*◌, ◌/◌, ◌%◌, ◌<◌, ◌≤◌}
 use native.Mathlib.Nat.{add-zero, add-suc}
-use native.Mathlib.Numerals.{add-one}
 use native.Mathlib.Omega.{arith}
-use borrow.Author.Tests.{le-ltb}
 use lib.ListN.{length, get_or, drop}
-use lib.Dec.{T, ltb}
+use lib.Dec.{T}
 use lib.Ieee.{Float, nan, binary64, add, sub, mul}
 use lib.Ieee.Fits.{and_l}
-use Rattle.base.specs.Refusal.{passed, refused, then_test, refuse_if}
+use Rattle.base.specs.Refusal.{passed, refused, refuse_if}
 use Rattle.base.proofs.BoolLaws.{T_true, true_T}
 use Rattle.floats.specs.Scalar.{is_finite, is_positive}
 use Rattle.curves.specs.Curve.{point_count, point_at, distance, length_to, total_length, all_finite, total_test, curve_test}

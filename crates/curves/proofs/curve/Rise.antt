@@ -1,10 +1,10 @@
 -- Where the whole length of a curve is finite, the lengths run rise: a distance is not below zero, and a sum rounded is not below what it was added
 -- to. Assumes nothing.
-use mathlib.Core.Path.{◌≡◌, refl, sym, ap, subst, ◌∙◌}
+use mathlib.Core.Path.{◌≡◌, sym, ap, subst, ◌∙◌}
 use mathlib.Core.Bool.{Bool, true, false, not, cond}
 use mathlib.Core.List.{List}
 use Prim.Native.Nat.{ℕ, zero, suc, ◌+◌, ◌-◌, ◌*◌, ◌<◌, ◌≤◌}
-use native.Mathlib.Nat.{le_trans, le_of_eq, le_of_suc-le-suc, add-zero, zero-add, add-suc, suc-add, mul-pos, mul_assoc, mul_right_comm, mul-le-mul_right, zero-mul}
+use native.Mathlib.Nat.{le_trans, le_of_eq, mul-pos, mul_assoc, mul_right_comm, mul-le-mul_right, zero-mul}
 use native.Mathlib.Numerals.{add-one}
 use native.Mathlib.Omega.{arith}
 use borrow.Author.Tests.{ltb-false, le-ltb}

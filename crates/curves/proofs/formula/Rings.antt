@@ -20,8 +20,8 @@ module _ {R : Type 0} {add mul : R → R → R} {zero one : R} {neg : R → R} (
     add_origin = add_zero;
     add_sub = λ a b. add_assoc a b (neg b) ∙ ap (add a) (inverse_right b) ∙ add_zero a;
     sub_add = λ a b. add_assoc a (neg b) b ∙ ap (add a) (inverse b) ∙ add_zero a;
-    scale_zero = r.is_semiring.is_non_unital_semiring.is_non_unital_non_assoc_semiring.zero_mul;
-    scale_one = r.is_semiring.one_mul;
+    scale_zero = r.is_semiring.is_non_unital_semiring.is_non_unital_non_assoc_semiring.zero-mul;
+    scale_one = r.is_semiring.one-mul;
     scale_add = r.is_semiring.is_non_unital_semiring.is_non_unital_non_assoc_semiring.left_distrib;
   }
     where
@@ -32,7 +32,7 @@ module _ {R : Type 0} {add mul : R → R → R} {zero one : R} {neg : R → R} (
       add_assoc = r.is_semiring.is_non_unital_semiring.is_non_unital_non_assoc_semiring.is_add_comm_monoid.is_add_monoid.is_add_semigroup.add_assoc
 
       add_zero : (a : R) → add a zero ≡ a
-      add_zero = r.is_semiring.is_non_unital_semiring.is_non_unital_non_assoc_semiring.is_add_comm_monoid.is_add_monoid.add_zero
+      add_zero = r.is_semiring.is_non_unital_semiring.is_non_unital_non_assoc_semiring.is_add_comm_monoid.is_add_monoid.add-zero
 
       inverse : (a : R) → add (neg a) a ≡ zero
       inverse = r.neg-add_cancel
