@@ -9,7 +9,7 @@ use base::refusal::Refusal;
 const MAX_POINTS: usize = 4_096;
 
 // Four corners, or four quarters of so many points each, or the refusal.
-#[derive(Drop)]
+#[derive(Clone, Copy)]
 pub(crate) enum LoopAnswer {
     Corners,
     Quarters(usize),

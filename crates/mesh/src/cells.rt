@@ -55,6 +55,7 @@ pub(crate) fn clear(k: usize, cells: &mut [u32])
 }
 
 // Whether a grid that was refused for this cause has zeroed its points.
+#[tactic(auto, unfolding(base::specs::Refusal::verdict_of))]
 pub(crate) fn zeroes(cause: Refusal) -> bool
     ensures { result ≡ zeroes (verdict_of cause) }
 {
