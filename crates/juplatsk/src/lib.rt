@@ -1,5 +1,7 @@
 // The public functions of the libraries below, for callers in C and Rust. include/juplatsk.h says what each is lent and leaves. A lent list
 // is a pointer and a length there. Each function returns the refusal's number, 0 if the call is accepted.
+#![tactic(auto)]
+
 mod answers;
 mod limit;
 mod version;

@@ -1,0 +1,6 @@
+-- `juplatsk_coons_curves` meets its contract. Assumes nothing.
+use Rattle.juplatsk.proofs.Laws.{grid_exported}
+use Rattle.juplatsk.proofs.juplatsk_coons_curves.Goals as goal
+
+pub returns : goal.returns
+returns c = grid_exported c.coons_curves-made.result c.store_grid.ensures c.coons_curves-made.ensures

@@ -1,0 +1,6 @@
+-- `juplatsk_mesh_tile_curves` meets its contract. Assumes nothing.
+use Rattle.juplatsk.proofs.Laws.{mesh_exported}
+use Rattle.juplatsk.proofs.juplatsk_mesh_tile_curves.Goals as goal
+
+pub returns : goal.returns
+returns c = mesh_exported c.mesh_tile_curves-made.result c.store_grid.ensures c.mesh_tile_curves-made.ensures
