@@ -1,8 +1,10 @@
 // Prints the bench table of the paper, cases A to G: case, refusal number (0 if none), counts in edge order (- if there are none).
+#![tactic(auto)]
+
 use counts::answer::SolveAnswer;
 use counts::search_limit::SearchLimit;
-use libc::STDOUT_FILENO;
 use regions::region::{RECORD_SIZE, SIDE_SIZE};
+use std::io;
 
 // A record starts with its bottom side; the others follow, then the next record.
 const BOTTOM: usize = 0;
@@ -37,59 +39,54 @@ fn two_edges(regions: &mut [u16], side: usize, first: u16, second: u16) {
     }
 }
 
-fn print(text: &[u8]) {
-    io::write_all(STDOUT_FILENO, text);
-}
-
-fn print_number(n: u32) {
-    io::print_decimal(STDOUT_FILENO, n as u64);
-}
-
 // A comma stands before every count but the first.
-fn print_count(index: usize, count: u32) {
+fn print_count(rt: &impl Print, index: usize, count: u32) -> io::Result<()> {
     if index > 0 {
-        print(b",");
+        print!(rt; ",")?;
     }
-    print_number(count);
+    print!(rt; "{count}")
 }
 
-fn print_counts(counts: &[u32]) {
-    if counts.len() == 0 {
-        print(b"-");
+fn print_counts(rt: &impl Print, counts: &[u32]) -> io::Result<()> {
+    if counts.is_empty() {
+        print!(rt; "-")?;
     }
-    let mut i = 0;
-    while i < counts.len() {
-        print_count(i, counts[i]);
-        i += 1;
+    for (i, count) in counts.iter().enumerate() {
+        print_count(rt, i, *count)?;
     }
+    Ok(())
 }
 
-fn print_answer(answer: SolveAnswer, counts: &[u32]) {
+fn print_answer(rt: &impl Print, answer: SolveAnswer, counts: &[u32]) -> io::Result<()> {
     match answer {
         SolveAnswer::Moves(_) => {
-            print(b"0 ");
-            print_counts(counts);
+            print!(rt; "0 ")?;
+            print_counts(rt, counts)
         }
         SolveAnswer::Refused(refusal) => {
             let verdict = base::verdict::verdict_of(refusal);
-            print_number(verdict.number);
-            print(b" -");
+            print!(rt; "{} -", verdict.number)
         }
     }
 }
 
 // The paper made its table with the limit 100,000, which every solve had then: so it is stated.
-fn print_case(name: &[u8], regions: &[u16], ideals: &[f64], counts: &mut [u32]) {
+fn print_case(
+    rt: &impl Print,
+    name: &str,
+    regions: &[u16],
+    ideals: &[f64],
+    counts: &mut [u32],
+) -> io::Result<()> {
     let limit = SearchLimit::Expansions(100_000);
     let answer = counts::solve_counts(regions, ideals, counts, limit);
-    print(name);
-    print(b" ");
-    print_answer(answer, counts);
-    print(b"\n");
+    print!(rt; "{name} ")?;
+    print_answer(rt, answer, counts)?;
+    println!(rt)
 }
 
 // Two regions that share edge 1.
-fn case_a() {
+fn case_a(rt: &impl Print) -> io::Result<()> {
     let mut regions = [0u16; 2 * RECORD_SIZE];
     one_edge(&mut regions, BOTTOM, 0);
     one_edge(&mut regions, RIGHT, 1);
@@ -100,71 +97,72 @@ fn case_a() {
     one_edge(&mut regions, NEXT + TOP, 6);
     one_edge(&mut regions, NEXT + LEFT, 1);
     print_case(
-        b"A",
+        rt,
+        "A",
         &regions,
         &[4.0, 2.0, 4.0, 2.0, 2.0, 2.0, 2.0],
         &mut [0; 7],
-    );
+    )
 }
 
 // Opposite ideals that differ.
-fn case_b() {
+fn case_b(rt: &impl Print) -> io::Result<()> {
     let mut regions = [0u16; RECORD_SIZE];
     one_edge(&mut regions, BOTTOM, 0);
     one_edge(&mut regions, RIGHT, 1);
     one_edge(&mut regions, TOP, 2);
     one_edge(&mut regions, LEFT, 3);
-    print_case(b"B", &regions, &[5.0, 3.0, 1.0, 3.0], &mut [0; 4]);
+    print_case(rt, "B", &regions, &[5.0, 3.0, 1.0, 3.0], &mut [0; 4])
 }
 
 // A side of two edges.
-fn case_c() {
+fn case_c(rt: &impl Print) -> io::Result<()> {
     let mut regions = [0u16; RECORD_SIZE];
     one_edge(&mut regions, BOTTOM, 0);
     one_edge(&mut regions, RIGHT, 1);
     two_edges(&mut regions, TOP, 2, 3);
     one_edge(&mut regions, LEFT, 4);
-    print_case(b"C", &regions, &[4.0, 1.0, 2.0, 2.0, 1.0], &mut [0; 5]);
+    print_case(rt, "C", &regions, &[4.0, 1.0, 2.0, 2.0, 1.0], &mut [0; 5])
 }
 
 // Nothing.
-fn case_d() {
-    print_case(b"D", &[], &[], &mut []);
+fn case_d(rt: &impl Print) -> io::Result<()> {
+    print_case(rt, "D", &[], &[], &mut [])
 }
 
 // A side that no other balances.
-fn case_e() {
+fn case_e(rt: &impl Print) -> io::Result<()> {
     let mut regions = [0u16; RECORD_SIZE];
     one_edge(&mut regions, BOTTOM, 0);
-    print_case(b"E", &regions, &[3.0], &mut [0; 1]);
+    print_case(rt, "E", &regions, &[3.0], &mut [0; 1])
 }
 
 // A loop of two regions.
-fn case_f() {
+fn case_f(rt: &impl Print) -> io::Result<()> {
     let mut regions = [0u16; 2 * RECORD_SIZE];
     one_edge(&mut regions, BOTTOM, 0);
     one_edge(&mut regions, TOP, 1);
     one_edge(&mut regions, NEXT + BOTTOM, 0);
     one_edge(&mut regions, NEXT + TOP, 1);
-    print_case(b"F", &regions, &[1.0, 1.0], &mut [0; 2]);
+    print_case(rt, "F", &regions, &[1.0, 1.0], &mut [0; 2])
 }
 
 // An edge on both sides of a constraint.
-fn case_g() {
+fn case_g(rt: &impl Print) -> io::Result<()> {
     let mut regions = [0u16; RECORD_SIZE];
     one_edge(&mut regions, BOTTOM, 0);
     one_edge(&mut regions, RIGHT, 1);
     one_edge(&mut regions, TOP, 0);
     one_edge(&mut regions, LEFT, 2);
-    print_case(b"G", &regions, &[1.0, 1.0, 1.0], &mut [0; 3]);
+    print_case(rt, "G", &regions, &[1.0, 1.0, 1.0], &mut [0; 3])
 }
 
-fn main() {
-    case_a();
-    case_b();
-    case_c();
-    case_d();
-    case_e();
-    case_f();
-    case_g();
+fn main(rt: HostRuntime) -> io::Result<()> {
+    case_a(&rt)?;
+    case_b(&rt)?;
+    case_c(&rt)?;
+    case_d(&rt)?;
+    case_e(&rt)?;
+    case_f(&rt)?;
+    case_g(&rt)
 }

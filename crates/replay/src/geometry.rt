@@ -28,7 +28,7 @@ const POINTS: usize = 6151;
 
 const CELLS: usize = 4097;
 
-#[derive(Drop)]
+#[derive(Clone, Copy)]
 struct RootResult {
     verdict: Verdict,
     value: f64,
@@ -69,7 +69,7 @@ pub(crate) fn root(case: &[u8]) -> bool {
     is_root(case, reading::past_float(INPUT), answer)
 }
 
-#[derive(Drop)]
+#[derive(Clone, Copy)]
 struct GridResult {
     verdict: Verdict,
     quads: u32,

@@ -72,6 +72,7 @@ fn bits(case: &[u8], at: usize) -> u64 {
 }
 
 // The f64 of a pattern. All NaNs are one.
+#[tactic(auto, using(std::proofs::lemmas::Float::not_nan_f64_bits))]
 fn float_of(pattern: u64) -> f64 {
     if pattern % SIGN > INFINITY {
         return 0.0 / 0.0;
@@ -131,11 +132,9 @@ pub(crate) fn places(case: &[u8], at: usize, out: &mut [u16]) -> usize
 {
     let n = least(list_length(case, at), out.len());
     let mut from = past_number(at);
-    let mut i = 0;
-    while i < n {
-        out[i] = place(case, from);
+    for slot in &mut out[..n] {
+        *slot = place(case, from);
         from = past(from, 2);
-        i += 1;
     }
     n
 }
@@ -145,11 +144,9 @@ pub(crate) fn numbers(case: &[u8], at: usize, out: &mut [u32]) -> usize
 {
     let n = least(list_length(case, at), out.len());
     let mut from = past_number(at);
-    let mut i = 0;
-    while i < n {
-        out[i] = number(case, from);
+    for slot in &mut out[..n] {
+        *slot = number(case, from);
         from = past_number(from);
-        i += 1;
     }
     n
 }
@@ -159,11 +156,9 @@ pub(crate) fn floats(case: &[u8], at: usize, out: &mut [f64]) -> usize
 {
     let n = least(list_length(case, at), out.len());
     let mut from = past_number(at);
-    let mut i = 0;
-    while i < n {
-        out[i] = float(case, from);
+    for slot in &mut out[..n] {
+        *slot = float(case, from);
         from = past_float(from);
-        i += 1;
     }
     n
 }
@@ -174,13 +169,11 @@ pub(crate) fn is_numbers(case: &[u8], at: usize, values: &[u32]) -> bool {
         return false;
     }
     let mut from = past_number(at);
-    let mut i = 0;
-    while i < values.len() {
-        if number(case, from) != values[i] {
+    for value in values {
+        if number(case, from) != *value {
             return false;
         }
         from = past_number(from);
-        i += 1;
     }
     true
 }
@@ -226,10 +219,8 @@ pub(crate) fn lend_floats(case: &[u8], at: usize, out: &mut [f64]) -> usize
     ensures { Counts result out.new }
 {
     let n = least(list_length(case, at), out.len());
-    let mut i = 0;
-    while i < n {
-        out[i] = lent_float(i);
-        i += 1;
+    for (i, slot) in out[..n].iter_mut().enumerate() {
+        *slot = lent_float(i);
     }
     n
 }
@@ -238,10 +229,8 @@ pub(crate) fn lend_numbers(case: &[u8], at: usize, out: &mut [u32]) -> usize
     ensures { Counts result out.new }
 {
     let n = least(list_length(case, at), out.len());
-    let mut i = 0;
-    while i < n {
-        out[i] = lent_number(i);
-        i += 1;
+    for (i, slot) in out[..n].iter_mut().enumerate() {
+        *slot = lent_number(i);
     }
     n
 }
@@ -273,14 +262,11 @@ pub(crate) fn is_written_floats(case: &[u8], lent_at: usize, at: usize, values: 
         return false;
     }
     let mut from = past_number(at);
-    let mut i = 0;
-    while i < values.len() {
-        let value = values[i];
-        if !is_left_float(case, from, written, i, value) {
+    for (i, value) in values.iter().enumerate() {
+        if !is_left_float(case, from, written, i, *value) {
             return false;
         }
         from = past_float(from);
-        i += 1;
     }
     true
 }
@@ -294,14 +280,11 @@ pub(crate) fn is_written_numbers(case: &[u8], lent_at: usize, at: usize, values:
         return false;
     }
     let mut from = past_number(at);
-    let mut i = 0;
-    while i < values.len() {
-        let value = values[i];
-        if !is_left_number(case, from, written, i, value) {
+    for (i, value) in values.iter().enumerate() {
+        if !is_left_number(case, from, written, i, *value) {
             return false;
         }
         from = past_number(from);
-        i += 1;
     }
     true
 }

@@ -24,7 +24,7 @@ fn past_limit(at: usize) -> usize {
     reading::past_number(reading::past_number(at))
 }
 
-#[derive(Drop)]
+#[derive(Clone, Copy)]
 struct SolveResult {
     verdict: Verdict,
     moves: u32,
@@ -129,7 +129,7 @@ pub(crate) fn solve_within(case: &[u8]) -> bool {
 }
 
 // A round's answer as the case has it: no cost is 0.
-#[derive(Drop)]
+#[derive(Clone, Copy)]
 struct RoundResult {
     verdict: Verdict,
     moved: bool,
@@ -258,13 +258,11 @@ fn past_round(case: &[u8], at: usize, mixed: bool) -> usize {
 fn rounds_from(case: &[u8], at: usize, mixed: bool, regions: &[u16], counts: &mut [u32]) -> bool {
     let steps = reading::number(case, at);
     let mut from = reading::past_number(at);
-    let mut k = 0;
-    while k < steps {
+    for _ in 0..steps {
         if !round(case, from, mixed, regions, counts) {
             return false;
         }
         from = past_round(case, from, mixed);
-        k += 1;
     }
     reading::is_end(case, from)
 }
@@ -279,7 +277,7 @@ pub(crate) fn rounds(case: &[u8], mixed: bool) -> bool {
     rounds_from(case, steps_at, mixed, &regions[..r], &mut counts[..n])
 }
 
-#[derive(Drop)]
+#[derive(Clone, Copy)]
 struct EnergyResult {
     verdict: Verdict,
     total: f64,
@@ -324,7 +322,7 @@ pub(crate) fn energy(case: &[u8]) -> bool {
     is_energy(case, reading::past_floats(case, ideals_at), answer)
 }
 
-#[derive(Drop)]
+#[derive(Clone, Copy)]
 struct HoldResult {
     verdict: Verdict,
     holds: bool,
