@@ -1,6 +1,6 @@
 /* The field gridder for C and C++ on x86-64 Linux: counts of edges, grids between curves, meshes, roots.
  *
- * Link the archive libjuplatsk.a, which `rt staticlib juplatsk` writes. What each function of it does is proved. docs/REFERENCE.md has the
+ * Link the archive libjuplatsk.a, which `rt lib` in crates/juplatsk writes. What each function of it does is proved. docs/REFERENCE.md has the
  * words, with drawings, and the table of refusals.
  *
  * Two layers

@@ -1,5 +1,5 @@
-//! Links the archive `libjuplatsk.a`: from the folder that JUPLATSK_LIB names, else as `rt staticlib juplatsk` makes it, which proves the
-//! library first and takes some minutes the first time.
+//! Links the archive `libjuplatsk.a`: from the folder that JUPLATSK_LIB names, else as `rt lib` makes it in the folder
+//! `crates/juplatsk`, which proves the library first and takes some minutes the first time.
 
 use std::path::{Path, PathBuf};
 use std::process::Command;
@@ -42,13 +42,14 @@ fn staticlib(repository: &Path) -> Result<PathBuf, String> {
     for part in ["crates", "crates.txt"] {
         println!("cargo:rerun-if-changed={}", repository.join(part).display());
     }
-    let run = Command::new("rt").args(["staticlib", "juplatsk"]).current_dir(repository).output();
-    let output = run.map_err(|e| format!("juplatsk: rt staticlib juplatsk: {e}\nor name the archive's folder in {FOLDER}"))?;
+    let folder = repository.join("crates/juplatsk");
+    let run = Command::new("rt").arg("lib").current_dir(&folder).output();
+    let output = run.map_err(|e| format!("juplatsk: rt lib: {e}\nor name the archive's folder in {FOLDER}"))?;
     if !output.status.success() {
         let said = String::from_utf8_lossy(&output.stdout) + String::from_utf8_lossy(&output.stderr);
-        return Err(format!("juplatsk: rt staticlib juplatsk does not end well:\n{said}"));
+        return Err(format!("juplatsk: rt lib does not end well:\n{said}"));
     }
-    Ok(repository.join("target/staticlib"))
+    Ok(folder.join("out"))
 }
 
 fn variable(name: &str) -> Result<String, String> {

@@ -1,6 +1,6 @@
 //! The field gridder: how many pieces each edge of each tile is cut into, and where the pegs of a tile stand.
 //!
-//! The answers are those of proved functions, which lie in the archive that `rt staticlib juplatsk` makes. What stands around them here is plain
+//! The answers are those of proved functions, which lie in the archive that `rt lib` in crates/juplatsk makes. What stands around them here is plain
 //! Rust, and tested: it lends lists, turns numbers, and puts refusals into words. [`BoundaryCurves::from_corners`],
 //! [`BoundaryCurves::from_loop`] and [`signed_area`] are plain Rust altogether. [`Refusal`] is the one error.
 //!
@@ -137,7 +137,7 @@
 //! # Linking
 //!
 //! The build script takes the archive `libjuplatsk.a` from the folder that the variable `JUPLATSK_LIB` names (a relative path starts at this
-//! package), or else calls `rt staticlib juplatsk` in the folder above this package, which needs the Rattle kit, and proves the library the first
+//! package), or else calls `rt lib` in crates/juplatsk, beside this package, which needs the Rattle kit, and proves the library the first
 //! time: some minutes. The archive is for x86-64 Linux. It has a version, which is held against the package's before each call of
 //! it ([`check_version`]).
 
