@@ -3,7 +3,7 @@
 
 use std::path::{Path, PathBuf};
 use std::process::Command;
-use std::{env, process};
+use std::{env, fs, process};
 
 /// Names the folder of the archive; a relative path starts at this package.
 const FOLDER: &str = "JUPLATSK_LIB";
@@ -39,8 +39,16 @@ fn link() -> Result<(), String> {
 
 /// Proves and makes the archive; the folder that it lies in.
 fn staticlib(repository: &Path) -> Result<PathBuf, String> {
-    for part in ["crates", "crates.txt"] {
-        println!("cargo:rerun-if-changed={}", repository.join(part).display());
+    println!("cargo:rerun-if-changed={}", repository.join("crates.txt").display());
+    // what is proved, and not the folders `out` beside it, in which `rt` keeps what it made
+    let crates = repository.join("crates");
+    for entry in fs::read_dir(&crates).map_err(|e| format!("{}: {e}", crates.display()))? {
+        let folder = entry.map_err(|e| format!("{}: {e}", crates.display()))?.path();
+        for part in ["src", "specs", "proofs"].map(|part| folder.join(part)) {
+            if part.is_dir() {
+                println!("cargo:rerun-if-changed={}", part.display());
+            }
+        }
     }
     let folder = repository.join("crates/juplatsk");
     let run = Command::new("rt").arg("lib").current_dir(&folder).output();

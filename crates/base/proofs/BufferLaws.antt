@@ -24,7 +24,7 @@ module _ {A : Type 0} where
   pub tabulate_more : (f : ℕ → A) (n : ℕ) → tabulate f 0 (n + 1) ≡ tabulate f 0 n ++ (f n ∷ [])
   tabulate_more f n = rw (add-one, tabulate_snoc, zero-add)
 
-  -- ---- concat-tabulate
+  -- ---- concat_tabulate
 
   concat_snoc : (f : ℕ → List A) (k n : ℕ) → concat_tabulate f k (suc n) ≡ concat_tabulate f k n ++ f (k + n)
   concat_snoc f k zero = rw (append-nil, add-zero)

@@ -1,5 +1,5 @@
 -- 01's answers: "a curve point or a move's cost stands in the good case", else a refusal with its number and two places. For each enum that a
--- function answers with, a definition `..-of` of its crate gives 01's number, places and values of each of its cases. Assumes nothing.
+-- function answers with, a definition `.._of` of its crate gives 01's number, places and values of each of its cases. Assumes nothing.
 use Rattle.base.specs.Refusal.{passed}
 use Rattle.base.specs.declared.verdict.Verdict.{Verdict}
 

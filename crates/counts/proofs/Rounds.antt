@@ -35,7 +35,7 @@ use Rattle.counts.proofs.Makes.{makes_move, move_differs}
 -- ---- what is found on accepted regions
 
 module _ (g : List Constraint) (counts : List ℕ) (ok : Accepted (length counts) g) where
-  -- what find-move finds: nothing, or a reading that costs less than -E
+  -- what find_move finds: nothing, or a reading that costs less than -E
   abbrev pub Finds : CostModel → ℕ → Found → Type 0
   Finds costs limit = Best g (costs counts) counts limit (λ i. (ok.constraint_ok i).sided) (λ i. (ok.constraint_ok i).inside)
 

@@ -107,18 +107,18 @@ all_balance_exchanged counts (x ∷ xs) (c ∷ g) = rw (balance_exchanged counts
 
 -- accepted or refused by two chains of tests: first `head`, which is the same in both, and then v or v'. Whatever relates answers to themselves relates
 -- the two answers, if v and v' pass alike, the accepted answers are then the same, and refusals by v' and by v are related.
-module _ {A B : Type 0} (accepted_as : A → B) (IsRefused_as : Verdict → B) (R : B → B → Type 0) (itself : (b : B) → R b b) where
+module _ {A B : Type 0} (accepted_as : A → B) (refused_as : Verdict → B) (R : B → B → Type 0) (itself : (b : B) → R b b) where
   abbrev answer : Verdict → A → B
-  answer v a = elim (is_passed v) [ true ↦ accepted_as a | false ↦ IsRefused_as v ]
+  answer v a = elim (is_passed v) [ true ↦ accepted_as a | false ↦ refused_as v ]
 
   related : (head v v' : Verdict) (a a' : A) → (is_passed head ≡ true → is_passed v' ≡ is_passed v) → (is_passed head ≡ true → is_passed v ≡ true → a' ≡ a)
-      → (is_passed head ≡ true → is_passed v ≡ false → R (IsRefused_as v') (IsRefused_as v)) → R (answer (then_test head v') a') (answer (then_test head v) a)
+      → (is_passed head ≡ true → is_passed v ≡ false → R (refused_as v') (refused_as v)) → R (answer (then_test head v') a') (answer (then_test head v) a)
   related head v v' a a' alike accepts refusals =
       by_truth (is_passed head)
       (λ h. rw (h, answer) (by_truth (is_passed v)
       (λ t. rw (alike h, t, answer) (rw (accepts h t) (itself (accepted_as a))))
       (λ t. rw (alike h, t, answer) (rw h (refusals h t)))))
-      (λ h. rw (h, h, answer) (rw h (itself (IsRefused_as head))))
+      (λ h. rw (h, h, answer) (rw h (itself (refused_as head))))
 
 -- ---- a sheet and its regions
 

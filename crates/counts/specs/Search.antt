@@ -73,7 +73,7 @@ others_changed c x path = select (λ (e : ℕ). differs x e && holds c e) path
 abbrev pub Go : Type 0
 Go = List Bool → List Change → ℕ → Bool → Float → Act
 
--- g and edge-cost are the round's, `allowed` says which changes make no count negative, (x0, s0) is the start
+-- g and edge_cost are the round's, `allowed` says which changes make no count negative, (x0, s0) is the start
 module _ (g : List Constraint) (edge_cost : EdgeCost) (allowed : ℕ → Bool → Bool) (limit : ℕ) (x0 : ℕ) (s0 : Bool) where
   -- `try_step` through constraint i, which is used already: the edge is not changed yet, none of its other constraints is used
   abbrev pub may_step : List Bool → List Change → ℕ → Change → Bool

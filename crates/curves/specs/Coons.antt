@@ -42,7 +42,7 @@ filled layout f n m out =
     if_passed (grid_test f n m) (record { verdict = passed; quads = m * n; out = splice out 0 (grid_values layout f n m) })
     (refusal (splice out 0 (zeros (needed layout n m))))
 
--- A mesh is lent a second output beside this one, for its indices. So what is named `..-beside` takes whether a second output is too short; the same
+-- A mesh is lent a second output beside this one, for its indices. So what is named `.._beside` takes whether a second output is too short; the same
 -- name without the word is for a call that is lent none.
 
 -- "seams (..), 22, 11": the tests between the curves' and the grid's

@@ -17,7 +17,7 @@ use Rattle.base.proofs.BoolLaws.{clash, or_split, or_left, or_right, eq→eqb}
 use Rattle.base.proofs.ListLaws.{in→member}
 use Rattle.counts.proofs.MoveLaws.{edges_in}
 
--- ---- apply-changes
+-- ---- apply_changes
 
 pub apply_length : (r : List Change) (counts : List ℕ) → length (apply_changes r counts) ≡ length counts
 apply_length [] counts = refl

@@ -236,17 +236,17 @@ module _ {regions : List ℕ} {model : CostModel} {limit : ℕ} {start counts : 
         → Progress regions model limit start after (moves + 1) costs' allowed' used' path' best' kept' cut' known'
     solve_goes_on t n h e b z =
         let l = (round_at regions model counts limit).best in
-        let Rest_from = solve_from (the_graph regions) model limit in
+        let rest_from = solve_from (the_graph regions) model limit in
         let a = move_made f e in
         let m = found_some f n in
         let k = s.allowed_moves in
         let q : suc (max_moves - (moves + 1)) ≡ max_moves - moves = omega arith in
         record {
           rest =
-              ap (λ (c : List ℕ). Rest_from (max_moves - (moves + 1)) (moves + 1) c) a
-              ∙ ap (λ (i : ℕ). Rest_from (max_moves - (moves + 1)) i (apply_changes l counts)) (add-one moves)
+              ap (λ (c : List ℕ). rest_from (max_moves - (moves + 1)) (moves + 1) c) a
+              ∙ ap (λ (i : ℕ). rest_from (max_moves - (moves + 1)) i (apply_changes l counts)) (add-one moves)
               ∙ goes_on regions model limit counts moves (max_moves - (moves + 1)) m.0 m.1 m.2
-              ∙ ap (λ (i : ℕ). Rest_from i moves counts) q
+              ∙ ap (λ (i : ℕ). rest_from i moves counts) q
               ∙ s.rest;
           allowed_moves = omega arith;
           bounded = λ x. subst (λ (c : List ℕ). get_or c x 0 ≤ moves + 1) (sym a) (more_bounded t x);

@@ -1,5 +1,5 @@
 -- How the tables are filled: the records that the contracts of src/graph.rt cite. Assumes nothing.
--- Constraint i is pair i % 2 of region i / 2, so that its two sides are first-side i and, two further on, the opposite one.
+-- Constraint i is pair i % 2 of region i / 2, so that its two sides are first_side i and, two further on, the opposite one.
 use Rattle.std.specs.Prelude.{◌≡◌, ◌&&◌, cond, List, ℕ, ◌+◌, ◌*◌, ◌/◌, ◌%◌, ◌≤◌, ◌<◌, length, get_or, replicate, T, eqb}
 use Rattle.base.specs.Lists.{member, Distinct}
 use Rattle.base.specs.declared.verdict.Verdict.{Verdict}

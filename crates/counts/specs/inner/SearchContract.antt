@@ -117,7 +117,7 @@ module _ (regions : List ℕ) (costs : List Float) (allowed : List Bool) (limit 
   visit_of k used path last t i = visit (the_graph regions) (cost_in costs) (allowed_in allowed) limit (start / 2) (eqb (start % 2) 1) (dfs_of k) used
       path (last / 2) (eqb (last % 2) 1) t i
 
-  -- try-step, but no step back to the last edge x
+  -- try_step, but no step back to the last edge x
   abbrev pub try_partner_of : ℕ → List Bool → List Change → ℕ → Float → ℕ → Change → Act
   try_partner_of k used path x t i z = cond (differs x z.0) (try_step_of k used path t i z) skip
 

@@ -1,5 +1,5 @@
--- The four facts about f64 that the search rests on, E being 1e-12: what is below something is no NaN (real-of-lt); what is below (b - E) is
--- below -E where b is (below_again); what is below -2E is below (b - E) where b is not below -E (far-below), and below -E (two-eps-below).
+-- The four facts about f64 that the search rests on, E being 1e-12: what is below something is no NaN (real_of_lt); what is below (b - E) is
+-- below -E where b is (below_again); what is below -2E is below (b - E) where b is not below -E (far_below), and below -E (two_eps_below).
 -- Assumes nothing.
 use mathlib.Core.Path.{◌≡◌, refl}
 use mathlib.Core.Bool.{Bool, true, false, not, ◌&&◌, ◌||◌, cond}
