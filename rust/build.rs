@@ -23,15 +23,18 @@ fn link() -> Result<(), String> {
     println!("cargo:rerun-if-env-changed={FOLDER}");
     println!("cargo:rerun-if-changed=build.rs");
     let package = PathBuf::from(variable("CARGO_MANIFEST_DIR")?);
-    let folder = match env::var(FOLDER) {
-        Ok(folder) => package.join(folder),
-        Err(_) => staticlib(&package.join(".."))?,
+    let (folder, named) = match env::var(FOLDER) {
+        Ok(folder) => (package.join(folder), true),
+        Err(_) => (staticlib(&package.join(".."))?, false),
     };
     let archive = folder.join("libjuplatsk.a");
     if !archive.is_file() {
         return Err(format!("juplatsk: there is no {}", archive.display()));
     }
-    println!("cargo:rerun-if-changed={}", archive.display());
+    // `rt lib` writes the archive anew each time: there the sources are watched in its place
+    if named {
+        println!("cargo:rerun-if-changed={}", archive.display());
+    }
     println!("cargo:rustc-link-search=native={}", folder.display());
     println!("cargo:rustc-link-lib=static=juplatsk");
     Ok(())
