@@ -5,7 +5,7 @@ use Prim.Native.Nat.{ℕ, zero, suc, ◌+◌, ◌-◌, ◌*◌, ◌<◌, ◌≤�
 use native.Mathlib.Nat.{add-zero, zero-add, add-suc, suc-add, add_assoc, add_comm, zero-mul, suc-mul, mul-suc, mul-zero, le_of_suc-le-suc, not-suc-le-zero}
 use native.Mathlib.Numerals.{add-one}
 use native.Mathlib.Omega.{arith}
-use lib.ListN.{length, get_or, set, take, drop, length-append, length-drop, take-append-drop, get_or-append}
+use lib.ListN.{length, get_or, set, take, drop, replicate, length-append, length-drop, take-append-drop, get_or-append}
 use lib.Seq.{drop-cons, set_at, append_snoc, set_split, length-take-le, take_at, drop_at, drop-drop, take-add, take-append_seam, drop-append_seam, get_or-append-add, get_or-drop}
 use Rattle.base.specs.Buffers.{tabulate, concat_tabulate, splice}
 
@@ -157,3 +157,15 @@ module _ {A : Type 0} where
   splice_past d vs k z h =
       let e : k ≡ length vs + (k - length vs) = omega arith in
       rw (e, get_or-append-add vs (drop (0 + length vs) d), get_or-drop, zero-add)
+
+  -- ---- std's `fill` of the start of a buffer
+
+  all_alike : (x : A) (k n : ℕ) → replicate n x ≡ tabulate (λ (i : ℕ). x) k n
+  all_alike x k zero = refl
+  all_alike x k (suc n) = ap (λ (l : List A). x ∷ l) (all_alike x (suc k) n)
+
+  pub filled : (x : A) (n : ℕ) (d xs : List A) → n ≤ length d → xs ≡ replicate (length (take n d)) x → xs ++ drop n d ≡ splice d 0 (tabulate (λ (i : ℕ). x) 0 n)
+  filled x n d xs h e =
+      let m : n ≡ 0 + length (tabulate (λ (i : ℕ). x) 0 n) = omega (arith, length_tabulate (λ (i : ℕ). x) 0 n) in
+      ap (λ (l : List A). l ++ drop n d) (e ∙ ap (λ (k : ℕ). replicate k x) (length-take-le n d h) ∙ all_alike x 0 n)
+      ∙ ap (λ (k : ℕ). tabulate (λ (i : ℕ). x) 0 n ++ drop k d) m

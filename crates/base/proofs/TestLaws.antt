@@ -6,10 +6,10 @@ use native.Mathlib.Omega.{arith}
 use lib.Dec.{T, T_not, eqb→eq}
 use Rattle.base.specs.declared.verdict.Verdict.{Verdict}
 use Rattle.base.specs.Refusal.{passed, refused, verdict_of, outcome, is_passed, then_test, refuse_if}
-use Rattle.base.specs.declared.refusal.Check.{Check}
-use Rattle.base.specs.declared.refusal.Check.TheVariants.{Passed, Refused}
 use Rattle.base.specs.declared.refusal.Refusal.{Refusal}
 use Rattle.base.specs.declared.refusal.Refusal.TheVariants as because
+use Rattle.std.specs.Prelude.{Result, IsErrAnd}
+use Rattle.std.proofs.lemmas.Result.{err_from_is_err_and}
 use Rattle.base.proofs.BoolLaws.{by_truth, not_T_false, true_T, T_true}
 use native.Mathlib.Nat.{add-zero, zero-add, add-suc, suc-add}
 use native.Mathlib.Numerals.{add-one}
@@ -70,29 +70,31 @@ refusal_number (because.BreaksMismatch s) = refl
 refusal_number because.RootUndefined = refl
 refusal_number (because.RangeReversed e) = refl
 
--- what a test that is passed says
-pub was_passed : {c : Check} {v : Verdict} → c ≡ Passed → outcome c ≡ v → is_passed v ≡ true
-unfolding outcome
-was_passed e o = rw (← o, e)
+-- What a test says in the arm where it is accepted, `passed ≡ v`, and in the arm where it refuses, `verdict_of r ≡ v`: these are what
+-- `outcome` computes to there.
 
--- what a test that refuses says
-pub was_refused : {c : Check} {r : Refusal} {v : Verdict} → c ≡ Refused r → outcome c ≡ v → (verdict_of r ≡ v) × (is_passed v ≡ false)
-unfolding outcome
-was_refused {c} {r} {v} e o =
-    let q : verdict_of r ≡ v = sym (ap outcome e) ∙ o in
-    (q, rw (← q) (refusal_number r))
+pub was_passed : {v : Verdict} → passed ≡ v → is_passed v ≡ true
+was_passed e = rw (← e)
+
+pub was_refused : (r : Refusal) {v : Verdict} → verdict_of r ≡ v → is_passed v ≡ false
+was_refused r e = rw (← e, refusal_number r)
 
 -- a test that refuses is the whole chain
-pub chain_ends : {c : Check} {r : Refusal} {v : Verdict} (w : Verdict) → c ≡ Refused r → outcome c ≡ v → outcome c ≡ then_test v w
-chain_ends w e o = rw (was_refused e o).1 o
-
--- the same, where the cause is handed on by itself
-pub chain_stops : {c : Check} {r : Refusal} {v : Verdict} (w : Verdict) → c ≡ Refused r → outcome c ≡ v → outcome (Refused r) ≡ then_test v w
-chain_stops w e o = rw (← e, chain_ends w e o)
+pub chain_stops : (r : Refusal) {v : Verdict} (w : Verdict) → verdict_of r ≡ v → verdict_of r ≡ then_test v w
+chain_stops r w e = rw (was_refused r e, e)
 
 -- a test that is passed leaves the rest of the chain
-pub chain_goes_on : {c : Check} {v w : Verdict} → c ≡ Passed → outcome c ≡ v → w ≡ then_test v w
-chain_goes_on e o = rw (was_passed e o)
+pub chain_goes_on : {v w : Verdict} → passed ≡ v → w ≡ then_test v w
+chain_goes_on e = rw (was_passed e)
+
+-- What the exit of a `?` answers: the error that came.
+pub exit_is : {A : Type 0} (o : Result A Refusal) (r : Refusal) → IsErrAnd o (λ (e : Refusal). e ≡ r) → outcome o ≡ verdict_of r
+exit_is o r h = let p = err_from_is_err_and o h in rw (p.1, p.2)
+
+-- the same where more tests were to come
+pub exit_stops : {A : Type 0} (o : Result A Refusal) (r : Refusal) {v : Verdict} (w : Verdict) → IsErrAnd o (λ (e : Refusal). e ≡ r)
+    → verdict_of r ≡ v → outcome o ≡ then_test v w
+exit_stops o r w h e = exit_is o r h ∙ chain_stops r w e
 
 -- two tests in a row, each known
 pub in_a_row : {u v w x : Verdict} → u ≡ w → v ≡ x → then_test u v ≡ then_test w x
@@ -107,27 +109,8 @@ then_passed u v h = let t = true_T _ h in (T_true _ (then_left u v t), T_true _ 
 
 -- ---- refusals, and several tests put together
 
-pub refused_not_passed : (r : Refusal) → T (is_passed (outcome (Refused r))) → ⊥
-unfolding outcome
-refused_not_passed r t = subst T (refusal_number r) t
-
-pub refusal_not_passed : (r : Refusal) (v : Verdict) → outcome (Refused r) ≡ v → T (is_passed v) → ⊥
-refusal_not_passed r v e t = refused_not_passed r (rw e t)
-
--- both tests are those of the definition
-pub in_turn : (u v w a b : Verdict) → u ≡ then_test v w → v ≡ a → w ≡ b → u ≡ then_test a b
-in_turn u v w a b e f g = rw (e, f, g)
-
--- four tests, put together from the last one on, as code does that makes them all
-pub in_four : (f f1 f2 c0 c1 c2 c3 : Check) (v0 v1 v2 v3 : Verdict) → outcome f2 ≡ then_test (outcome c2) (outcome c3)
-    → outcome f1 ≡ then_test (outcome c1) (outcome f2) → outcome f ≡ then_test (outcome c0) (outcome f1)
-    → outcome c0 ≡ v0 → outcome c1 ≡ v1 → outcome c2 ≡ v2 → outcome c3 ≡ v3 → outcome f ≡ then_test v0 (then_test v1 (then_test v2 v3))
-in_four f f1 f2 c0 c1 c2 c3 v0 v1 v2 v3 e2 e1 e0 t0 t1 t2 t3 =
-    in_turn _ (outcome c0) (outcome f1) _ _ e0 t0 (in_turn _ (outcome c1) (outcome f2) _ _ e1 t1 (in_turn _ (outcome c2) (outcome c3) _ _ e2 t2 t3))
-
-pub told_passed : (c : Check) → c ≡ Passed → T (is_passed (outcome c))
-unfolding outcome
-told_passed c e = rw e tt
+pub refusal_not_passed : (r : Refusal) (v : Verdict) → verdict_of r ≡ v → T (is_passed v) → ⊥
+refusal_not_passed r v e t = subst T (was_refused r e) t
 
 -- where a chain passes, both its tests do
 pub both_passed : (u v w : Verdict) → u ≡ then_test v w → T (is_passed u) → T (is_passed v) × T (is_passed w)
@@ -144,17 +127,11 @@ four_passed a b c d t =
 -- ---- what follows tests
 
 module _ {A : Type 0} (x : A) (refusal : Verdict → A) where
-  pub follows : (c : Check) (v : Verdict) → c ≡ Passed → outcome c ≡ v → x ≡ if_passed v x refusal
-  follows c v e o = rw (was_passed e o, if_passed)
+  pub follows : (v : Verdict) → passed ≡ v → x ≡ if_passed v x refusal
+  follows v e = rw (was_passed e, if_passed)
 
-  pub refuses : (c : Check) (cause : Refusal) (v : Verdict) → c ≡ Refused cause → outcome c ≡ v → refusal (verdict_of cause) ≡ if_passed v x refusal
-  refuses c cause v e o = let q = was_refused e o in rw (q.0, q.1, if_passed)
-
--- the outcome of a test, with no test after it
-nothing_after : (c : Check) → then_test (outcome c) passed ≡ outcome c
-unfolding outcome
-nothing_after Passed = refl
-nothing_after (Refused r) = rw refusal_number
+  pub refuses : (cause : Refusal) (v : Verdict) → verdict_of cause ≡ v → refusal (verdict_of cause) ≡ if_passed v x refusal
+  refuses cause v e = rw (was_refused cause e, if_passed, e)
 
 -- ---- tests by an index, turn by turn
 
@@ -168,11 +145,11 @@ module _ (f : ℕ → Verdict) where
       let e : n - i ≡ suc (n - (i + 1)) = omega arith in
       rw (e, ← (add-one i))
 
-  pub first_next : (i n : ℕ) (c : Check) → i < n → c ≡ Passed → outcome c ≡ f i → first_of f i (n - i) ≡ first_of f (i + 1) (n - (i + 1))
-  first_next i n c h e o = turn i n h ∙ sym (chain_goes_on e o)
+  pub first_next : (i n : ℕ) → i < n → passed ≡ f i → first_of f i (n - i) ≡ first_of f (i + 1) (n - (i + 1))
+  first_next i n h e = turn i n h ∙ sym (chain_goes_on e)
 
-  pub first_stops : (i n : ℕ) (c : Check) (r : Refusal) → i < n → c ≡ Refused r → outcome c ≡ f i → outcome (Refused r) ≡ first_of f i (n - i)
-  first_stops i n c r h e o = chain_stops _ e o ∙ sym (turn i n h)
+  pub first_stops : (i n : ℕ) (r : Refusal) → i < n → verdict_of r ≡ f i → verdict_of r ≡ first_of f i (n - i)
+  first_stops i n r h e = chain_stops r _ e ∙ sym (turn i n h)
 
   pub first_done : (i n : ℕ) → n ≤ i → passed ≡ first_of f i (n - i)
   unfolding first_of
@@ -184,10 +161,6 @@ module _ (f : ℕ → Verdict) where
   unfolding first_of
   first_snoc k zero = rw add-zero
   first_snoc k (suc n) = rw (first_snoc (suc k) n, suc-add, ← add-suc, ← then_test_assoc)
-
-  pub first_more : (n : ℕ) (kept c next : Check) → outcome kept ≡ first_of f 0 n → outcome c ≡ f n
-      → outcome next ≡ then_test (outcome kept) (outcome c) → outcome next ≡ first_of f 0 (n + 1)
-  first_more n kept c next o e w = rw (add-one, first_snoc, zero-add, ← e, nothing_after, w, o)
 
   -- tests that pass, and one more
   pub first_passes : (n : ℕ) → first_of f 0 n ≡ passed → f n ≡ passed → first_of f 0 (n + 1) ≡ passed

@@ -8,7 +8,9 @@ use native.Mathlib.Numerals.{add-one}
 use lib.ListN.{length, get_or, drop, drop_of_length-le}
 use lib.Dec.{eqb}
 use lib.Seq.{drop-cons}
+use Rattle.std.specs.List.{list_any}
 use Rattle.base.specs.Lists.{member, any, all}
+use Rattle.base.proofs.BoolLaws.{eqb_comm}
 
 module _ {A : Type 0} (xs : List A) (d : A) (i : ℕ) where
   pub drop_at : i < length xs → drop i xs ≡ get_or xs i d ∷ drop (i + 1) xs
@@ -36,3 +38,12 @@ module _ {A : Type 0} (xs : List A) (d : A) (i : ℕ) where
 pub member_any : (x : ℕ) (l : List ℕ) → member x l ≡ any (eqb x) l
 member_any x [] = refl
 member_any x (y ∷ l) = rw (member_any x l)
+
+-- std's words for the same tests
+pub list_any_is : {A : Type 0} (p : A → Bool) (l : List A) → list_any p l ≡ any p l
+list_any_is p [] = refl
+list_any_is p (x ∷ l) = rw (list_any_is p l)
+
+pub contains_is : (x : ℕ) (l : List ℕ) → list_any (λ (y : ℕ). eqb y x) l ≡ member x l
+contains_is x [] = refl
+contains_is x (y ∷ l) = rw (contains_is x l, eqb_comm y x)

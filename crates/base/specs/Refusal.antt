@@ -1,6 +1,6 @@
 -- 01's table "Turned-away input": the number and the two places that each refusal returns, and tests made one after the other.
 -- Assumes nothing.
-use Rattle.std.specs.Prelude.{Bool, cond, ℕ, eqb}
+use Rattle.std.specs.Prelude.{Bool, cond, ℕ, eqb, Result, Ok, Err}
 use Rattle.base.specs.declared.refusal.Refusal.{Refusal}
 use Rattle.base.specs.declared.refusal.Refusal.TheVariants.{
   Malformed,
@@ -34,8 +34,6 @@ use Rattle.base.specs.declared.refusal.Refusal.TheVariants.{
   RangeReversed,
 }
 use Rattle.base.specs.declared.verdict.Verdict.{Verdict}
-use Rattle.base.specs.declared.refusal.Check.{Check}
-use Rattle.base.specs.declared.refusal.Check.TheVariants.{Passed, Refused}
 
 -- "A refusal returns its number and two places, 0 where none is named." Number 0 stands for no refusal.
 abbrev pub passed : Verdict
@@ -76,11 +74,10 @@ verdict_of (BreaksMismatch side) = refused 27 side 0
 verdict_of RootUndefined = refused 28 0 0
 verdict_of (RangeReversed edge) = refused 35 edge 0
 
--- the outcome of one test
-unfoldable pub outcome : Check → Verdict
-unfolding verdict_of
-outcome Passed = passed
-outcome (Refused r) = verdict_of r
+-- the outcome of one test, or of a call that gives a value where it is accepted
+abbrev pub outcome : {A : Type 0} → Result A Refusal → Verdict
+outcome (Ok _) = passed
+outcome (Err r) = verdict_of r
 
 abbrev pub is_passed : Verdict → Bool
 is_passed v = eqb v.number 0

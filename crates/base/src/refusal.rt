@@ -1,9 +1,6 @@
 // The causes for which input is turned away, one variant for each row of the table of refusals (docs/REFERENCE.md). specs/Refusal.antt gives
 // each its number and its two places. Every crate above refuses by this one enum.
 
-ghost use Rattle.std.specs.Prelude.{◌≡◌};
-ghost use Rattle.base.specs.Refusal.{outcome, then_test};
-
 #[derive(Clone, Copy)]
 pub enum Refusal {
     Malformed,
@@ -35,24 +32,4 @@ pub enum Refusal {
     BreaksMismatch(u32),
     RootUndefined,
     RangeReversed(u32),
-}
-
-// The outcome of one test.
-#[derive(Clone, Copy)]
-pub enum Check {
-    Passed,
-    Refused(Refusal),
-}
-
-impl Check {
-    // The first refusal of two tests in a row.
-    #[tactic(auto, unfolding(crate::specs::Refusal::outcome))]
-    pub fn and(self, next: Check) -> Check
-        ensures { outcome result ≡ then_test (outcome self) (outcome next) }
-    {
-        if let Check::Refused(_) = self {
-            return self;
-        }
-        next
-    }
 }

@@ -1,11 +1,11 @@
 // The paper's number and two places of each refusal, for the programs that print, store or compare them. specs/Refusal.antt has the table.
 ghost use Rattle.std.specs.Prelude.{◌≡◌};
-ghost use Rattle.base.specs.Refusal.{passed, refused, verdict_of};
+ghost use Rattle.base.specs.Refusal.{passed, refused as refused_by, verdict_of};
 
 use crate::refusal::Refusal;
 
 // Number 0 stands for no refusal.
-#[derive(Clone, Copy)]
+#[derive(Clone, Copy, PartialEq)]
 pub struct Verdict {
     pub number: u32,
     pub first: u32,
@@ -23,28 +23,8 @@ pub fn accepted() -> Verdict
     }
 }
 
-fn alone(number: u32) -> Verdict
-    ensures { result ≡ refused number 0 0 }
-{
-    Verdict {
-        number,
-        first: 0,
-        second: 0,
-    }
-}
-
-fn with_place(number: u32, first: u32) -> Verdict
-    ensures { result ≡ refused number first 0 }
-{
-    Verdict {
-        number,
-        first,
-        second: 0,
-    }
-}
-
-fn with_places(number: u32, first: u32, second: u32) -> Verdict
-    ensures { result ≡ refused number first second }
+fn refused(number: u32, first: u32, second: u32) -> Verdict
+    ensures { result ≡ refused_by number first second }
 {
     Verdict {
         number,
@@ -53,39 +33,41 @@ fn with_places(number: u32, first: u32, second: u32) -> Verdict
     }
 }
 
-#[tactic(auto, unfolding(crate::specs::Refusal::verdict_of))]
-pub fn verdict_of(refusal: Refusal) -> Verdict
-    ensures { result ≡ verdict_of refusal }
-{
-    match refusal {
-        Refusal::Malformed => alone(1),
-        Refusal::BadIdeal(edge) => with_place(2, edge),
-        Refusal::EdgeOutOfRange(region, side) => with_places(3, region, side),
-        Refusal::EdgeRepeated(region, side) => with_places(4, region, side),
-        Refusal::EdgeOnBothSides(region, side) => with_places(5, region, side),
-        Refusal::EdgeOverused(edge) => with_place(6, edge),
-        Refusal::TooManyMoves => alone(7),
-        Refusal::LengthsDiffer => alone(8),
-        Refusal::CountTooLarge(edge) => with_place(9, edge),
-        Refusal::LimitTooLarge => alone(10),
-        Refusal::OutputTooShort => alone(11),
-        Refusal::BadLoop => alone(12),
-        Refusal::CurveTooShort(curve) => with_place(13, curve),
-        Refusal::PointNotFinite(curve) => with_place(14, curve),
-        Refusal::BadCurveLength(curve) => with_place(15, curve),
-        Refusal::CurvesApart(corner) => with_place(16, corner),
-        Refusal::CornersClockwise => alone(17),
-        Refusal::SeamTooShort(seam) => with_place(18, seam),
-        Refusal::SeamOutOfRange(seam, index) => with_places(19, seam, index),
-        Refusal::SeamFalling(seam, index) => with_places(20, seam, index),
-        Refusal::SeamEnds(seam) => with_place(21, seam),
-        Refusal::SeamsUnequal(pair) => with_place(22, pair),
-        Refusal::LinesParallel(i, j) => with_places(23, i, j),
-        Refusal::CrossingOutside(i, j) => with_places(24, i, j),
-        Refusal::BadQuadArea(i, j) => with_places(25, i, j),
-        Refusal::NoCells => alone(26),
-        Refusal::BreaksMismatch(side) => with_place(27, side),
-        Refusal::RootUndefined => alone(28),
-        Refusal::RangeReversed(edge) => with_place(35, edge),
+impl From<Refusal> for Verdict {
+    ghost from_gives = { λ refusal verdict. verdict ≡ verdict_of refusal };
+
+    #[tactic(auto, unfolding(crate::specs::Refusal::verdict_of))]
+    fn from(refusal: Refusal) -> Verdict {
+        match refusal {
+            Refusal::Malformed => refused(1, 0, 0),
+            Refusal::BadIdeal(edge) => refused(2, edge, 0),
+            Refusal::EdgeOutOfRange(region, side) => refused(3, region, side),
+            Refusal::EdgeRepeated(region, side) => refused(4, region, side),
+            Refusal::EdgeOnBothSides(region, side) => refused(5, region, side),
+            Refusal::EdgeOverused(edge) => refused(6, edge, 0),
+            Refusal::TooManyMoves => refused(7, 0, 0),
+            Refusal::LengthsDiffer => refused(8, 0, 0),
+            Refusal::CountTooLarge(edge) => refused(9, edge, 0),
+            Refusal::LimitTooLarge => refused(10, 0, 0),
+            Refusal::OutputTooShort => refused(11, 0, 0),
+            Refusal::BadLoop => refused(12, 0, 0),
+            Refusal::CurveTooShort(curve) => refused(13, curve, 0),
+            Refusal::PointNotFinite(curve) => refused(14, curve, 0),
+            Refusal::BadCurveLength(curve) => refused(15, curve, 0),
+            Refusal::CurvesApart(corner) => refused(16, corner, 0),
+            Refusal::CornersClockwise => refused(17, 0, 0),
+            Refusal::SeamTooShort(seam) => refused(18, seam, 0),
+            Refusal::SeamOutOfRange(seam, index) => refused(19, seam, index),
+            Refusal::SeamFalling(seam, index) => refused(20, seam, index),
+            Refusal::SeamEnds(seam) => refused(21, seam, 0),
+            Refusal::SeamsUnequal(pair) => refused(22, pair, 0),
+            Refusal::LinesParallel(i, j) => refused(23, i, j),
+            Refusal::CrossingOutside(i, j) => refused(24, i, j),
+            Refusal::BadQuadArea(i, j) => refused(25, i, j),
+            Refusal::NoCells => refused(26, 0, 0),
+            Refusal::BreaksMismatch(side) => refused(27, side, 0),
+            Refusal::RootUndefined => refused(28, 0, 0),
+            Refusal::RangeReversed(edge) => refused(35, edge, 0),
+        }
     }
 }

@@ -1,168 +1,111 @@
 // Prints the bench table of the paper, cases A to G: case, refusal number (0 if none), counts in edge order (- if there are none).
 #![tactic(auto)]
 
-use counts::answer::SolveAnswer;
-use counts::search_limit::SearchLimit;
+use base::refusal::Refusal;
+use base::verdict::Verdict;
 use regions::region::{RECORD_SIZE, SIDE_SIZE};
-use std::io;
+use std::{fmt, io};
 
-// A record starts with its bottom side; the others follow, then the next record.
-const BOTTOM: usize = 0;
+type Record = [u16; RECORD_SIZE];
 
-const RIGHT: usize = SIDE_SIZE;
+// The record of a region with these edges on its sides: bottom, right, top, left.
+fn record(sides: [&[u16]; 4]) -> Record {
+    let mut record = [0; RECORD_SIZE];
+    for (side, edges) in record.chunks_exact_mut(SIDE_SIZE).zip(sides) {
+        put_side(side, edges);
+    }
+    record
+}
 
-const TOP: usize = 2 * SIDE_SIZE;
-
-const LEFT: usize = 3 * SIDE_SIZE;
-
-const NEXT: usize = RECORD_SIZE;
-
-fn put(regions: &mut [u16], at: usize, value: u16) {
-    if at < regions.len() {
-        regions[at] = value;
+// How many edges there are, then these.
+fn put_side(side: &mut [u16], edges: &[u16]) {
+    let Some((number, places)) = side.split_first_mut() else {
+        return;
+    };
+    for (place, edge) in places.iter_mut().zip(edges) {
+        *place = *edge;
+        *number = number.saturating_add(1);
     }
 }
 
-// The side that starts at `side` has this one edge.
-fn one_edge(regions: &mut [u16], side: usize, edge: u16) {
-    if side < 1000 {
-        put(regions, side, 1);
-        put(regions, side + 1, edge);
+// A row of the table.
+#[derive(Clone, Copy)]
+struct Row<'a> {
+    name: &'a str,
+    answer: Result<u32, Refusal>,
+    counts: &'a [u32],
+}
+
+impl<'a> fmt::Display for Row<'a> {
+    fn fmt<W: fmt::Write>(&self, f: &mut fmt::Formatter<W>) -> fmt::Result {
+        match self.answer {
+            Ok(_) => {
+                write!(f, "{} 0 ", self.name)?;
+                write_counts(f, self.counts)
+            }
+            Err(refusal) => write!(f, "{} {} -", self.name, Verdict::from(refusal).number),
+        }
     }
 }
 
-fn two_edges(regions: &mut [u16], side: usize, first: u16, second: u16) {
-    if side < 1000 {
-        put(regions, side, 2);
-        put(regions, side + 1, first);
-        put(regions, side + 2, second);
-    }
-}
-
-// A comma stands before every count but the first.
-fn print_count(rt: &impl Print, index: usize, count: u32) -> io::Result<()> {
-    if index > 0 {
-        print!(rt; ",")?;
-    }
-    print!(rt; "{count}")
-}
-
-fn print_counts(rt: &impl Print, counts: &[u32]) -> io::Result<()> {
-    if counts.is_empty() {
-        print!(rt; "-")?;
-    }
-    for (i, count) in counts.iter().enumerate() {
-        print_count(rt, i, *count)?;
+fn write_counts<W: fmt::Write>(f: &mut fmt::Formatter<W>, counts: &[u32]) -> fmt::Result {
+    let Some((first, others)) = counts.split_first() else {
+        return write!(f, "-");
+    };
+    write!(f, "{first}")?;
+    for count in others {
+        write!(f, ",{count}")?;
     }
     Ok(())
-}
-
-fn print_answer(rt: &impl Print, answer: SolveAnswer, counts: &[u32]) -> io::Result<()> {
-    match answer {
-        SolveAnswer::Moves(_) => {
-            print!(rt; "0 ")?;
-            print_counts(rt, counts)
-        }
-        SolveAnswer::Refused(refusal) => {
-            let verdict = base::verdict::verdict_of(refusal);
-            print!(rt; "{} -", verdict.number)
-        }
-    }
 }
 
 // The paper made its table with the limit 100,000, which every solve had then: so it is stated.
 fn print_case(
     rt: &impl Print,
     name: &str,
-    regions: &[u16],
+    records: &[Record],
     ideals: &[f64],
     counts: &mut [u32],
 ) -> io::Result<()> {
-    let limit = SearchLimit::Expansions(100_000);
-    let answer = counts::solve_counts(regions, ideals, counts, limit);
-    print!(rt; "{name} ")?;
-    print_answer(rt, answer, counts)?;
-    println!(rt)
-}
-
-// Two regions that share edge 1.
-fn case_a(rt: &impl Print) -> io::Result<()> {
-    let mut regions = [0u16; 2 * RECORD_SIZE];
-    one_edge(&mut regions, BOTTOM, 0);
-    one_edge(&mut regions, RIGHT, 1);
-    one_edge(&mut regions, TOP, 2);
-    one_edge(&mut regions, LEFT, 3);
-    one_edge(&mut regions, NEXT + BOTTOM, 4);
-    one_edge(&mut regions, NEXT + RIGHT, 5);
-    one_edge(&mut regions, NEXT + TOP, 6);
-    one_edge(&mut regions, NEXT + LEFT, 1);
-    print_case(
-        rt,
-        "A",
-        &regions,
-        &[4.0, 2.0, 4.0, 2.0, 2.0, 2.0, 2.0],
-        &mut [0; 7],
-    )
-}
-
-// Opposite ideals that differ.
-fn case_b(rt: &impl Print) -> io::Result<()> {
-    let mut regions = [0u16; RECORD_SIZE];
-    one_edge(&mut regions, BOTTOM, 0);
-    one_edge(&mut regions, RIGHT, 1);
-    one_edge(&mut regions, TOP, 2);
-    one_edge(&mut regions, LEFT, 3);
-    print_case(rt, "B", &regions, &[5.0, 3.0, 1.0, 3.0], &mut [0; 4])
-}
-
-// A side of two edges.
-fn case_c(rt: &impl Print) -> io::Result<()> {
-    let mut regions = [0u16; RECORD_SIZE];
-    one_edge(&mut regions, BOTTOM, 0);
-    one_edge(&mut regions, RIGHT, 1);
-    two_edges(&mut regions, TOP, 2, 3);
-    one_edge(&mut regions, LEFT, 4);
-    print_case(rt, "C", &regions, &[4.0, 1.0, 2.0, 2.0, 1.0], &mut [0; 5])
-}
-
-// Nothing.
-fn case_d(rt: &impl Print) -> io::Result<()> {
-    print_case(rt, "D", &[], &[], &mut [])
-}
-
-// A side that no other balances.
-fn case_e(rt: &impl Print) -> io::Result<()> {
-    let mut regions = [0u16; RECORD_SIZE];
-    one_edge(&mut regions, BOTTOM, 0);
-    print_case(rt, "E", &regions, &[3.0], &mut [0; 1])
-}
-
-// A loop of two regions.
-fn case_f(rt: &impl Print) -> io::Result<()> {
-    let mut regions = [0u16; 2 * RECORD_SIZE];
-    one_edge(&mut regions, BOTTOM, 0);
-    one_edge(&mut regions, TOP, 1);
-    one_edge(&mut regions, NEXT + BOTTOM, 0);
-    one_edge(&mut regions, NEXT + TOP, 1);
-    print_case(rt, "F", &regions, &[1.0, 1.0], &mut [0; 2])
-}
-
-// An edge on both sides of a constraint.
-fn case_g(rt: &impl Print) -> io::Result<()> {
-    let mut regions = [0u16; RECORD_SIZE];
-    one_edge(&mut regions, BOTTOM, 0);
-    one_edge(&mut regions, RIGHT, 1);
-    one_edge(&mut regions, TOP, 0);
-    one_edge(&mut regions, LEFT, 2);
-    print_case(rt, "G", &regions, &[1.0, 1.0, 1.0], &mut [0; 3])
+    let regions = records.as_flattened();
+    let answer = counts::solve_counts(regions, ideals, counts, Some(100_000));
+    let row = Row {
+        name,
+        answer,
+        counts,
+    };
+    println!(rt; "{row}")
 }
 
 fn main(rt: HostRuntime) -> io::Result<()> {
-    case_a(&rt)?;
-    case_b(&rt)?;
-    case_c(&rt)?;
-    case_d(&rt)?;
-    case_e(&rt)?;
-    case_f(&rt)?;
-    case_g(&rt)
+    let rt = &rt;
+    // two regions that share edge 1
+    let shared = [
+        record([&[0], &[1], &[2], &[3]]),
+        record([&[4], &[5], &[6], &[1]]),
+    ];
+    print_case(
+        rt,
+        "A",
+        &shared,
+        &[4.0, 2.0, 4.0, 2.0, 2.0, 2.0, 2.0],
+        &mut [0; 7],
+    )?;
+    // opposite ideals that differ
+    let one = [record([&[0], &[1], &[2], &[3]])];
+    print_case(rt, "B", &one, &[5.0, 3.0, 1.0, 3.0], &mut [0; 4])?;
+    // a side of two edges
+    let two_edges = [record([&[0], &[1], &[2, 3], &[4]])];
+    print_case(rt, "C", &two_edges, &[4.0, 1.0, 2.0, 2.0, 1.0], &mut [0; 5])?;
+    // nothing
+    print_case(rt, "D", &[], &[], &mut [])?;
+    // a side that no other balances
+    let alone = [record([&[0], &[], &[], &[]])];
+    print_case(rt, "E", &alone, &[3.0], &mut [0])?;
+    // a loop of two regions
+    let twice = record([&[0], &[], &[1], &[]]);
+    print_case(rt, "F", &[twice, twice], &[1.0, 1.0], &mut [0; 2])?;
+    // an edge on both sides of a constraint
+    let both_sides = [record([&[0], &[1], &[0], &[2]])];
+    print_case(rt, "G", &both_sides, &[1.0, 1.0, 1.0], &mut [0; 3])
 }

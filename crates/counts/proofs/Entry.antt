@@ -8,8 +8,9 @@ use native.Mathlib.Omega.{arith}
 use lib.ListN.{length, get_or, take, drop, replicate, length-take, length-replicate}
 use lib.Dec.{T, eqb, leb→le}
 use lib.Ieee.{Float}
+use Rattle.std.specs.Prelude.{Result, Ok, Err, Some, None}
 use Rattle.base.specs.declared.verdict.Verdict.{Verdict}
-use Rattle.base.specs.Refusal.{passed, refused, is_passed, then_test, outcome, verdict_of}
+use Rattle.base.specs.Refusal.{passed, refused, is_passed, then_test, verdict_of}
 use Rattle.regions.specs.Region.{Constraint, places, region_count, graph}
 use Rattle.counts.specs.Cost.{CostModel, Spacing, by_ranges, within, costs_of, edges_of}
 use Rattle.counts.specs.Round.{find_move, Solved, solve_from, solve_zeros, max_moves}
@@ -21,17 +22,11 @@ use Rattle.counts.specs.inner.Checks.{round_head, solve_head}
 use Rattle.counts.specs.inner.Tables.{Tables, the_graph, no_constraint, edge_slots}
 use Rattle.counts.specs.inner.Graph.{Built, MayBuild}
 use Rattle.counts.specs.inner.RoundContract.{SolveInput, RoundInput, MovesInput, solved_of}
-use Rattle.counts.specs.declared.answer.RoundAnswer.{RoundAnswer}
-use Rattle.counts.specs.declared.answer.RoundAnswer.TheVariants as round_answer
-use Rattle.counts.specs.declared.answer.SolveAnswer.{SolveAnswer}
-use Rattle.counts.specs.declared.answer.SolveAnswer.TheVariants as solve_answer
-use Rattle.base.specs.declared.refusal.Check.{Check}
-use Rattle.base.specs.declared.refusal.Check.TheVariants.{Passed, Refused}
+use Rattle.counts.specs.declared.answer.RoundOutcome.{RoundOutcome}
 use Rattle.base.specs.declared.refusal.Refusal.{Refusal}
 use Rattle.base.specs.declared.refusal.Refusal.TheVariants.{TooManyMoves}
-use Rattle.counts.specs.declared.solve.MovesMade.{MovesMade}
 use Rattle.base.proofs.BoolLaws.{true_T}
-use Rattle.base.proofs.TestLaws.{then_both, was_refused, was_passed}
+use Rattle.base.proofs.TestLaws.{then_both, was_refused, was_passed, chain_stops}
 use Rattle.counts.proofs.Solving.{getD_zeros}
 use Rattle.regions.proofs.accept.Laws.{limits_passed}
 use Rattle.counts.proofs.SolverLaws.{round_test_chain, solve_test_chain, same_lengths, RoundPassed, round_passed, SolvePassed, solve_passed}
@@ -39,12 +34,9 @@ use Rattle.counts.proofs.SolverLaws.{round_test_chain, solve_test_chain, same_le
 -- ---- a chain that ends with test 6
 
 -- the head refused
-head_refused : {c : Check} {r : Refusal} {head : Verdict} (six : Verdict) → c ≡ Refused r → outcome c ≡ head
+head_refused : (r : Refusal) {head : Verdict} (six : Verdict) → verdict_of r ≡ head
     → (verdict_of r ≡ then_test head six) × (is_passed (then_test head six) ≡ false)
-head_refused {c} {r} {head} six e o =
-    let q = was_refused e o in
-    let h : then_test head six ≡ head = ap (λ (b : Bool). cond b six head) q.1 in
-    (q.0 ∙ sym h, ap is_passed h ∙ q.1)
+head_refused r six e = let q = chain_stops r six e in (q, was_refused r q)
 
 -- the head passed, and so it is test 6
 head_passed : (head six : Verdict) → is_passed head ≡ true → then_test head six ≡ six
@@ -82,10 +74,8 @@ regions_pass regions n h s = then_both (pairs regions n) (six regions n) (true_T
     (true_T (is_passed (six regions n)) s)
 
 -- the tables, once test 6 has passed
-built_tables : {d : Check} {n : ℕ} {regions incident own : List ℕ} → Built n regions incident own (outcome d) → d ≡ Passed
-    → Tables regions incident own
-unfolding outcome
-built_tables b e = b.tables (subst (λ (x : Check). T (is_passed (outcome x))) (sym e) tt)
+built_tables : {n : ℕ} {regions incident own : List ℕ} → Built n regions incident own passed → Tables regions incident own
+built_tables b = b.tables tt
 
 -- ---- a round
 
@@ -109,15 +99,14 @@ module _ (regions : List ℕ) (spacing : Spacing) (counts : List ℕ) (limit : �
   round_opens = refl
 
   turned_away : (r : Refusal) → verdict_of r ≡ all_tests → is_passed all_tests ≡ false
-      → round_of (round_answer.Refused r) counts ≡ round regions spacing counts limit
+      → round_of (Err r) counts ≡ round regions spacing counts limit
   unfolding round_of by_verdict
   turned_away r q f = ap (λ (v : Verdict). round_refused v counts) q ∙ ap (by_verdict all_tests) (sym f) ∙ sym round_opens
 
-pub round_refused_early : (regions : List ℕ) (spacing : Spacing) (counts : List ℕ) {limit stated : ℕ} {c : Check} {r : Refusal} → limit ≡ stated
-    → c ≡ Refused r → outcome c ≡ round_head places regions spacing counts limit
-    → round_of (round_answer.Refused r) counts ≡ round regions spacing counts stated
-round_refused_early regions spacing counts {limit} {r = r} s e o =
-    let q = head_refused (six regions (edges_of spacing)) e o in
+pub round_refused_early : (regions : List ℕ) (spacing : Spacing) (counts : List ℕ) {limit stated : ℕ} (r : Refusal) → limit ≡ stated
+    → verdict_of r ≡ round_head places regions spacing counts limit → round_of (Err r) counts ≡ round regions spacing counts stated
+round_refused_early regions spacing counts {limit} r s e =
+    let q = head_refused r (six regions (edges_of spacing)) e in
     let k = round_test_chain places regions spacing counts limit in
     turned_away regions spacing counts limit r (q.0 ∙ sym k) (ap is_passed k ∙ q.1) ∙ ap (round regions spacing counts) s
 
@@ -127,20 +116,18 @@ module _ {regions : List ℕ} {spacing : Spacing} {counts : List ℕ} {limit sta
       round_test_chain places regions spacing counts limit
       ∙ head_passed (round_head places regions spacing counts limit) (six regions (edges_of spacing)) t.passes
 
-  pub round_refused_late : {d : Check} {r : Refusal} → d ≡ Refused r → outcome d ≡ six regions (edges_of spacing)
-      → round_of (round_answer.Refused r) counts ≡ round regions spacing counts stated
-  round_refused_late {r = r} f p =
-      let q = was_refused f p in
-      turned_away regions spacing counts limit r (q.0 ∙ sym six_decides) (ap is_passed six_decides ∙ q.1)
+  pub round_refused_late : (r : Refusal) → verdict_of r ≡ six regions (edges_of spacing) → round_of (Err r) counts ≡ round regions spacing counts stated
+  round_refused_late r p =
+      turned_away regions spacing counts limit r (p ∙ sym six_decides) (ap is_passed six_decides ∙ was_refused r p)
       ∙ ap (round regions spacing counts) t.limit_is
 
-  pub round_done : {d : Check} (r : RoundAnswer) (after : List ℕ) → d ≡ Passed → outcome d ≡ six regions (edges_of spacing)
-      → round_of r after ≡ round_by (find_move (graph places regions) (costs_of spacing) counts limit) counts
-      → round_of r after ≡ round regions spacing counts stated
+  pub round_done : (r : RoundOutcome) (after : List ℕ) → passed ≡ six regions (edges_of spacing)
+      → round_of (Ok r) after ≡ round_by (find_move (graph places regions) (costs_of spacing) counts limit) counts
+      → round_of (Ok r) after ≡ round regions spacing counts stated
   unfolding by_verdict
-  round_done r after f p a =
+  round_done r after p a =
       a
-      ∙ ap (by_verdict regions spacing counts limit (all_tests regions spacing counts limit)) (sym (ap is_passed six_decides ∙ was_passed f p))
+      ∙ ap (by_verdict regions spacing counts limit (all_tests regions spacing counts limit)) (sym (ap is_passed six_decides ∙ was_passed p))
       ∙ sym (round_opens regions spacing counts limit)
       ∙ ap (round regions spacing counts) t.limit_is
 
@@ -155,22 +142,22 @@ module _ {regions : List ℕ} {spacing : Spacing} {counts : List ℕ} {limit sta
       record { limits_pass = true_T _ h.limits; pairs_pass = true_T _ h.last_ok; incident_empty = i; own_size = s }
 
 -- the input of the inner round
-pub round_ready : {regions : List ℕ} {least most : List Float} {counts : List ℕ} {limit stated : ℕ} {incident own : List ℕ} {d : Check}
-    → RoundEarly regions (within least most) counts limit stated → d ≡ Passed → Built (length least) regions incident own (outcome d)
+pub round_ready : {regions : List ℕ} {least most : List Float} {counts : List ℕ} {limit stated : ℕ} {incident own : List ℕ}
+    → RoundEarly regions (within least most) counts limit stated → Built (length least) regions incident own passed
     → RoundInput regions incident own least most counts
-round_ready {regions} {least} {most} {counts} t f b =
+round_ready {regions} {least} {most} {counts} t b =
     let h = early_says t in
     let m = h.values.as_many in
     let few = (limits_passed places (length least) regions h.limits).0 in
     record {
       input =
           record {
-            tables = built_tables b f;
+            tables = built_tables b;
             few = omega arith;
             least_long = sym m;
             most_long = sym (same_lengths (length least) (length most) h.values.lists) ∙ sym m;
             regions_pass = subst (λ (n : ℕ). T (is_passed (regions_test places n regions))) (sym m)
-                (regions_pass regions (length least) h.last_ok (was_passed f b.verdict_is));
+                (regions_pass regions (length least) h.last_ok (was_passed b.verdict_is));
           };
       small = counts_small counts h.values.counts_ok;
     }
@@ -196,21 +183,20 @@ module _ (regions : List ℕ) (spacing : Spacing) (lent : List ℕ) (limit : ℕ
   unfolding solve solve_with by_test
   solve_opens = refl
 
-  turned : (r : Refusal) → verdict_of r ≡ test → is_passed test ≡ false → solve_of (solve_answer.Refused r) lent ≡ solve regions spacing lent limit
+  turned : (r : Refusal) → verdict_of r ≡ test → is_passed test ≡ false → solve_of (Err r) lent ≡ solve regions spacing lent limit
   unfolding solve_of by_test
   turned r q f = ap (λ (v : Verdict). solve_refused v lent) q ∙ ap (by_test test part) (sym f) ∙ sym solve_opens
 
-  rest_of : (r : SolveAnswer) (after : List ℕ)
+  rest_of : (r : Result ℕ Refusal) (after : List ℕ)
       → solve_of r (after ++ drop (edges_of spacing) lent) ≡ with_rest (edges_of spacing) (solve_of r after) lent
   unfolding solve_of
-  rest_of (solve_answer.Moves m) after = refl
-  rest_of (solve_answer.Refused r) after = refl
+  rest_of (Ok m) after = refl
+  rest_of (Err r) after = refl
 
-pub solve_refused_early : (regions : List ℕ) (spacing : Spacing) (lent : List ℕ) {limit stated : ℕ} {c : Check} {r : Refusal} → limit ≡ stated
-    → c ≡ Refused r → outcome c ≡ solve_head places regions spacing (length lent) limit
-    → solve_of (solve_answer.Refused r) lent ≡ solve regions spacing lent stated
-solve_refused_early regions spacing lent {limit} {r = r} s e o =
-    let q = head_refused (six regions (edges_of spacing)) e o in
+pub solve_refused_early : (regions : List ℕ) (spacing : Spacing) (lent : List ℕ) {limit stated : ℕ} (r : Refusal) → limit ≡ stated
+    → verdict_of r ≡ solve_head places regions spacing (length lent) limit → solve_of (Err r) lent ≡ solve regions spacing lent stated
+solve_refused_early regions spacing lent {limit} r s e =
+    let q = head_refused r (six regions (edges_of spacing)) e in
     let k = solve_test_chain places regions spacing (length lent) limit in
     turned regions spacing lent limit r (q.0 ∙ sym k) (ap is_passed k ∙ q.1) ∙ ap (solve regions spacing lent) s
 
@@ -220,20 +206,18 @@ module _ {regions : List ℕ} {spacing : Spacing} {lent : List ℕ} {limit state
       solve_test_chain places regions spacing (length lent) limit
       ∙ head_passed (solve_head places regions spacing (length lent) limit) (six regions (edges_of spacing)) t.passes
 
-  pub solve_refused_late : {d : Check} {r : Refusal} → d ≡ Refused r → outcome d ≡ six regions (edges_of spacing)
-      → solve_of (solve_answer.Refused r) lent ≡ solve regions spacing lent stated
-  solve_refused_late {r = r} f p =
-      let q = was_refused f p in
-      turned regions spacing lent limit r (q.0 ∙ sym last_decides) (ap is_passed last_decides ∙ q.1) ∙ ap (solve regions spacing lent) t.limit_is
+  pub solve_refused_late : (r : Refusal) → verdict_of r ≡ six regions (edges_of spacing) → solve_of (Err r) lent ≡ solve regions spacing lent stated
+  solve_refused_late r p =
+      turned regions spacing lent limit r (p ∙ sym last_decides) (ap is_passed last_decides ∙ was_refused r p) ∙ ap (solve regions spacing lent) t.limit_is
 
-  pub solve_done : {d : Check} (r : SolveAnswer) (after : List ℕ) {whole : List ℕ} → d ≡ Passed → outcome d ≡ six regions (edges_of spacing)
+  pub solve_done : (r : Result ℕ Refusal) (after : List ℕ) {whole : List ℕ} → passed ≡ six regions (edges_of spacing)
       → solve_of r after ≡ part regions spacing lent limit → whole ≡ after ++ drop (edges_of spacing) lent
       → solve_of r whole ≡ solve regions spacing lent stated
   unfolding by_test
-  solve_done r after f p a w =
+  solve_done r after p a w =
       ap (solve_of r) w ∙ rest_of regions spacing lent limit r after ∙ ap (λ (s : Solve). with_rest (edges_of spacing) s lent) a
       ∙ ap (by_test regions spacing lent limit (test regions spacing lent limit) (part regions spacing lent limit))
-      (sym (ap is_passed last_decides ∙ was_passed f p))
+      (sym (ap is_passed last_decides ∙ was_passed p))
       ∙ sym (solve_opens regions spacing lent limit)
       ∙ ap (solve regions spacing lent) t.limit_is
 
@@ -251,20 +235,20 @@ module _ {regions : List ℕ} {spacing : Spacing} {lent : List ℕ} {limit state
   solve_room = tested.enough
 
 -- the input of the inner solve: the part of the lent counts that it writes, and both lists of ranges
-pub solve_ready : {regions : List ℕ} {least most : List Float} {lent : List ℕ} {limit stated : ℕ} {incident own : List ℕ} {d : Check}
-    → SolveEarly regions (within least most) lent limit stated → d ≡ Passed → Built (length least) regions incident own (outcome d)
+pub solve_ready : {regions : List ℕ} {least most : List Float} {lent : List ℕ} {limit stated : ℕ} {incident own : List ℕ}
+    → SolveEarly regions (within least most) lent limit stated → Built (length least) regions incident own passed
     → SolveInput regions incident own least most (take (length least) lent)
-solve_ready {regions} {least} {most} {lent} t f b =
+solve_ready {regions} {least} {most} {lent} t b =
     let h = tested t in
     let few = (limits_passed places (length least) regions h.limits).0 in
     let m : length least ≡ length (take (length least) lent) = (let l = length-take (length least) lent in let r = h.enough in omega arith) in
     record {
-      tables = built_tables b f;
+      tables = built_tables b;
       few = omega arith;
       least_long = m;
       most_long = sym (same_lengths (length least) (length most) h.lists) ∙ m;
       regions_pass = subst (λ (n : ℕ). T (is_passed (regions_test places n regions))) m
-          (regions_pass regions (length least) h.last_ok (was_passed f b.verdict_is));
+          (regions_pass regions (length least) h.last_ok (was_passed b.verdict_is));
     }
 
 -- ---- the needed part of a solve
@@ -295,36 +279,31 @@ module _ {regions incident own : List ℕ} {least most : List Float} {counts zer
         zeros = cleared ∙ ap (λ (k : ℕ). replicate k 0) (sym e);
       }
 
-  module _ (limit : ℕ) (r : MovesMade) where
+  module _ (limit : ℕ) where
     abbrev whole : Solved
     whole = solve_zeros (the_graph regions) (by_ranges least most) limit (length least)
 
     -- the moves from the cleared counts are those from zeros, one for each range
-    from_zeros : {after : List ℕ} → solved_of r after ≡ solve_from (the_graph regions) (by_ranges least most) limit max_moves 0 zeros
-        → solved_of r after ≡ whole
+    from_zeros : {s : Solved} → s ≡ solve_from (the_graph regions) (by_ranges least most) limit max_moves 0 zeros → s ≡ whole
     from_zeros e =
         e
         ∙ ap (solve_from (the_graph regions) (by_ranges least most) limit max_moves 0)
         (cleared ∙ ap (λ (k : ℕ). replicate k 0) (sym input.least_long))
         ∙ sym (zeros_open (the_graph regions) (by_ranges least most) limit (length least))
 
-    -- by whether a move was found too many
-    by_more : List ℕ → Bool → Solve
-    by_more after b =
-        cond b (record { verdict = refused 7 0 0; moves = 0; counts = replicate (length least) 0 })
-        (record { verdict = passed; moves = r.moves; counts = after })
+    pub part_done : {moves : ℕ} {after : List ℕ}
+        → solved_of (Some moves) after ≡ solve_from (the_graph regions) (by_ranges least most) limit max_moves 0 zeros
+        → solve_of (Ok moves) after ≡ solve_part (length least) whole
+    unfolding solve_of
+    part_done e = ap (solve_part (length least)) (from_zeros e)
 
-    pub part_done : {after : List ℕ} → solved_of r after ≡ solve_from (the_graph regions) (by_ranges least most) limit max_moves 0 zeros
-        → r.more ≡ false → solve_of (solve_answer.Moves r.moves) after ≡ solve_part (length least) whole
-    unfolding solve_of by_more
-    part_done {after} e f = ap (by_more after) (sym f) ∙ ap (solve_part (length least)) (from_zeros e)
-
-    pub part_stopped : {after again : List ℕ} → solved_of r after ≡ solve_from (the_graph regions) (by_ranges least most) limit max_moves 0 zeros
-        → r.more ≡ true → again ≡ replicate (length after) 0 → length after ≡ length counts
-        → solve_of (solve_answer.Refused TooManyMoves) again ≡ solve_part (length least) whole
-    unfolding solve_of verdict_of by_more
-    part_stopped {after} e f a l =
+    -- a move too many
+    pub part_stopped : {after again : List ℕ}
+        → solved_of None after ≡ solve_from (the_graph regions) (by_ranges least most) limit max_moves 0 zeros
+        → again ≡ replicate (length after) 0 → length after ≡ length counts
+        → solve_of (Err TooManyMoves) again ≡ solve_part (length least) whole
+    unfolding solve_of verdict_of
+    part_stopped e a l =
         ap (λ (c : List ℕ). record { verdict = refused 7 0 0; moves = 0; counts = c })
         (a ∙ ap (λ (k : ℕ). replicate k 0) (l ∙ sym input.least_long))
-        ∙ ap (by_more after) (sym f)
         ∙ ap (solve_part (length least)) (from_zeros e)

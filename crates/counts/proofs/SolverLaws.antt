@@ -1,31 +1,27 @@
 -- Laws of the public functions: their chains of tests, and what each answers by the outcome of its tests. Assumes nothing.
-use mathlib.Core.Path.{◌≡◌}
-use mathlib.Core.Bool.{Bool, true, false, not, ◌&&◌, and-true, and_assoc}
+use mathlib.Core.Path.{◌≡◌, ap, ◌∙◌}
+use mathlib.Core.Bool.{Bool, true, not, ◌&&◌, and-true, and_assoc}
 use mathlib.Core.List.{List, []}
-use Prim.Native.Nat.{ℕ, suc, ◌+◌, ◌-◌, ◌*◌, ◌≤◌, ◌<◌}
+use Prim.Native.Nat.{ℕ, ◌+◌, ◌-◌, ◌≤◌, ◌<◌}
 use native.Mathlib.Omega.{arith}
 use borrow.Author.Tests.{eqb-true, ltb-false, not-false}
-use lib.ListN.{length, get_or, drop, length-take}
+use lib.ListN.{length}
 use lib.Dec.{ltb, eqb}
-use lib.Ieee.{Float, binary64, of_bits}
+use lib.Ieee.{Float}
+use Rattle.std.specs.Prelude.{Result, Err, IsErrAnd}
+use Rattle.std.proofs.lemmas.Result.{err_from_is_err_and}
 use Rattle.base.specs.Lists.{all}
-use Rattle.regions.specs.Region.{Constraint, places, from_region, side, constraints, graph, side_sum, side_size}
+use Rattle.regions.specs.Region.{Constraint, places, from_region, constraints, graph}
 use Rattle.base.specs.declared.verdict.Verdict.{Verdict}
-use Rattle.base.specs.Refusal.{passed, refused, outcome, is_passed, then_test, refuse_if}
-use Rattle.counts.specs.Cost.{Spacing, by, within, edges_of, energy_from}
+use Rattle.base.specs.Refusal.{passed, refused, is_passed, then_test, refuse_if}
+use Rattle.counts.specs.Cost.{Spacing, by, within, edges_of}
 use Rattle.regions.specs.Accept.{limits_test, overused_test, regions_test}
 use Rattle.counts.specs.Values.{counts_test, limit_test, spacing_limits, lengths_test, spacing_lengths, spacing_test, values_test}
-use Rattle.counts.specs.Solver.{round_order, round_test, solve_order, solve_test, energy_of, energy_test, energy, hold_of, side_in_range, constraint_holds, constraints_hold}
-use Rattle.counts.specs.inner.Checks.{round_head, solve_head, sum_of_side}
-use Rattle.counts.specs.declared.answer.EnergyAnswer.TheVariants as energy_answer
-use Rattle.counts.specs.declared.answer.HoldAnswer.TheVariants as hold_answer
-use Rattle.counts.specs.declared.constraint.SideSum.TheVariants as side_total
-use Rattle.base.specs.declared.refusal.Check.{Check}
-use Rattle.base.specs.declared.refusal.Check.TheVariants.{Passed, Refused}
+use Rattle.counts.specs.Solver.{round_order, round_test, solve_order, solve_test, energy_test}
+use Rattle.counts.specs.inner.Checks.{round_head, solve_head}
 use Rattle.base.specs.declared.refusal.Refusal.{Refusal}
 use Rattle.regions.proofs.accept.Laws.{count_down, next_record}
-use Rattle.base.proofs.BoolLaws.{by_truth}
-use Rattle.base.proofs.TestLaws.{was_refused, was_passed, then_passed, then_test_assoc, lets_by}
+use Rattle.base.proofs.TestLaws.{was_passed, then_passed, then_test_assoc, lets_by}
 
 -- ---- round and solve: the code makes 6 on its tables, after the rest
 module _ (p : ℕ) (regions : List ℕ) (spacing : Spacing) where
@@ -42,21 +38,6 @@ module _ (p : ℕ) (regions : List ℕ) (spacing : Spacing) where
   pub solve_test_chain : (room limit : ℕ) → solve_test p regions spacing room limit ≡ then_test (solve_head p regions spacing room limit) six
   unfolding solve_test solve_head solve_order regions_test
   solve_test_chain room limit = simp then_test_assoc
-
--- the code puts the first tests together, and then goes on
-pub round_limits_first : (p : ℕ) (regions : List ℕ) (spacing : Spacing) (counts : List ℕ) (limit : ℕ) (last : Verdict)
-    → then_test (then_test (then_test (spacing_limits p spacing regions) (limits_test p (length counts) regions)) (limit_test limit))
-    (then_test (values_test counts spacing) last)
-    ≡ round_order p regions spacing counts limit last
-unfolding round_order
-round_limits_first p regions spacing counts limit last = simp then_test_assoc
-
-pub solve_limits_first : (p : ℕ) (regions : List ℕ) (spacing : Spacing) (room limit : ℕ) (last : Verdict)
-    → then_test (then_test (spacing_limits p spacing regions) (limit_test limit))
-    (then_test (spacing_lengths spacing) (then_test (refuse_if (ltb room (edges_of spacing)) (refused 11 0 0)) (then_test (spacing_test spacing) last)))
-    ≡ solve_order p regions spacing room limit last
-unfolding solve_order
-solve_limits_first p regions spacing room limit last = then_test_assoc (spacing_limits p spacing regions) (limit_test limit) _
 
 -- the tests before those of the regions read the records by 1 alone
 module _ (p : ℕ) (regions regions' : List ℕ) (limits : (n : ℕ) → limits_test p n regions ≡ limits_test p n regions') where
@@ -160,60 +141,19 @@ solve_passed p regions spacing room limit last h =
       last_ok = h5.1;
     }
 
--- ---- energy
+-- ---- the outcome of tests
+
+-- what the exit of a `?` answers: the error that came
+pub exit_err : {A : Type 0} (o : Result A Refusal) (r : Refusal) → IsErrAnd o (λ (e : Refusal). e ≡ r) → o ≡ Err r
+exit_err o r h = let p = err_from_is_err_and o h in p.1 ∙ ap Err p.2
+
 module _ (counts : List ℕ) (ideals : List Float) where
-  pub energy_refused : {c : Check} {r : Refusal} → c ≡ Refused r → outcome c ≡ energy_test counts ideals → energy_of (energy_answer.Refused r) ≡ energy counts ideals
-  unfolding energy energy_of
-  energy_refused e o = let q = was_refused e o in rw (q.0, q.1, energy)
-
-  pub energy_total : {c : Check} (t : Float) → c ≡ Passed → outcome c ≡ energy_test counts ideals → t ≡ energy_from (of_bits binary64 0) counts ideals
-      → energy_of (energy_answer.Total t) ≡ energy counts ideals
-  unfolding energy energy_of
-  energy_total t e o h = rw (h, was_passed e o, energy)
-
-  pub energy_lengths : {c : Check} → c ≡ Passed → outcome c ≡ energy_test counts ideals → length counts ≡ length ideals
+  pub energy_lengths : passed ≡ energy_test counts ideals → length counts ≡ length ideals
   unfolding energy_test
-  energy_lengths e o =
+  energy_lengths e =
       let v = values_test counts (by ideals) in
-      let h = (then_passed (limits_test places (length ideals) []) (then_test (limits_test places (length counts) []) v) (was_passed e o)).1 in
+      let h = (then_passed (limits_test places (length ideals) []) (then_test (limits_test places (length counts) []) v) (was_passed e)).1 in
       (values_passed counts (by ideals) (then_passed (limits_test places (length counts) []) v h).1).as_many
-
--- ---- constraints_hold
-module _ (regions counts : List ℕ) where
-  pub hold_refused : {c : Check} {r : Refusal} → c ≡ Refused r → outcome c ≡ limits_test places (length counts) regions
-      → hold_of (hold_answer.Refused r) ≡ constraints_hold regions counts
-  unfolding hold_of constraints_hold
-  hold_refused e o = let q = was_refused e o in rw (q.0, q.1)
-
-  pub hold_answered : {c : Check} (b : Bool) → c ≡ Passed → outcome c ≡ limits_test places (length counts) regions
-      → b ≡ all (constraint_holds counts) (graph places regions)
-      → hold_of (hold_answer.Holds b) ≡ constraints_hold regions counts
-  unfolding hold_of constraints_hold
-  hold_answered b e o h = rw (h, was_passed e o)
-
--- one constraint, by what its sides add up to
-module _ (counts side : List ℕ) where
-  sum_out : sum_of_side counts side ≡ side_total.OutOfRange → side_in_range counts side ≡ false
-  sum_out e = by_truth (side_in_range counts side) (λ t. let u = rw t at e in cc) (λ t. t)
-
-  sum_in : (t : ℕ) → sum_of_side counts side ≡ side_total.Total t → (side_in_range counts side ≡ true) × (side_sum counts side ≡ t)
-  sum_in t e = by_truth (side_in_range counts side) (λ q. let u = rw q at e in (q, cc)) (λ q. let u = rw q at e in (cc, cc))
-
-module _ (counts a b : List ℕ) where
-  pub first_out : sum_of_side counts a ≡ side_total.OutOfRange → false ≡ constraint_holds counts (record { a = a; b = b })
-  first_out e = rw (sum_out counts a e)
-
-  pub second_out : {t : ℕ} → sum_of_side counts a ≡ side_total.Total t → sum_of_side counts b ≡ side_total.OutOfRange
-      → false ≡ constraint_holds counts (record { a = a; b = b })
-  second_out {t} e f = rw ((sum_in counts a t e).0, sum_out counts b f)
-
-  pub both_in : {t u : ℕ} → sum_of_side counts a ≡ side_total.Total t → sum_of_side counts b ≡ side_total.Total u
-      → eqb t u ≡ constraint_holds counts (record { a = a; b = b })
-  both_in {t} {u} e f = let p = sum_in counts a t e in let q = sum_in counts b u f in rw (p.0, q.0, p.1, q.1)
-
--- a side has no more edges than its number says
-pub side_short : (p : ℕ) (l : List ℕ) (k : ℕ) → get_or l (k * side_size p) 0 ≤ p → length (side p l k) ≤ p
-side_short p l k h = let e = length-take (get_or l (k * side_size p) 0) (drop (suc (k * side_size p)) l) in omega arith
 
 -- one region more
 pub hold_turn : (p : ℕ) (f : Constraint → Bool) (m r : ℕ) (l : List ℕ) → r < m

@@ -1,14 +1,13 @@
 -- Solve's counts are balanced: zeros are, and each move keeps the difference of opposite sides. Assumes nothing.
 use mathlib.Core.Logic.{inl, inr}
-use mathlib.Core.Path.{◌≡◌, refl, sym, ap, ◌∙◌}
+use mathlib.Core.Path.{◌≡◌, refl, sym, ◌∙◌}
 use mathlib.Core.Bool.{true, false}
 use mathlib.Core.List.{List, [], ◌∷◌, ◌++◌}
-use Prim.Native.Nat.{ℕ, zero, suc, ◌+◌, ◌*◌, ◌<◌}
-use native.Mathlib.Decide.{ℕ_discrete}
+use Prim.Native.Nat.{ℕ, zero, suc, ◌*◌, ◌<◌}
 use native.Mathlib.Omega.{arith}
-use lib.ListN.{length, get_or, set, drop, replicate, length-replicate, get_or-append}
-use lib.Seq.{get_or-set_same, get_or-set_other}
+use lib.ListN.{length, get_or, drop, replicate, length-replicate, get_or-append}
 use lib.Dec.{T, ltb→lt}
+use Rattle.std.specs.Prelude.{Option}
 use Rattle.base.specs.Lists.{In}
 use Rattle.base.specs.declared.verdict.Verdict.{Verdict}
 use Rattle.base.specs.Refusal.{is_passed}
@@ -18,7 +17,6 @@ use Rattle.counts.specs.Cost.{CostModel, Spacing, costs_of, edges_of}
 use Rattle.counts.specs.Round.{find_move, Solved, solve_by, solve_from, solve_zeros, max_moves}
 use Rattle.regions.specs.Accept.{accepted, limits_test, regions_test}
 use Rattle.counts.specs.Solver.{Solve, expansions, solve, solve_test, solve_with, solve_part, with_rest, solve_refused}
-use Rattle.counts.specs.declared.search_limit.SearchLimit.{SearchLimit}
 use Rattle.counts.specs.Demand.{Balanced}
 use Rattle.counts.proofs.Accepted.{Accepted, accepted_ok}
 use Rattle.base.proofs.BoolLaws.{by_truth, clash, T_true, true_T, false_T}
@@ -141,7 +139,7 @@ solve_is regions spacing lent limit t =
     record { regions_accepted = test_accepts regions spacing (length lent) limit d.0; counts_are = rw e d.1 }
 
 -- Counts that an accepted solve wrote, by spacings of either kind, are balanced in every region. 02: "Balance holds at any limit", stated or not.
-pub solve_balanced : (regions : List ℕ) (spacing : Spacing) (lent : List ℕ) (limit : SearchLimit)
+pub solve_balanced : (regions : List ℕ) (spacing : Spacing) (lent : List ℕ) (limit : Option ℕ)
     → T (is_passed (solve regions spacing lent (expansions limit)).verdict) → Balanced regions (solve regions spacing lent (expansions limit)).counts
 solve_balanced regions spacing lent limit t =
     record {
@@ -171,15 +169,3 @@ solve_balanced regions spacing lent limit t =
 
     at : (i : ℕ) (c : Constraint) → constraint g i ≡ c → side_sum o c.a ≡ side_sum o c.b
     at i c e = rw e at (even i)
-
--- ---- counts cleared one after the other
-
-pub clear_turn : (l : List ℕ) (i : ℕ) → i < length l → ((k : ℕ) → k < i → get_or l k 0 ≡ 0) → (k : ℕ) → k < i + 1 → get_or (set l i 0) k 0 ≡ 0
-clear_turn l i h f k b = elim (ℕ_discrete k i) [
-  | yes e ↦ rw e (get_or-set_same l i 0 0 h)
-  | no n ↦ get_or-set_other l i k 0 0 n ∙ f k (omega arith)
-]
-
-pub all_zeros : (l : List ℕ) → ((k : ℕ) → k < length l → get_or l k 0 ≡ 0) → l ≡ replicate (length l) 0
-all_zeros [] f = refl
-all_zeros (x ∷ l) f = ap (λ (y : ℕ). y ∷ l) (f 0 (omega arith)) ∙ ap {B = List ℕ} (λ m. 0 ∷ m) (all_zeros l (λ k h. f (suc k) (omega arith)))

@@ -1,7 +1,7 @@
 -- Demand 3, the solver's half, as one claim about a whole list of rounds on the same regions. Assumes nothing.
 -- A round is whatever the contract of a public round says of it: `answer` gives what it answers and leaves, `costs` its edge costs. So the
 -- claim is stated once for every kind of round.
-use Rattle.std.specs.Prelude.{◌≢◌, ◌↔◌, ◌≡◌, not, List, [], ◌∷◌, ℕ, ◌<◌, T, Float}
+use Rattle.std.specs.Prelude.{◌≢◌, ◌↔◌, ◌≡◌, not, List, [], ◌∷◌, ℕ, ◌<◌, T, Float, Option}
 use Rattle.std.specs.Float.Ieee.{neg}
 use Rattle.base.specs.Refusal.{is_passed}
 use Rattle.regions.specs.Region.{places, graph, region_count, from_region, side, side_sum}
@@ -9,7 +9,6 @@ use Rattle.counts.specs.Move.{Change, UnitMove, CostsLess, Costs, Makes}
 use Rattle.counts.specs.Cost.{CostModel, Spacing, costs_of}
 use Rattle.counts.specs.Search.{eps, two_eps}
 use Rattle.counts.specs.Solver.{Round, none, made, expansions, round}
-use Rattle.counts.specs.declared.search_limit.SearchLimit.{SearchLimit}
 
 -- "A side adds up to the sum of its edges' counts (..); 0 and 2 are opposite, and 1 and 3": side k of region r
 abbrev pub sum_of : List ℕ → List ℕ → ℕ → ℕ → ℕ
@@ -65,7 +64,7 @@ module _ {Request : Type 0} (regions : List ℕ) (answer : Request → List ℕ 
 -- "ideals (also too few or too many) and limit are each round's own", the ideals of either kind, the limit stated or not
 pub record Request : Type 0 where
   pub spacing : Spacing
-  pub limit : SearchLimit
+  pub limit : Option ℕ
 
 -- the public round
 abbrev pub answer_to : List ℕ → Request → List ℕ → Round

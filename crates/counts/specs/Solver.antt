@@ -1,5 +1,5 @@
 -- What the public functions of the crate answer, and what they leave in the lent counts, refused calls included. Assumes nothing.
-use Rattle.std.specs.Prelude.{Bool, true, false, ◌&&◌, cond, List, [], ◌∷◌, ◌++◌, ℕ, length, drop, replicate, ltb, eqb, Float}
+use Rattle.std.specs.Prelude.{Bool, true, false, ◌&&◌, cond, List, [], ◌∷◌, ◌++◌, ℕ, length, drop, replicate, ltb, eqb, Float, Option, Some, None, unwrap_or, Result, Ok, Err}
 use Rattle.std.specs.Float.Ieee.{of_bits}
 use Rattle.std.specs.Float.{binary64}
 use Rattle.base.specs.Lists.{all}
@@ -11,16 +11,8 @@ use Rattle.counts.specs.Cost.{CostModel, Spacing, by, costs_of, edges_of, energy
 use Rattle.counts.specs.Round.{Found, find_move, Solved, solve_zeros}
 use Rattle.regions.specs.Accept.{limits_test, regions_test}
 use Rattle.counts.specs.Values.{limit_test, spacing_limits, spacing_lengths, spacing_test, values_test}
-use Rattle.counts.specs.declared.search_limit.SearchLimit.{SearchLimit}
-use Rattle.counts.specs.declared.search_limit.SearchLimit.TheVariants as search_limit
-use Rattle.counts.specs.declared.answer.RoundAnswer.{RoundAnswer}
-use Rattle.counts.specs.declared.answer.RoundAnswer.TheVariants as round_answer
-use Rattle.counts.specs.declared.answer.SolveAnswer.{SolveAnswer}
-use Rattle.counts.specs.declared.answer.SolveAnswer.TheVariants as solve_answer
-use Rattle.counts.specs.declared.answer.EnergyAnswer.{EnergyAnswer}
-use Rattle.counts.specs.declared.answer.EnergyAnswer.TheVariants as energy_answer
-use Rattle.counts.specs.declared.answer.HoldAnswer.{HoldAnswer}
-use Rattle.counts.specs.declared.answer.HoldAnswer.TheVariants as hold_answer
+use Rattle.base.specs.declared.refusal.Refusal.{Refusal}
+use Rattle.counts.specs.declared.answer.RoundOutcome.{RoundOutcome}
 
 -- ---- the search limit, stated or not
 
@@ -29,9 +21,8 @@ abbrev pub default_limit : ℕ
 default_limit = 10000
 
 -- how many expansions each search may make
-abbrev pub expansions : SearchLimit → ℕ
-expansions search_limit.Default = default_limit
-expansions (search_limit.Expansions stated) = stated
+abbrev pub expansions : Option ℕ → ℕ
+expansions limit = unwrap_or limit default_limit
 
 -- ---- a round
 
@@ -46,12 +37,16 @@ pub record Round : Type 0 where
   pub cut : Bool
   pub counts : List ℕ
 
+-- a round's cost, "or none"
+abbrev pub move_of : Option Float → MoveMade
+move_of None = none
+move_of (Some cost) = made cost
+
 -- 01's number and values for each answer of a round, with the counts that it leaves
-unfoldable pub round_of : RoundAnswer → List ℕ → Round
+unfoldable pub round_of : Result RoundOutcome Refusal → List ℕ → Round
 unfolding verdict_of
-round_of (round_answer.Moved cost cut) counts = record { verdict = passed; move = made cost; cut = cut; counts = counts }
-round_of (round_answer.Idle cut) counts = record { verdict = passed; move = none; cut = cut; counts = counts }
-round_of (round_answer.Refused r) counts = record { verdict = verdict_of r; move = none; cut = false; counts = counts }
+round_of (Ok o) counts = record { verdict = passed; move = move_of o.cost; cut = o.cut; counts = counts }
+round_of (Err r) counts = record { verdict = verdict_of r; move = none; cut = false; counts = counts }
 
 -- "Order, solver: 1, 10, 8 (rounds), 11 (solve), 2, 9 (rounds); then by region and pair (..)": `last` is what is tested of the regions
 unfoldable pub round_order : ℕ → List ℕ → Spacing → List ℕ → ℕ → Verdict → Verdict
@@ -96,10 +91,10 @@ pub record Solve : Type 0 where
   pub moves : ℕ
   pub counts : List ℕ
 
-unfoldable pub solve_of : SolveAnswer → List ℕ → Solve
+unfoldable pub solve_of : Result ℕ Refusal → List ℕ → Solve
 unfolding verdict_of
-solve_of (solve_answer.Moves moves) counts = record { verdict = passed; moves = moves; counts = counts }
-solve_of (solve_answer.Refused r) counts = record { verdict = verdict_of r; moves = 0; counts = counts }
+solve_of (Ok moves) counts = record { verdict = passed; moves = moves; counts = counts }
+solve_of (Err r) counts = record { verdict = verdict_of r; moves = 0; counts = counts }
 
 -- 11: the lent counts are output, and as many are needed as there are edges
 unfoldable pub solve_order : ℕ → List ℕ → Spacing → ℕ → ℕ → Verdict → Verdict
@@ -147,10 +142,10 @@ pub record Energy : Type 0 where
   pub verdict : Verdict
   pub total : Float
 
-unfoldable pub energy_of : EnergyAnswer → Energy
+unfoldable pub energy_of : Result Float Refusal → Energy
 unfolding verdict_of
-energy_of (energy_answer.Total t) = record { verdict = passed; total = t }
-energy_of (energy_answer.Refused r) = record { verdict = verdict_of r; total = of_bits binary64 0 }
+energy_of (Ok t) = record { verdict = passed; total = t }
+energy_of (Err r) = record { verdict = verdict_of r; total = of_bits binary64 0 }
 
 -- "`energy`: 1, 8, 2, 9"
 unfoldable pub energy_test : List ℕ → List Float → Verdict
@@ -169,10 +164,10 @@ pub record Hold : Type 0 where
   pub verdict : Verdict
   pub holds : Bool
 
-unfoldable pub hold_of : HoldAnswer → Hold
+unfoldable pub hold_of : Result Bool Refusal → Hold
 unfolding verdict_of
-hold_of (hold_answer.Holds b) = record { verdict = passed; holds = b }
-hold_of (hold_answer.Refused r) = record { verdict = verdict_of r; holds = false }
+hold_of (Ok b) = record { verdict = passed; holds = b }
+hold_of (Err r) = record { verdict = verdict_of r; holds = false }
 
 -- "(edge out of range: no)"
 abbrev pub side_in_range : List ℕ → List ℕ → Bool

@@ -1,28 +1,9 @@
-// The answers of the public functions: what stands in the good case, or the refusal. specs/Solver.antt gives each its number and values.
-use base::refusal::Refusal;
+// What a round answers in the good case. The other public functions answer a number or a Boolean by itself. Where a call is refused, each answers
+// the refusal. specs/Solver.antt gives each answer its number and values.
 
+// The cost of the move made, or none; and whether any search was cut.
 #[derive(Clone, Copy)]
-pub enum SolveAnswer {
-    Moves(u32),
-    Refused(Refusal),
-}
-
-// A move of this cost was made, or none; and whether any search was cut.
-#[derive(Clone, Copy)]
-pub enum RoundAnswer {
-    Moved(f64, bool),
-    Idle(bool),
-    Refused(Refusal),
-}
-
-#[derive(Clone, Copy)]
-pub enum EnergyAnswer {
-    Total(f64),
-    Refused(Refusal),
-}
-
-#[derive(Clone, Copy)]
-pub enum HoldAnswer {
-    Holds(bool),
-    Refused(Refusal),
+pub struct RoundOutcome {
+    pub cost: Option<f64>,
+    pub cut: bool,
 }

@@ -11,7 +11,7 @@ ghost use Rattle.counts.specs.inner.Tables.{the_graph, edges_on};
 ghost use Rattle.counts.specs.inner.Graph.{MayPlaceEdge, MayPlaceSide, MayPlace, MayBuild, Placed, Filled, Built};
 
 use crate::limits::EDGE_SLOTS;
-use base::refusal::{Check, Refusal};
+use base::refusal::Refusal;
 use regions::region::{MAX_EDGES, RECORD_SIZE, SIDE_SIZE};
 
 // Edge e stands on side s of constraint ci: both go to its next slot. An edge in over two constraints is only counted, for test 6.
@@ -82,7 +82,7 @@ fn place_constraints(
 }
 
 // 6: the lowest edge in over two constraints, by the numbers counted in `uses`: of whatever graph they are the numbers, the answer is its test.
-fn check_overused(uses: &[u16; MAX_EDGES], n: usize) -> Check
+fn check_overused(uses: &[u16; MAX_EDGES], n: usize) -> Result<(), Refusal>
     requires { n ≤ max_edges }
     ensures { (g : List Constraint) → ((y : ℕ) → y < n → get_or uses.now y 0 ≡ length (incidence g y))
         → outcome result ≡ overused_test g 0 n }
@@ -90,11 +90,11 @@ fn check_overused(uses: &[u16; MAX_EDGES], n: usize) -> Check
     let mut e = 0;
     while e < n {
         if uses[e] > 2 {
-            return Check::Refused(Refusal::EdgeOverused(e as u32));
+            return Err(Refusal::EdgeOverused(e as u32));
         }
         e += 1;
     }
-    Check::Passed
+    Ok(())
 }
 
 // For n edges, on records that passed tests 1 and 3 to 5. If 6 passes too, the tables are those of the search.
@@ -103,7 +103,7 @@ pub(crate) fn build_graph(
     n: usize,
     incident: &mut [u16; EDGE_SLOTS],
     own: &mut [u16; EDGE_SLOTS],
-) -> Check
+) -> Result<(), Refusal>
     requires { MayBuild n regions.now incident.old own.old }
     ensures { Built n regions.now incident.new own.new (outcome result) }
 {

@@ -9,87 +9,78 @@ mod constraint;
 mod cost;
 mod graph;
 mod limits;
+pub mod ranges;
 mod search;
-pub mod search_limit;
 mod solve;
 
 ghost use Rattle.std.specs.Prelude.{◌≡◌};
 ghost use Rattle.counts.specs.Cost.{by, within};
 ghost use Rattle.counts.specs.Solver.{energy_of, energy, hold_of, constraints_hold, expansions, round_of, round, solve_of, solve};
 
-use crate::answer::{EnergyAnswer, HoldAnswer, RoundAnswer, SolveAnswer};
+use crate::answer::RoundOutcome;
 use crate::check::{check_energy, check_round, check_solve};
 use crate::constraint::regions_hold;
 use crate::cost::total_energy;
 use crate::graph::build_graph;
-use crate::limits::{EDGE_SLOTS, NO_ENTRY};
-use crate::search_limit::SearchLimit;
+use crate::limits::{DEFAULT_LIMIT, EDGE_SLOTS, NO_ENTRY};
+use crate::ranges::Ranges;
 use crate::solve::{make_round, solve_from_zeros};
-use base::refusal::Check;
+use base::refusal::Refusal;
 use regions::accept::check_limits;
 
 // One round, with a least and a most for each edge: the move found, if there is one, is made on the counts.
 pub fn round_within(
     regions: &[u16],
-    least: &[f64],
-    most: &[f64],
+    ranges: Ranges,
     counts: &mut [u32],
-    limit: SearchLimit,
-) -> RoundAnswer
-    ensures { let ranges = within least.now most.now in
-        round_of result counts.new ≡ round regions.now ranges counts.old (expansions limit) }
+    limit: Option<u32>,
+) -> Result<RoundOutcome, Refusal>
+    ensures { let spacing = within ranges.entry.least.now ranges.entry.most.now in
+        round_of result counts.new ≡ round regions.now spacing counts.old (expansions limit) }
 {
-    let limit = limit.expansions();
-    if let Check::Refused(r) = check_round(regions, least, most, counts, limit) {
-        return RoundAnswer::Refused(r);
-    }
+    let limit = limit.unwrap_or(DEFAULT_LIMIT);
+    check_round(regions, ranges, counts, limit)?;
     let mut incident = [NO_ENTRY; EDGE_SLOTS];
     let mut own = [0; EDGE_SLOTS];
-    if let Check::Refused(r) = build_graph(regions, least.len(), &mut incident, &mut own) {
-        return RoundAnswer::Refused(r);
-    }
-    make_round(regions, &incident, &own, least, most, counts, limit)
+    build_graph(regions, ranges.least.len(), &mut incident, &mut own)?;
+    Ok(make_round(regions, &incident, &own, ranges, counts, limit))
 }
 
 // One round, with an ideal for each edge: a range whose ends are equal.
-pub fn round(regions: &[u16], ideals: &[f64], counts: &mut [u32], limit: SearchLimit) -> RoundAnswer
+pub fn round(
+    regions: &[u16],
+    ideals: &[f64],
+    counts: &mut [u32],
+    limit: Option<u32>,
+) -> Result<RoundOutcome, Refusal>
     ensures { let ideal = by ideals.now in
         round_of result counts.new ≡ round regions.now ideal counts.old (expansions limit) }
 {
-    round_within(regions, ideals, ideals, counts, limit)
+    let ranges = Ranges {
+        least: ideals,
+        most: ideals,
+    };
+    round_within(regions, ranges, counts, limit)
 }
 
 // The counts of every edge, with a least and a most for each: from zeros, round after round until one finds no move. The lent counts are output.
 pub fn solve_counts_within(
     regions: &[u16],
-    least: &[f64],
-    most: &[f64],
+    ranges: Ranges,
     counts: &mut [u32],
-    limit: SearchLimit,
-) -> SolveAnswer
-    ensures { let ranges = within least.now most.now in
-        solve_of result counts.new ≡ solve regions.now ranges counts.old (expansions limit) }
+    limit: Option<u32>,
+) -> Result<u32, Refusal>
+    ensures { let spacing = within ranges.entry.least.now ranges.entry.most.now in
+        solve_of result counts.new ≡ solve regions.now spacing counts.old (expansions limit) }
 {
-    let limit = limit.expansions();
+    let limit = limit.unwrap_or(DEFAULT_LIMIT);
     let room = counts.len();
-    if let Check::Refused(r) = check_solve(regions, least, most, room, limit) {
-        return SolveAnswer::Refused(r);
-    }
+    check_solve(regions, ranges, room, limit)?;
     let mut incident = [NO_ENTRY; EDGE_SLOTS];
     let mut own = [0; EDGE_SLOTS];
-    let n = least.len();
-    if let Check::Refused(r) = build_graph(regions, n, &mut incident, &mut own) {
-        return SolveAnswer::Refused(r);
-    }
-    solve_from_zeros(
-        regions,
-        &incident,
-        &own,
-        least,
-        most,
-        &mut counts[..n],
-        limit,
-    )
+    let n = ranges.least.len();
+    build_graph(regions, n, &mut incident, &mut own)?;
+    solve_from_zeros(regions, &incident, &own, ranges, &mut counts[..n], limit)
 }
 
 // The counts of every edge, with an ideal for each.
@@ -97,32 +88,32 @@ pub fn solve_counts(
     regions: &[u16],
     ideals: &[f64],
     counts: &mut [u32],
-    limit: SearchLimit,
-) -> SolveAnswer
+    limit: Option<u32>,
+) -> Result<u32, Refusal>
     ensures { let ideal = by ideals.now in
         solve_of result counts.new ≡ solve regions.now ideal counts.old (expansions limit) }
 {
-    solve_counts_within(regions, ideals, ideals, counts, limit)
+    let ranges = Ranges {
+        least: ideals,
+        most: ideals,
+    };
+    solve_counts_within(regions, ranges, counts, limit)
 }
 
 // The energy of the counts: the sum of (s/ideal - 1)² over the edges.
-pub fn energy(counts: &[u32], ideals: &[f64]) -> EnergyAnswer
+#[tactic(auto, using(crate::proofs::check::Laws::chains, crate::proofs::SolverLaws::energy_lengths), unfolding(crate::specs::Solver::energy, crate::specs::Solver::energy_of))]
+pub fn energy(counts: &[u32], ideals: &[f64]) -> Result<f64, Refusal>
     ensures { energy_of result ≡ energy counts.now ideals.now }
 {
-    if let Check::Refused(r) = check_energy(counts, ideals) {
-        return EnergyAnswer::Refused(r);
-    }
-    let total = total_energy(counts, ideals);
-    EnergyAnswer::Total(total)
+    check_energy(counts, ideals)?;
+    Ok(total_energy(counts, ideals))
 }
 
 // Whether opposite sides of every region add up to the same; where an edge number is not below the number of counts, they do not.
-pub fn constraints_hold(regions: &[u16], counts: &[u32]) -> HoldAnswer
+#[tactic(auto, using(crate::proofs::check::Laws::chains, regions::proofs::accept::Laws::limits_passed), unfolding(crate::specs::Solver::constraints_hold, crate::specs::Solver::hold_of))]
+pub fn constraints_hold(regions: &[u16], counts: &[u32]) -> Result<bool, Refusal>
     ensures { hold_of result ≡ constraints_hold regions.now counts.now }
 {
-    if let Check::Refused(r) = check_limits(regions, counts.len()) {
-        return HoldAnswer::Refused(r);
-    }
-    let holds = regions_hold(regions, counts);
-    HoldAnswer::Holds(holds)
+    check_limits(regions, counts.len())?;
+    Ok(regions_hold(regions, counts))
 }

@@ -1,15 +1,16 @@
 // Rounds and solves on tested input.
-ghost use Rattle.std.specs.Prelude.{◌≡◌, length, replicate};
+ghost use Rattle.std.specs.Prelude.{◌≡◌, length};
 ghost use Rattle.counts.specs.Cost.{by_ranges};
 ghost use Rattle.counts.specs.Round.{find_move, solve_from, solve_zeros, max_moves};
 ghost use Rattle.counts.specs.Solver.{round_of, round_by, solve_of, solve_part};
 ghost use Rattle.counts.specs.inner.Tables.{the_graph};
 ghost use Rattle.counts.specs.inner.RoundContract.{SolveInput, RoundInput, RoundLent, MovesInput, MovesLent, MayMove, MoveApplied, solved_of};
 
-use crate::answer::{RoundAnswer, SolveAnswer};
+use crate::answer::RoundOutcome;
 use crate::augment::{apply_changes, find_augmentation, start_tables};
 use crate::components::{label_edges, refresh_component};
 use crate::limits::{CHANGES, EDGE_SLOTS, MARKS, MAX_AUGMENTATIONS, NO_CONSTRAINT, PATH_SIZE};
+use crate::ranges::Ranges;
 use crate::search::wide;
 use base::refusal::Refusal;
 use regions::region::MAX_EDGES;
@@ -20,20 +21,12 @@ fn wide_len(x: u32) -> usize
     x as usize
 }
 
-// How many moves a solve made, and whether it found a further one after the last that is allowed.
-#[derive(Clone, Copy)]
-pub struct MovesMade {
-    pub moves: u32,
-    pub more: bool,
-}
-
 // One round: the move found, if any, is made. The buffers are lent.
 fn round_in(
     regions: &[u16],
     incident: &[u16; EDGE_SLOTS],
     own: &[u16; EDGE_SLOTS],
-    least: &[f64],
-    most: &[f64],
+    ranges: Ranges,
     counts: &mut [u32],
     limit: u32,
     costs: &mut [f64; CHANGES],
@@ -44,14 +37,14 @@ fn round_in(
     kept: &mut [f64; CHANGES],
     cut: &mut [bool; CHANGES],
     known: &mut [bool; CHANGES],
-) -> RoundAnswer
-    requires { RoundLent regions.now incident.now own.now least.now most.now counts.old
+) -> RoundOutcome
+    requires { RoundLent regions.now incident.now own.now ranges.least.now ranges.most.now counts.old
         costs.old allowed.old used.old path.old best.old kept.old cut.old known.old }
     ensures { let before = counts.old in
-        let model = by_ranges least.now most.now in
-        round_of result counts.new ≡ round_by (find_move (the_graph regions.now) model before limit) before }
+        let model = by_ranges ranges.entry.least.now ranges.entry.most.now in
+        round_of (Ok result) counts.new ≡ round_by (find_move (the_graph regions.now) model before limit) before }
 {
-    start_tables(counts, least, most, costs, allowed, known);
+    start_tables(counts, ranges.least, ranges.most, costs, allowed, known);
     let found = find_augmentation(
         regions,
         incident,
@@ -69,25 +62,30 @@ fn round_in(
     );
     let len = wide_len(found.len);
     if len == 0 {
-        return RoundAnswer::Idle(found.cut);
+        return RoundOutcome {
+            cost: None,
+            cut: found.cut,
+        };
     }
     apply_changes(counts, best, len);
-    RoundAnswer::Moved(found.kept, found.cut)
+    RoundOutcome {
+        cost: Some(found.kept),
+        cut: found.cut,
+    }
 }
 
 pub(crate) fn make_round(
     regions: &[u16],
     incident: &[u16; EDGE_SLOTS],
     own: &[u16; EDGE_SLOTS],
-    least: &[f64],
-    most: &[f64],
+    ranges: Ranges,
     counts: &mut [u32],
     limit: u32,
-) -> RoundAnswer
-    requires { RoundInput regions.now incident.now own.now least.now most.now counts.old }
+) -> RoundOutcome
+    requires { RoundInput regions.now incident.now own.now ranges.least.now ranges.most.now counts.old }
     ensures { let before = counts.old in
-        let model = by_ranges least.now most.now in
-        round_of result counts.new ≡ round_by (find_move (the_graph regions.now) model before limit) before }
+        let model = by_ranges ranges.entry.least.now ranges.entry.most.now in
+        round_of (Ok result) counts.new ≡ round_by (find_move (the_graph regions.now) model before limit) before }
 {
     let mut costs = [0.0; CHANGES];
     let mut allowed = [false; CHANGES];
@@ -102,8 +100,7 @@ pub(crate) fn make_round(
         regions,
         incident,
         own,
-        least,
-        most,
+        ranges,
         counts,
         limit,
         &mut costs,
@@ -120,8 +117,7 @@ pub(crate) fn make_round(
 // The move made on the counts. The component of the farm that it touches gets new costs, and its results are forgotten.
 fn make_move(
     counts: &mut [u32],
-    least: &[f64],
-    most: &[f64],
+    ranges: Ranges,
     labels: &[u16; MAX_EDGES],
     best: &[u16; PATH_SIZE],
     len: usize,
@@ -129,8 +125,8 @@ fn make_move(
     allowed: &mut [bool; CHANGES],
     known: &mut [bool; CHANGES],
 )
-    requires { MayMove counts.old least.now most.now best.now len costs.old allowed.old known.old }
-    ensures { MoveApplied counts.old least.now most.now labels.now best.now len
+    requires { MayMove counts.old ranges.least.now ranges.most.now best.now len costs.old allowed.old known.old }
+    ensures { MoveApplied counts.old ranges.entry.least.now ranges.entry.most.now labels.now best.now len
         costs.old allowed.old known.old
         counts.new costs.new allowed.new known.new }
 {
@@ -138,18 +134,24 @@ fn make_move(
     let first = wide(best[0]) / 2;
     let component = labels[first];
     refresh_component(
-        labels, component, counts, least, most, costs, allowed, known,
+        labels,
+        component,
+        counts,
+        ranges.least,
+        ranges.most,
+        costs,
+        allowed,
+        known,
     );
 }
 
-// Round after round until one finds no move. The buffers are lent.
+// Round after round until one finds no move: how many moves were made, or none if there is one too many. The buffers are lent.
 fn moves_in(
     regions: &[u16],
     incident: &[u16; EDGE_SLOTS],
     own: &[u16; EDGE_SLOTS],
     labels: &[u16; MAX_EDGES],
-    least: &[f64],
-    most: &[f64],
+    ranges: Ranges,
     counts: &mut [u32],
     limit: u32,
     costs: &mut [f64; CHANGES],
@@ -160,13 +162,13 @@ fn moves_in(
     kept: &mut [f64; CHANGES],
     cut: &mut [bool; CHANGES],
     known: &mut [bool; CHANGES],
-) -> MovesMade
-    requires { MovesLent regions.now incident.now own.now labels.now least.now most.now counts.old
+) -> Option<u32>
+    requires { MovesLent regions.now incident.now own.now labels.now ranges.least.now ranges.most.now counts.old
         costs.old allowed.old used.old path.old best.old kept.old cut.old known.old }
-    ensures { let model = by_ranges least.now most.now in
+    ensures { let model = by_ranges ranges.entry.least.now ranges.entry.most.now in
         solved_of result counts.new ≡ solve_from (the_graph regions.now) model limit max_moves 0 counts.old }
 {
-    start_tables(counts, least, most, costs, allowed, known);
+    start_tables(counts, ranges.least, ranges.most, costs, allowed, known);
     let mut moves = 0;
     loop {
         let found = find_augmentation(
@@ -186,14 +188,12 @@ fn moves_in(
         );
         let len = wide_len(found.len);
         if len == 0 {
-            return MovesMade { moves, more: false };
+            return Some(moves);
         }
         if moves == MAX_AUGMENTATIONS {
-            return MovesMade { moves, more: true };
+            return None;
         }
-        make_move(
-            counts, least, most, labels, best, len, costs, allowed, known,
-        );
+        make_move(counts, ranges, labels, best, len, costs, allowed, known);
         moves += 1;
     }
 }
@@ -202,13 +202,12 @@ pub(crate) fn make_moves(
     regions: &[u16],
     incident: &[u16; EDGE_SLOTS],
     own: &[u16; EDGE_SLOTS],
-    least: &[f64],
-    most: &[f64],
+    ranges: Ranges,
     counts: &mut [u32],
     limit: u32,
-) -> MovesMade
-    requires { MovesInput regions.now incident.now own.now least.now most.now counts.old }
-    ensures { let model = by_ranges least.now most.now in
+) -> Option<u32>
+    requires { MovesInput regions.now incident.now own.now ranges.least.now ranges.most.now counts.old }
+    ensures { let model = by_ranges ranges.entry.least.now ranges.entry.most.now in
         solved_of result counts.new ≡ solve_from (the_graph regions.now) model limit max_moves 0 counts.old }
 {
     let mut costs = [0.0; CHANGES];
@@ -227,8 +226,7 @@ pub(crate) fn make_moves(
         incident,
         own,
         &labels,
-        least,
-        most,
+        ranges,
         counts,
         limit,
         &mut costs,
@@ -242,36 +240,24 @@ pub(crate) fn make_moves(
     )
 }
 
-fn clear(counts: &mut [u32])
-    ensures { counts.new ≡ replicate (length counts.old) 0 }
-{
-    let mut i = 0;
-    while i < counts.len() {
-        counts[i] = 0;
-        i += 1;
-    }
-}
-
 // The counts solved from zeros, or zeros where there is a move too many.
 pub(crate) fn solve_from_zeros(
     regions: &[u16],
     incident: &[u16; EDGE_SLOTS],
     own: &[u16; EDGE_SLOTS],
-    least: &[f64],
-    most: &[f64],
+    ranges: Ranges,
     counts: &mut [u32],
     limit: u32,
-) -> SolveAnswer
-    requires { SolveInput regions.now incident.now own.now least.now most.now counts.old }
-    ensures { let n = length least.now in
-        let model = by_ranges least.now most.now in
+) -> Result<u32, Refusal>
+    requires { SolveInput regions.now incident.now own.now ranges.least.now ranges.most.now counts.old }
+    ensures { let n = length ranges.entry.least.now in
+        let model = by_ranges ranges.entry.least.now ranges.entry.most.now in
         solve_of result counts.new ≡ solve_part n (solve_zeros (the_graph regions.now) model limit n) }
 {
-    clear(counts);
-    let made = make_moves(regions, incident, own, least, most, counts, limit);
-    if made.more {
-        clear(counts);
-        return SolveAnswer::Refused(Refusal::TooManyMoves);
-    }
-    SolveAnswer::Moves(made.moves)
+    counts.fill(0);
+    let Some(moves) = make_moves(regions, incident, own, ranges, counts, limit) else {
+        counts.fill(0);
+        return Err(Refusal::TooManyMoves);
+    };
+    Ok(moves)
 }

@@ -17,18 +17,20 @@ use Rattle.base.specs.Answers.{Answer, good, turned_away, verdict}
 use Rattle.base.specs.Tests.{first_of}
 use Rattle.floats.specs.Scalar.{nought, one, e_9, e_12, float_abs, in_unit, clamp_unit, is_positive}
 use Rattle.base.specs.Buffers.{splice}
+use Rattle.curves.specs.declared.boundary.Ends.{Ends}
+use Rattle.curves.specs.declared.sides.Sides.{Sides}
 use Rattle.curves.specs.Point.{point, signed_area}
 use Rattle.curves.specs.Curve.{point_count, all_finite, total_length, curve_test}
 use Rattle.curves.specs.Boundary.{BoundaryCurves, boundary_of, boundary_ends, tolerance, points_apart, corner_test, winding_test, ends_test, checked_curves}
 use Rattle.curves.specs.Seam.{falls, value_test, seam_ends_test, seam_test, pair_test, seams_test}
 use Rattle.curves.specs.Crossing.{denominator, crossing_u, crossing_v, logical_intersection}
 use Rattle.curves.specs.Quad.{quad_test, zeros}
-use Rattle.curves.specs.Grid.{Seams, Grid, grid_of, n_u, n_v, mapped, row_of, Quad, grid_quad, area_test, points_test, quads_test, grid_test, grid_values, needed}
+use Rattle.curves.specs.Grid.{Seams, Grid, grid_of, n_u, n_v, mapped, row_of, grid_quad, area_test, points_test, quads_test, grid_test, grid_values, needed}
 use Rattle.curves.specs.Coons.{Outcome, unless, filled, seams_and_room_test, grid_stage_beside, grid_stage, patch, curve_limit, curves_limit}
 use Rattle.curves.specs.Coons.{seam_limit, seams_limit, cells_limit, even_seams, coons_from_parameters, coons_curves_beside, coons_nodes_beside}
 use Rattle.curves.specs.Lay.{TileInput, record_test, edges_test, breaks_test, sides_test, seams_of, lay}
 use Rattle.curves.specs.declared.point.Point.{Point}
-use Rattle.curves.specs.declared.boundary.BoundaryEnds.{BoundaryEnds}
+use Rattle.curves.specs.declared.quad.Quad.{Quad}
 use Rattle.curves.specs.declared.rows.Layout.{Layout}
 use Rattle.curves.specs.declared.rows.Layout.TheVariants.{Quads, Nodes}
 use Rattle.curves.specs.Limits.{max_curve, max_seam, max_cells}
@@ -105,7 +107,7 @@ winding_clear : (bl br tr tl : Point) → Early (winding_test bl br tr tl)
 unfolding winding_test
 winding_clear bl br tr tl = if_clear (le (signed_area bl br tr tl) nought) 17 0 0 tt
 
-ends_clear : (e : BoundaryEnds) → Early (ends_test e)
+ends_clear : (e : Sides Ends) → Early (ends_test e)
 unfolding ends_test
 ends_clear e =
     let allowed = tolerance e.bottom.start e.bottom.end e.right.end e.left.start in

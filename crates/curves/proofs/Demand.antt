@@ -11,13 +11,13 @@ use lib.ListN.{length, get_or, take, drop, length-take}
 use lib.Seq.{get_or-take, take-take, take_at}
 use lib.Dec.{T, eqb, lt→ltb, ltb→lt}
 use lib.Ieee.{Float}
+use Rattle.std.specs.Prelude.{Option}
 use Rattle.base.specs.Refusal.{is_passed}
 use Rattle.base.specs.Lists.{In, member}
 use Rattle.regions.specs.Region.{Constraint, constraint, places, region_count, graph, side, side_sum, empty_pair}
 use Rattle.counts.specs.Round.{solve_zeros}
 use Rattle.counts.specs.Cost.{Spacing, costs_of, edges_of}
 use Rattle.counts.specs.Solver.{expansions, solve}
-use Rattle.counts.specs.declared.search_limit.SearchLimit.{SearchLimit}
 use Rattle.counts.specs.Demand.{Request, answer_to, request_costs, left_by_all, Balanced, sum_of}
 use Rattle.counts.proofs.Accepted.{Accepted, accepted_ok}
 use Rattle.base.proofs.BoolLaws.{clash, eq→eqb, or_left, or_right}
@@ -129,7 +129,7 @@ module _ (regions counts : List ℕ) (h : Handed regions counts) where
 
 -- ---- the two ways to hand on what an accepted solve wrote, each with any list of rounds: the whole lent buffer, or the part that was written
 
-pub whole_buffer : (regions : List ℕ) (spacing : Spacing) (lent : List ℕ) (limit : SearchLimit) (requests : List Request)
+pub whole_buffer : (regions : List ℕ) (spacing : Spacing) (lent : List ℕ) (limit : Option ℕ) (requests : List Request)
     → T (is_passed (solve regions spacing lent (expansions limit)).verdict)
     → Handed regions (left_by_all regions (answer_to regions) request_costs (solve regions spacing lent (expansions limit)).counts requests)
 whole_buffer regions spacing lent limit requests t =
@@ -144,7 +144,7 @@ whole_buffer regions spacing lent limit requests t =
       left = refl;
     }
 
-pub written_part : (regions : List ℕ) (spacing : Spacing) (lent : List ℕ) (limit : SearchLimit) (requests : List Request)
+pub written_part : (regions : List ℕ) (spacing : Spacing) (lent : List ℕ) (limit : Option ℕ) (requests : List Request)
     → T (is_passed (solve regions spacing lent (expansions limit)).verdict)
     → Handed regions (left_by_all regions (answer_to regions) request_costs
     (take (edges_of spacing) (solve regions spacing lent (expansions limit)).counts) requests)

@@ -2,7 +2,7 @@
 use mathlib.Core.Path.{◌≡◌, refl, sym, ap, subst, ◌∙◌}
 use mathlib.Core.Bool.{Bool, true, false, not, cond}
 use mathlib.Core.List.{List}
-use Prim.Native.Nat.{ℕ, ◌+◌, ◌-◌, ◌*◌, ◌<◌, ◌≤◌}
+use Prim.Native.Nat.{ℕ, ◌-◌, ◌<◌, ◌≤◌}
 use native.Mathlib.Omega.{arith}
 use borrow.Author.Tests.{ltb-false}
 use lib.ListN.{length, get_or}
@@ -25,10 +25,11 @@ use Rattle.curves.specs.Stones.{first_stone, last_stone, OnStones, corner_peg, s
 use Rattle.curves.specs.Stones.{not_minus_zero, Surveyed, Whole, WholeSeams}
 use Rattle.curves.specs.inner.Level.{Plain}
 use Rattle.curves.specs.declared.point.Point.{Point}
+use Rattle.curves.specs.declared.curve.Knot.{Knot}
 use Rattle.floats.proofs.scalar.Blends.{ordinary}
 use Rattle.floats.proofs.scalar.Corner.{end, Values, along_u, along_v, moderate_u, moderate_v, corner_made, corner_own, corner_level}
 use Rattle.floats.proofs.scalar.Laws.{impossible}
-use Rattle.curves.proofs.curve.Laws.{knot_count_arc, in_arc}
+use Rattle.curves.proofs.curve.Laws.{knot_count_arc, knot_in_arc}
 use Rattle.curves.proofs.curve.Ends.{first_end, last_end, strictly_inside}
 use Rattle.curves.proofs.level.Laws.{level_crossing}
 use Rattle.curves.proofs.seam.Even.{last_index, even_whole}
@@ -38,10 +39,7 @@ use Rattle.curves.proofs.formula.Corners.{eight, xs, ys, at_corner}
 
 -- the knots have the points as they were lent
 stored : (points : List Float) (k : ℕ) → k < point_count points → stored_point (arc_curve points) k ≡ point_at points k
-stored points k h = λ i. record { x = first i; y = in_arc points k 1 h (omega arith) i }
-  where
-    first : get_or (arc_curve points) (3 * k) nan ≡ (point_at points k).x
-    first = let e : 3 * k ≡ 3 * k + 0 = omega arith in ap (λ (n : ℕ). get_or (arc_curve points) n nan) e ∙ in_arc points k 0 h (omega arith)
+stored points k h = ap (λ (x : Knot). point x.x x.y) (knot_in_arc points k h)
 
 has_points : (points : List Float) (side : ℕ) → T (is_passed (curve_test points side)) → 2 ≤ point_count points
 unfolding curve_test

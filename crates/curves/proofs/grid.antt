@@ -2,4 +2,3 @@
 pub mod Laws
 pub mod Filled
 pub mod RowLaws
-pub mod TwoRows

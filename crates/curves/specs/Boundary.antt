@@ -9,7 +9,7 @@ use Rattle.curves.specs.Point.{signed_area}
 use Rattle.curves.specs.Curve.{ArcCurve, arc_curve, curve_at, curve_test}
 use Rattle.curves.specs.declared.point.Point.{Point}
 use Rattle.curves.specs.declared.boundary.Ends.{Ends}
-use Rattle.curves.specs.declared.boundary.BoundaryEnds.{BoundaryEnds}
+use Rattle.curves.specs.declared.sides.Sides.{Sides}
 
 -- counter-clockwise: bottom left to right, right bottom to top, top right to left, left top to bottom
 pub record BoundaryCurves : Type 0 where
@@ -30,7 +30,7 @@ unfoldable pub curve_ends : ArcCurve → Ends
 unfolding curve_at
 curve_ends c = record { start = curve_at c nought; end = curve_at c one }
 
-abbrev pub boundary_ends : BoundaryCurves → BoundaryEnds
+abbrev pub boundary_ends : BoundaryCurves → Sides Ends
 boundary_ends c = record { bottom = curve_ends c.bottom; right = curve_ends c.right; top = curve_ends c.top; left = curve_ends c.left }
 
 -- ---- "curves apart": 16
@@ -74,7 +74,7 @@ winding_test bl br tr tl = refuse_if (le (signed_area bl br tr tl) nought) (refu
 -- ---- the whole
 
 -- "corner 0 to 4", in the order of 000, which compares the left curve's first point with itself, and then the winding
-unfoldable pub joined_test : BoundaryEnds → Float → Verdict
+unfoldable pub joined_test : Sides Ends → Float → Verdict
 unfolding corner_test winding_test
 joined_test e allowed =
     then_test (corner_test allowed e.right.start e.bottom.end 0)
@@ -84,7 +84,7 @@ joined_test e allowed =
     (then_test (corner_test allowed e.left.end e.bottom.start 4)
     (winding_test e.bottom.start e.bottom.end e.right.end e.left.start)))))
 
-unfoldable pub ends_test : BoundaryEnds → Verdict
+unfoldable pub ends_test : Sides Ends → Verdict
 unfolding joined_test tolerance
 ends_test e = joined_test e (tolerance e.bottom.start e.bottom.end e.right.end e.left.start)
 

@@ -1,7 +1,8 @@
 -- What the public functions of the grid answer, and what they leave in the lent output, refused calls included: a chain of tests in 01's order,
 -- then the grid. Assumes nothing.
-use Rattle.std.specs.Prelude.{Bool, false, not, ◌||◌, List, ℕ, ◌*◌, ◌%◌, length, ltb, eqb, Float}
+use Rattle.std.specs.Prelude.{Bool, false, not, ◌||◌, List, ℕ, ◌*◌, ◌%◌, length, ltb, eqb, Float, Result, Ok, Err}
 use Rattle.base.specs.declared.verdict.Verdict.{Verdict}
+use Rattle.base.specs.declared.refusal.Refusal.{Refusal}
 use Rattle.base.specs.Refusal.{passed, refused, verdict_of, then_test, refuse_if}
 use Rattle.base.specs.Buffers.{splice}
 use Rattle.base.specs.Tests.{if_passed}
@@ -11,8 +12,6 @@ use Rattle.curves.specs.Quad.{zeros}
 use Rattle.curves.specs.Grid.{Seams, seams, n_u, n_v, Grid, grid_of, grid_test, grid_values, needed}
 use Rattle.curves.specs.declared.rows.Layout.{Layout}
 use Rattle.curves.specs.declared.rows.Layout.TheVariants.{Quads, Nodes}
-use Rattle.curves.specs.declared.answer.GridAnswer.{GridAnswer}
-use Rattle.curves.specs.declared.answer.GridAnswer.TheVariants.{Made, Refused}
 use Rattle.curves.specs.Limits.{max_curve, max_seam, max_cells}
 
 -- "a grid, a lay and a mesh answer the number of quads", or the refusal; and the output that they leave
@@ -21,10 +20,10 @@ pub record Outcome : Type 0 where
   pub quads : ℕ
   pub out : List Float
 
-unfoldable pub outcome_of : GridAnswer → List Float → Outcome
+unfoldable pub outcome_of : Result ℕ Refusal → List Float → Outcome
 unfolding verdict_of
-outcome_of (Made quads) out = record { verdict = passed; quads = quads; out = out }
-outcome_of (Refused r) out = record { verdict = verdict_of r; quads = 0; out = out }
+outcome_of (Ok quads) out = record { verdict = passed; quads = quads; out = out }
+outcome_of (Err r) out = record { verdict = verdict_of r; quads = 0; out = out }
 
 abbrev pub refusal : List Float → Verdict → Outcome
 refusal out v = record { verdict = v; quads = 0; out = out }

@@ -10,7 +10,7 @@ use Rattle.base.specs.Answers.{Answer, good, turned_away}
 use Rattle.floats.specs.Scalar.{nought, one, is_finite, is_positive, clamp_unit}
 use Rattle.floats.specs.Root.{root}
 use Rattle.curves.specs.Point.{point}
-use Rattle.base.specs.Buffers.{concat_tabulate}
+use Rattle.base.specs.Buffers.{tabulate}
 use Rattle.curves.specs.declared.point.Point.{Point}
 use Rattle.curves.specs.declared.curve.Knot.{Knot}
 use Rattle.curves.specs.declared.curve.Segment.{Segment}
@@ -47,31 +47,31 @@ total_length points = length_to points (point_count points - 1)
 abbrev pub knot_of : List Float → ℕ → Knot
 knot_of points k = record { x = (point_at points k).x; y = (point_at points k).y; length = length_to points k }
 
--- a knot as it stands in a list
-abbrev pub knot_values : Knot → List Float
-knot_values k = k.x ∷ k.y ∷ k.length ∷ []
-
--- a curve is its knots, each as x, y, length
+-- a curve is its knots
 abbrev pub ArcCurve : Type 0
-ArcCurve = List Float
+ArcCurve = List Knot
 
 -- 000's `ArcCurve::new`, of a curve that is not refused: "holds each point with the length run so far"
 unfoldable pub arc_curve : List Float → ArcCurve
 unfolding length_to
-arc_curve points = concat_tabulate (λ (k : ℕ). knot_values (knot_of points k)) 0 (point_count points)
+arc_curve points = tabulate (knot_of points) 0 (point_count points)
 
 abbrev pub knot_count : ArcCurve → ℕ
-knot_count c = length c / 3
+knot_count c = length c
 
-abbrev pub length_at : ArcCurve → ℕ → Float
-length_at c k = get_or c (3 * k + 2) nan
+-- what stands past the last knot
+abbrev pub no_knot : Knot
+no_knot = record { x = nan; y = nan; length = nan }
 
 abbrev pub knot : ArcCurve → ℕ → Knot
-knot c k = record { x = get_or c (3 * k) nan; y = get_or c (3 * k + 1) nan; length = length_at c k }
+knot c k = get_or c k no_knot
+
+abbrev pub length_at : ArcCurve → ℕ → Float
+length_at c k = (knot c k).length
 
 -- the knot's point, as it was given
 abbrev pub stored_point : ArcCurve → ℕ → Point
-stored_point c k = point (get_or c (3 * k) nan) (get_or c (3 * k + 1) nan)
+stored_point c k = point (knot c k).x (knot c k).y
 
 -- ---- a segment, and the blend of its two ends
 
@@ -117,7 +117,7 @@ segment_at c target = let last = knot_count c - 1 in halve c target last (ltb 1 
 -- the length to run to a clamped parameter: a fraction of 000's `total`, which is the last knot's length
 unfoldable pub target_of : ArcCurve → Float → Float
 unfolding mul
-target_of c clamped = mul binary64 clamped (get_or c (length c - 1) nan)
+target_of c clamped = mul binary64 clamped (length_at c (knot_count c - 1))
 
 -- "values between go as before": halved down to a segment, and blended
 unfoldable pub between : ArcCurve → Float → Point

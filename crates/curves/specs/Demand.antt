@@ -1,13 +1,12 @@
 -- Demand 3, whole: one claim about a list of regions, every list of rounds on it, and every tile of it. Assumes nothing.
 -- The rounds of both parts are the same: `asked regions`, what the contract of the public round says that it answers and leaves. The tiles are laid
 -- by `lay`, which the contract of the public lay cites.
-use Rattle.std.specs.Prelude.{◌≢◌, ◌≡◌, List, ℕ, ◌<◌, length, take, T, Float}
+use Rattle.std.specs.Prelude.{◌≢◌, ◌≡◌, List, Option, ℕ, ◌<◌, length, take, T, Float}
 use Rattle.base.specs.Refusal.{is_passed}
 use Rattle.regions.specs.Region.{places, record_size, region_count, from_region}
 use Rattle.counts.specs.Cost.{Spacing, edges_of}
 use Rattle.regions.specs.Accept.{accepted}
 use Rattle.counts.specs.Solver.{expansions, solve}
-use Rattle.counts.specs.declared.search_limit.SearchLimit.{SearchLimit}
 use Rattle.counts.specs.Demand.{Request, answer_to, request_costs, left_by_all, Demand}
 use Rattle.curves.specs.Lay.{TileInput, lay}
 
@@ -25,7 +24,7 @@ Alike n counts others = take n counts ≡ take n others
 pub record Handed (regions counts : List ℕ) : Type 0 where
   pub spacing : Spacing
   pub lent : List ℕ
-  pub limit : SearchLimit
+  pub limit : Option ℕ
   -- "an accepted solve", by ideals of either kind, at any limit, stated or not
   pub accepted_solve : T (is_passed (solve regions spacing lent (expansions limit)).verdict)
   -- "begun on these": counts that begin with what was written, as many as there are edges

@@ -14,6 +14,7 @@ use Rattle.curves.specs.Boundary.{BoundaryCurves}
 use Rattle.curves.specs.Patch.{coons_point}
 use Rattle.curves.specs.Quad.{quad_test}
 use Rattle.curves.specs.declared.point.Point.{Point}
+use Rattle.curves.specs.declared.quad.Quad.{Quad}
 use Rattle.curves.specs.declared.rows.Layout.{Layout}
 use Rattle.curves.specs.declared.rows.Layout.TheVariants.{Quads, Nodes}
 
@@ -68,14 +69,7 @@ node (turned_away v) = point nan nan
 
 -- ---- the quads
 
--- by its corners, "counter-clockwise from its lower left"
-pub record Quad : Type 0 where
-  pub lower_left : Point
-  pub lower_right : Point
-  pub upper_right : Point
-  pub upper_left : Point
-
--- 000's `grid_quad`: the one of row j and column i
+-- 000's `grid_quad`: the one of row j and column i, by its corners, "counter-clockwise from its lower left"
 abbrev pub grid_quad : Grid → ℕ → ℕ → Quad
 grid_quad f j i = record {
   lower_left = node (f j i);

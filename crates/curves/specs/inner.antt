@@ -6,4 +6,3 @@ pub mod Lays
 pub mod Level
 pub mod Rows
 pub mod Segments
-pub mod Small

@@ -4,13 +4,14 @@ ghost use Rattle.base.specs.Refusal.{outcome, then_test};
 ghost use Rattle.curves.specs.Coons.{outcome_of};
 ghost use Rattle.curves.specs.Lay.{tile_input, record_test, edges_test, breaks_test, lay_test, lay};
 ghost use Rattle.curves.specs.Limits.{max_seam};
-ghost use Rattle.curves.specs.inner.Lays.{EdgesGiven, Counted, SideGiven, SideLaid, FourShort};
+ghost use Rattle.curves.specs.inner.Curves.{lent};
+ghost use Rattle.curves.specs.inner.Lays.{EdgesGiven, Counted, SideGiven, SideLaid, FourShort, lent_input};
 
-use crate::answer::GridAnswer;
 use crate::coons::{check_curve_limits, coons_from_parameters};
 use crate::limits::MAX_SEAM;
 use crate::seam::side_seam;
-use base::refusal::{Check, Refusal};
+use crate::sides::Sides;
+use base::refusal::Refusal;
 use regions::accept::check_limits;
 use regions::region::{PLACES, RECORD_SIZE, empty_pair, side};
 
@@ -18,103 +19,72 @@ use regions::region::{PLACES, RECORD_SIZE, empty_pair, side};
 const MAX_ALONG: usize = PLACES as usize;
 
 // 1: not just one record, or a limit exceeded; n is the number of counts.
-fn check_record(region: &[u16], n: usize) -> Check
+#[tactic(auto, unfolding(base::specs::Refusal::verdict_of, crate::specs::Lay::record_test))]
+fn check_record(region: &[u16], n: usize) -> Result<(), Refusal>
     ensures { outcome result ≡ record_test region.now n }
 {
     if region.len() != RECORD_SIZE {
-        return Check::Refused(Refusal::Malformed);
+        return Err(Refusal::Malformed);
     }
     check_limits(region, n)
 }
 
 // 3 along side k: an edge without a count.
-fn check_edges(region: &[u16], n: usize, k: u32) -> Check
+fn check_edges(region: &[u16], n: usize, k: u32) -> Result<(), Refusal>
     ensures { outcome result ≡ edges_test region.now n k }
 {
-    let edges = side(region, k);
-    let mut i = 0usize;
-    while i < edges.len() {
-        let e = edges[i] as usize;
-        if e >= n {
-            return Check::Refused(Refusal::EdgeOutOfRange(0, k));
-        }
-        i += 1;
+    if side(region, k).iter().all(|e| usize::from(*e) < n) {
+        return Ok(());
     }
-    Check::Passed
+    Err(Refusal::EdgeOutOfRange(0, k))
 }
 
-fn check_all_edges(region: &[u16], n: usize) -> Check
+fn check_all_edges(region: &[u16], n: usize) -> Result<(), Refusal>
     ensures { let on = edges_test region.now n in
         outcome result ≡ then_test (on 0) (then_test (on 1) (then_test (on 2) (on 3))) }
 {
-    let of_bottom = check_edges(region, n, 0);
-    let of_right = check_edges(region, n, 1);
-    let of_top = check_edges(region, n, 2);
-    let of_left = check_edges(region, n, 3);
-    let from_top = of_top.and(of_left);
-    let from_right = of_right.and(from_top);
-    of_bottom.and(from_right)
+    check_edges(region, n, 0)?;
+    check_edges(region, n, 1)?;
+    check_edges(region, n, 2)?;
+    check_edges(region, n, 3)
 }
 
 // 27 of side k: one break more than edges. The breaks of an empty pair are not read, so there may be any number of them.
-fn check_breaks(region: &[u16], breaks: &[f64], k: u32) -> Check
+#[tactic(auto, unfolding(base::specs::Refusal::verdict_of, crate::specs::Lay::breaks_test))]
+fn check_breaks(region: &[u16], breaks: &[f64], k: u32) -> Result<(), Refusal>
     ensures { outcome result ≡ breaks_test region.now breaks.now k }
 {
     let unread = empty_pair(region, k);
-    if unread {
-        return Check::Passed;
+    if !unread && breaks.len() != side(region, k).len() + 1 {
+        return Err(Refusal::BreaksMismatch(k));
     }
-    let edges = side(region, k);
-    if breaks.len() != edges.len() + 1 {
-        return Check::Refused(Refusal::BreaksMismatch(k));
-    }
-    Check::Passed
+    Ok(())
 }
 
-fn check_all_breaks(
-    region: &[u16],
-    breaks0: &[f64],
-    breaks1: &[f64],
-    breaks2: &[f64],
-    breaks3: &[f64],
-) -> Check
-    ensures { let on = breaks_test region.now in
-        outcome result ≡ then_test (on breaks0.now 0) (then_test (on breaks1.now 1)
-        (then_test (on breaks2.now 2) (on breaks3.now 3))) }
+fn check_all_breaks(region: &[u16], breaks: Sides<&[f64]>) -> Result<(), Refusal>
+    ensures { let on = breaks_test region.now in let b = lent breaks.entry in
+        outcome result ≡ then_test (on b.bottom 0) (then_test (on b.right 1)
+        (then_test (on b.top 2) (on b.left 3))) }
 {
-    let of_bottom = check_breaks(region, breaks0, 0);
-    let of_right = check_breaks(region, breaks1, 1);
-    let of_top = check_breaks(region, breaks2, 2);
-    let of_left = check_breaks(region, breaks3, 3);
-    let from_top = of_top.and(of_left);
-    let from_right = of_right.and(from_top);
-    of_bottom.and(from_right)
+    check_breaks(region, breaks.bottom, 0)?;
+    check_breaks(region, breaks.right, 1)?;
+    check_breaks(region, breaks.top, 2)?;
+    check_breaks(region, breaks.left, 3)
 }
 
 // What lay tests before it makes its seams.
 fn check_lay(
     region: &[u16],
     n: usize,
-    breaks0: &[f64],
-    breaks1: &[f64],
-    breaks2: &[f64],
-    breaks3: &[f64],
-    bottom: &[f64],
-    right: &[f64],
-    top: &[f64],
-    left: &[f64],
-) -> Check
-    ensures { let f = tile_input breaks0.now breaks1.now breaks2.now breaks3.now
-        bottom.now right.now top.now left.now in
-        outcome result ≡ lay_test region.now n f }
+    breaks: Sides<&[f64]>,
+    curves: Sides<&[f64]>,
+) -> Result<(), Refusal>
+    ensures { outcome result ≡ lay_test region.now n (lent_input breaks.entry curves.entry) }
 {
-    let of_record = check_record(region, n);
-    let of_curves = check_curve_limits(bottom, right, top, left);
-    let of_edges = check_all_edges(region, n);
-    let of_breaks = check_all_breaks(region, breaks0, breaks1, breaks2, breaks3);
-    let of_sides = of_edges.and(of_breaks);
-    let from_curves = of_curves.and(of_sides);
-    of_record.and(from_curves)
+    check_record(region, n)?;
+    check_curve_limits(curves)?;
+    check_all_edges(region, n)?;
+    check_all_breaks(region, breaks)
 }
 
 // Writes the counts of a side's edges, and returns what they add up to. 64 bits hold it: a side has few edges.
@@ -122,14 +92,11 @@ fn counts_along(edges: &[u16], counts: &[u32], out: &mut [u32]) -> usize
     requires { EdgesGiven edges.now counts.now out.old }
     ensures { Counted edges.now counts.now out.old out.new result }
 {
-    let mut total = 0usize;
-    let mut i = 0usize;
-    while i < edges.len() {
-        let e = edges[i] as usize;
-        let n = counts[e];
+    let mut total = 0;
+    for (i, e) in edges.iter().enumerate() {
+        let n = counts[usize::from(*e)];
         out[i] = n;
         total += n as usize;
-        i += 1;
     }
     total
 }
@@ -155,77 +122,49 @@ fn lay_side(region: &[u16], counts: &[u32], k: u32, breaks: &[f64], out: &mut [f
 }
 
 // Whether a seam has too many values, of the four numbers of them.
-fn any_too_long(bottom: usize, top: usize, left: usize, right: usize) -> bool
-    ensures value { result ≡ (ltb max_seam bottom || (ltb max_seam top || (ltb max_seam left || ltb max_seam right))) }
-    ensures four_short { result ≡ false → FourShort bottom top left right }
+fn any_too_long(lengths: Sides<usize>) -> bool
+    ensures value { result ≡ (ltb max_seam lengths.bottom || (ltb max_seam lengths.top
+        || (ltb max_seam lengths.left || ltb max_seam lengths.right))) }
+    ensures four_short { result ≡ false → FourShort lengths }
 {
-    if bottom > MAX_SEAM {
-        return true;
-    }
-    if top > MAX_SEAM {
-        return true;
-    }
-    if left > MAX_SEAM {
-        return true;
-    }
-    if right > MAX_SEAM {
-        return true;
-    }
-    false
+    lengths.bottom > MAX_SEAM
+        || lengths.top > MAX_SEAM
+        || lengths.left > MAX_SEAM
+        || lengths.right > MAX_SEAM
 }
 
-// The grid of one region: its seams from counts and breaks, then the grid of its curves by them.
+// The grid of one region: its seams from counts and breaks, then the grid of its curves by them. Answers how many quads it has.
 pub fn lay_region(
     region: &[u16],
     counts: &[u32],
-    breaks0: &[f64],
-    breaks1: &[f64],
-    breaks2: &[f64],
-    breaks3: &[f64],
-    bottom: &[f64],
-    right: &[f64],
-    top: &[f64],
-    left: &[f64],
+    breaks: Sides<&[f64]>,
+    curves: Sides<&[f64]>,
     out: &mut [f64],
-) -> GridAnswer
-    ensures { let f = tile_input breaks0.now breaks1.now breaks2.now breaks3.now
-        bottom.now right.now top.now left.now in
+) -> Result<u32, Refusal>
+    ensures { let b = breaks.entry in let c = curves.entry in
+        let f = tile_input b.bottom.now b.right.now b.top.now b.left.now
+        c.bottom.now c.right.now c.top.now c.left.now in
         outcome_of result out.new ≡ lay region.now counts.now f out.old }
 {
-    if let Check::Refused(cause) = check_lay(
-        region,
-        counts.len(),
-        breaks0,
-        breaks1,
-        breaks2,
-        breaks3,
-        bottom,
-        right,
-        top,
-        left,
-    ) {
-        return GridAnswer::Refused(cause);
+    check_lay(region, counts.len(), breaks, curves)?;
+    let mut bottom_u = [0.0; MAX_SEAM];
+    let mut right_v = [0.0; MAX_SEAM];
+    let mut top_u = [0.0; MAX_SEAM];
+    let mut left_v = [0.0; MAX_SEAM];
+    let lengths = Sides {
+        bottom: lay_side(region, counts, 0, breaks.bottom, &mut bottom_u),
+        right: lay_side(region, counts, 1, breaks.right, &mut right_v),
+        top: lay_side(region, counts, 2, breaks.top, &mut top_u),
+        left: lay_side(region, counts, 3, breaks.left, &mut left_v),
+    };
+    if any_too_long(lengths) {
+        return Err(Refusal::Malformed);
     }
-    let mut bottom_u = [0.0f64; MAX_SEAM];
-    let mut right_v = [0.0f64; MAX_SEAM];
-    let mut top_u = [0.0f64; MAX_SEAM];
-    let mut left_v = [0.0f64; MAX_SEAM];
-    let n0 = lay_side(region, counts, 0, breaks0, &mut bottom_u);
-    let n1 = lay_side(region, counts, 1, breaks1, &mut right_v);
-    let n2 = lay_side(region, counts, 2, breaks2, &mut top_u);
-    let n3 = lay_side(region, counts, 3, breaks3, &mut left_v);
-    if any_too_long(n0, n2, n3, n1) {
-        return GridAnswer::Refused(Refusal::Malformed);
-    }
-    coons_from_parameters(
-        bottom,
-        right,
-        top,
-        left,
-        &bottom_u[..n0],
-        &top_u[..n2],
-        &left_v[..n3],
-        &right_v[..n1],
-        out,
-    )
+    let seams = Sides {
+        bottom: &bottom_u[..lengths.bottom],
+        right: &right_v[..lengths.right],
+        top: &top_u[..lengths.top],
+        left: &left_v[..lengths.left],
+    };
+    coons_from_parameters(curves, seams, out)
 }

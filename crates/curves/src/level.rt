@@ -8,25 +8,13 @@ use floats::scalar::{clamp_unit, in_unit, same_bits};
 fn is_plain(x: f64) -> bool
     ensures { result ≡ true → Plain x }
 {
-    let inside = in_unit(x);
-    if inside {
-        let clamped = clamp_unit(x);
-        let same = same_bits(clamped, x);
-        if same {
-            return f64::to_bits(x) < 0x8000_0000_0000_0000;
-        }
-    }
-    false
+    in_unit(x) && same_bits(clamp_unit(x), x) && x.to_bits() < 0x8000_0000_0000_0000
 }
 
 pub(crate) fn is_straight(a: f64, b: f64) -> bool
     ensures { result ≡ true → Straight a b }
 {
-    let same = same_bits(a, b);
-    if same {
-        return is_plain(a);
-    }
-    false
+    same_bits(a, b) && is_plain(a)
 }
 
 // Whether all lines from one seam to the other are upright.
@@ -34,15 +22,5 @@ pub(crate) fn are_upright(bottom: &[f64], top: &[f64]) -> bool
     requires { length bottom.now ≤ length top.now }
     ensures { result ≡ true → Upright bottom.now top.now }
 {
-    let mut i = 0usize;
-    while i < bottom.len() {
-        let a = bottom[i];
-        let b = top[i];
-        let straight = is_straight(a, b);
-        if !straight {
-            return false;
-        }
-        i += 1;
-    }
-    true
+    bottom.iter().zip(top).all(|(a, b)| is_straight(*a, *b))
 }

@@ -1,8 +1,7 @@
 // The geometry above the counts: points, curves, their seams, the patch between them, its grid of points and quads, and lay, which grids a
-// region by its counts. Public are `coons` and `lay`, with `answer`, and `limits` for the mesh.
+// region by its counts. Public are `coons` and `lay`, with `sides`, and `limits` for the mesh.
 #![tactic(auto)]
 
-pub mod answer;
 mod boundary;
 mod columns;
 pub mod coons;
@@ -18,4 +17,5 @@ mod quad;
 mod room;
 mod rows;
 mod seam;
+pub mod sides;
 mod stage;

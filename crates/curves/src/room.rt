@@ -1,283 +1,87 @@
 // Room for a patch, in three sizes: for the knots of its curves, and for columns and two rows of its grid. To clear room for the largest would take
-// longer than most grids. Most functions here are their arrays and a call.
+// longer than most grids.
 ghost use Rattle.std.specs.Prelude.{◌≡◌, true};
-ghost use Rattle.curves.specs.Limits.{max_curve, max_seam};
-ghost use Rattle.curves.specs.Coons.{outcome_of, patch};
+ghost use Rattle.curves.specs.Limits.{max_curve};
+ghost use Rattle.curves.specs.Coons.{outcome_of};
 ghost use Rattle.curves.specs.inner.Curves.{lent, ShortCurves};
-ghost use Rattle.curves.specs.inner.Grids.{lent_seams, KnotsGiven, ColumnsFit, TileShort, TinyTile};
-ghost use Rattle.curves.specs.inner.Small.{tiny_curve, tiny_seam, small_curve, small_seam};
+ghost use Rattle.curves.specs.inner.Grids.{lent_seams, TileShort, KnotsFitIn, TileFitsIn, PatchMade};
 
-use crate::answer::GridAnswer;
+use crate::curve::Knot;
 use crate::limits::{
-    MAX_COLUMNS, MAX_KNOTS, MAX_ROWS, SMALL_COLUMNS, SMALL_CURVE, SMALL_KNOTS, SMALL_ROWS,
-    SMALL_SEAM, TINY_COLUMNS, TINY_KNOTS, TINY_ROWS, TINY_SEAM,
+    MAX_KNOTS, MAX_SEAM, SMALL_CURVE, SMALL_KNOTS, SMALL_SEAM, TINY_CURVE, TINY_KNOTS, TINY_SEAM,
 };
+use crate::patch::Column;
+use crate::point::Point;
 use crate::rows::Layout;
+use crate::sides::Sides;
 use crate::stage::patch_in;
+use base::refusal::Refusal;
 
-// A patch whose knots have room, with room for few columns.
-fn tiny_columns(
-    bottom: &[f64],
-    right: &[f64],
-    top: &[f64],
-    left: &[f64],
-    bottom_u: &[f64],
-    top_u: &[f64],
-    left_v: &[f64],
-    right_v: &[f64],
+// A patch with room for so many knots, and for the columns and two rows of so many values of a seam. The pages of a frame are touched on entry, and the compiler
+// puts a function with one caller into its caller's frame: not so this one, so that a call pays for no other room than its own.
+#[inline(never)]
+fn with_room<const KNOTS: usize, const SEAM: usize>(
+    curves: Sides<&[f64]>,
+    seams: Sides<&[f64]>,
     layout: Layout,
-    knots: &mut [f64],
     out: &mut [f64],
-) -> GridAnswer
-    requires { ColumnsFit tiny_seam (lent bottom right top left) (lent_seams bottom_u top_u left_v right_v) knots.old }
-    ensures { let s = lent_seams bottom_u.entry top_u.entry left_v.entry right_v.entry in
-        outcome_of result out.new ≡ patch layout
-        bottom.now right.now top.now left.now s out.old }
+) -> Result<u32, Refusal>
+    requires { TileFitsIn KNOTS SEAM (lent curves) (lent_seams seams) }
+    ensures { PatchMade layout curves.entry seams.entry out.old (outcome_of result out.new) }
 {
-    let mut table = [0.0; TINY_COLUMNS];
-    let mut rows = [0.0; TINY_ROWS];
+    let mut knots = [Knot::NONE; KNOTS];
+    let mut table = [Column::NONE; SEAM];
+    let mut low = [Point::ORIGIN; SEAM];
+    let mut high = [Point::ORIGIN; SEAM];
     patch_in(
-        bottom, right, top, left, bottom_u, top_u, left_v, right_v, layout, knots, &mut table,
-        &mut rows, out,
+        curves, seams, layout, &mut knots, &mut table, &mut low, &mut high, out,
     )
 }
 
-// For more.
-fn small_columns(
-    bottom: &[f64],
-    right: &[f64],
-    top: &[f64],
-    left: &[f64],
-    bottom_u: &[f64],
-    top_u: &[f64],
-    left_v: &[f64],
-    right_v: &[f64],
+// The same, with columns and rows in the smallest room that will do.
+fn with_knots<const KNOTS: usize>(
+    curves: Sides<&[f64]>,
+    seams: Sides<&[f64]>,
     layout: Layout,
-    knots: &mut [f64],
     out: &mut [f64],
-) -> GridAnswer
-    requires { ColumnsFit small_seam (lent bottom right top left) (lent_seams bottom_u top_u left_v right_v) knots.old }
-    ensures { let s = lent_seams bottom_u.entry top_u.entry left_v.entry right_v.entry in
-        outcome_of result out.new ≡ patch layout
-        bottom.now right.now top.now left.now s out.old }
+) -> Result<u32, Refusal>
+    requires { KnotsFitIn KNOTS (lent curves) (lent_seams seams) }
+    ensures { PatchMade layout curves.entry seams.entry out.old (outcome_of result out.new) }
 {
-    let mut table = [0.0; SMALL_COLUMNS];
-    let mut rows = [0.0; SMALL_ROWS];
-    patch_in(
-        bottom, right, top, left, bottom_u, top_u, left_v, right_v, layout, knots, &mut table,
-        &mut rows, out,
-    )
-}
-
-// And for any number.
-fn large_columns(
-    bottom: &[f64],
-    right: &[f64],
-    top: &[f64],
-    left: &[f64],
-    bottom_u: &[f64],
-    top_u: &[f64],
-    left_v: &[f64],
-    right_v: &[f64],
-    layout: Layout,
-    knots: &mut [f64],
-    out: &mut [f64],
-) -> GridAnswer
-    requires { ColumnsFit max_seam (lent bottom right top left) (lent_seams bottom_u top_u left_v right_v) knots.old }
-    ensures { let s = lent_seams bottom_u.entry top_u.entry left_v.entry right_v.entry in
-        outcome_of result out.new ≡ patch layout
-        bottom.now right.now top.now left.now s out.old }
-{
-    let mut table = [0.0; MAX_COLUMNS];
-    let mut rows = [0.0; MAX_ROWS];
-    patch_in(
-        bottom, right, top, left, bottom_u, top_u, left_v, right_v, layout, knots, &mut table,
-        &mut rows, out,
-    )
-}
-
-// With room for as many as there are.
-fn with_columns(
-    bottom: &[f64],
-    right: &[f64],
-    top: &[f64],
-    left: &[f64],
-    bottom_u: &[f64],
-    top_u: &[f64],
-    left_v: &[f64],
-    right_v: &[f64],
-    layout: Layout,
-    knots: &mut [f64],
-    out: &mut [f64],
-) -> GridAnswer
-    requires { KnotsGiven (lent bottom right top left) (lent_seams bottom_u top_u left_v right_v) knots.old }
-    ensures { let s = lent_seams bottom_u.entry top_u.entry left_v.entry right_v.entry in
-        outcome_of result out.new ≡ patch layout
-        bottom.now right.now top.now left.now s out.old }
-{
-    if bottom_u.len() <= TINY_SEAM {
-        return tiny_columns(
-            bottom, right, top, left, bottom_u, top_u, left_v, right_v, layout, knots, out,
-        );
+    if seams.bottom.len() <= TINY_SEAM {
+        return with_room::<KNOTS, TINY_SEAM>(curves, seams, layout, out);
     }
-    if bottom_u.len() <= SMALL_SEAM {
-        return small_columns(
-            bottom, right, top, left, bottom_u, top_u, left_v, right_v, layout, knots, out,
-        );
+    if seams.bottom.len() <= SMALL_SEAM {
+        return with_room::<KNOTS, SMALL_SEAM>(curves, seams, layout, out);
     }
-    large_columns(
-        bottom, right, top, left, bottom_u, top_u, left_v, right_v, layout, knots, out,
-    )
-}
-
-// A patch of short curves and few columns, with room for both.
-pub(crate) fn tiny_patch(
-    bottom: &[f64],
-    right: &[f64],
-    top: &[f64],
-    left: &[f64],
-    bottom_u: &[f64],
-    top_u: &[f64],
-    left_v: &[f64],
-    right_v: &[f64],
-    layout: Layout,
-    out: &mut [f64],
-) -> GridAnswer
-    requires { TinyTile (lent bottom right top left) (lent_seams bottom_u top_u left_v right_v) }
-    ensures { let s = lent_seams bottom_u.entry top_u.entry left_v.entry right_v.entry in
-        outcome_of result out.new ≡ patch layout
-        bottom.now right.now top.now left.now s out.old }
-{
-    let mut knots = [0.0; TINY_KNOTS];
-    let mut table = [0.0; TINY_COLUMNS];
-    let mut rows = [0.0; TINY_ROWS];
-    patch_in(
-        bottom, right, top, left, bottom_u, top_u, left_v, right_v, layout, &mut knots, &mut table,
-        &mut rows, out,
-    )
-}
-
-// A patch with room for the knots of short curves.
-pub(crate) fn tiny_knots(
-    bottom: &[f64],
-    right: &[f64],
-    top: &[f64],
-    left: &[f64],
-    bottom_u: &[f64],
-    top_u: &[f64],
-    left_v: &[f64],
-    right_v: &[f64],
-    layout: Layout,
-    out: &mut [f64],
-) -> GridAnswer
-    requires { TileShort tiny_curve (lent bottom right top left) (lent_seams bottom_u top_u left_v right_v) }
-    ensures { let s = lent_seams bottom_u.entry top_u.entry left_v.entry right_v.entry in
-        outcome_of result out.new ≡ patch layout
-        bottom.now right.now top.now left.now s out.old }
-{
-    let mut knots = [0.0; TINY_KNOTS];
-    with_columns(
-        bottom, right, top, left, bottom_u, top_u, left_v, right_v, layout, &mut knots, out,
-    )
-}
-
-// For those of longer ones.
-fn small_knots(
-    bottom: &[f64],
-    right: &[f64],
-    top: &[f64],
-    left: &[f64],
-    bottom_u: &[f64],
-    top_u: &[f64],
-    left_v: &[f64],
-    right_v: &[f64],
-    layout: Layout,
-    out: &mut [f64],
-) -> GridAnswer
-    requires { TileShort small_curve (lent bottom right top left) (lent_seams bottom_u top_u left_v right_v) }
-    ensures { let s = lent_seams bottom_u.entry top_u.entry left_v.entry right_v.entry in
-        outcome_of result out.new ≡ patch layout
-        bottom.now right.now top.now left.now s out.old }
-{
-    let mut knots = [0.0; SMALL_KNOTS];
-    with_columns(
-        bottom, right, top, left, bottom_u, top_u, left_v, right_v, layout, &mut knots, out,
-    )
-}
-
-// And for those of any.
-fn large_knots(
-    bottom: &[f64],
-    right: &[f64],
-    top: &[f64],
-    left: &[f64],
-    bottom_u: &[f64],
-    top_u: &[f64],
-    left_v: &[f64],
-    right_v: &[f64],
-    layout: Layout,
-    out: &mut [f64],
-) -> GridAnswer
-    requires { TileShort max_curve (lent bottom right top left) (lent_seams bottom_u top_u left_v right_v) }
-    ensures { let s = lent_seams bottom_u.entry top_u.entry left_v.entry right_v.entry in
-        outcome_of result out.new ≡ patch layout
-        bottom.now right.now top.now left.now s out.old }
-{
-    let mut knots = [0.0; MAX_KNOTS];
-    with_columns(
-        bottom, right, top, left, bottom_u, top_u, left_v, right_v, layout, &mut knots, out,
-    )
+    with_room::<KNOTS, MAX_SEAM>(curves, seams, layout, out)
 }
 
 // Whether no curve has more values than so many.
-pub(crate) fn has_short_curves(
-    limit: usize,
-    bottom: &[f64],
-    right: &[f64],
-    top: &[f64],
-    left: &[f64],
-) -> bool
-    ensures { let points = lent bottom.entry right.entry top.entry left.entry in
-        (result ≡ true → ShortCurves limit points) }
+fn has_short_curves(limit: usize, curves: Sides<&[f64]>) -> bool
+    ensures { result ≡ true → ShortCurves limit (lent curves.entry) }
 {
-    if bottom.len() > limit {
-        return false;
-    }
-    if right.len() > limit {
-        return false;
-    }
-    if top.len() > limit {
-        return false;
-    }
-    left.len() <= limit
+    curves.bottom.len() <= limit
+        && curves.right.len() <= limit
+        && curves.top.len() <= limit
+        && curves.left.len() <= limit
 }
 
-// A patch of any size, by callers that have tried the smallest room for knots first. It is not tried here, since the pages of a frame are touched on
-// entry, and the compiler puts a function with one caller into it: so there are two callers, and only long curves pay for the larger rooms.
-pub(crate) fn larger_knots(
-    bottom: &[f64],
-    right: &[f64],
-    top: &[f64],
-    left: &[f64],
-    bottom_u: &[f64],
-    top_u: &[f64],
-    left_v: &[f64],
-    right_v: &[f64],
+// A patch within its limits, with knots in the smallest room that will do.
+pub(crate) fn patch_in_room(
+    curves: Sides<&[f64]>,
+    seams: Sides<&[f64]>,
     layout: Layout,
     out: &mut [f64],
-) -> GridAnswer
-    requires { TileShort max_curve (lent bottom right top left) (lent_seams bottom_u top_u left_v right_v) }
-    ensures { let s = lent_seams bottom_u.entry top_u.entry left_v.entry right_v.entry in
-        outcome_of result out.new ≡ patch layout
-        bottom.now right.now top.now left.now s out.old }
+) -> Result<u32, Refusal>
+    requires { TileShort max_curve (lent curves) (lent_seams seams) }
+    ensures { PatchMade layout curves.entry seams.entry out.old (outcome_of result out.new) }
 {
-    let small = has_short_curves(SMALL_CURVE, bottom, right, top, left);
-    if small {
-        return small_knots(
-            bottom, right, top, left, bottom_u, top_u, left_v, right_v, layout, out,
-        );
+    if has_short_curves(TINY_CURVE, curves) {
+        return with_knots::<TINY_KNOTS>(curves, seams, layout, out);
     }
-    large_knots(
-        bottom, right, top, left, bottom_u, top_u, left_v, right_v, layout, out,
-    )
+    if has_short_curves(SMALL_CURVE, curves) {
+        return with_knots::<SMALL_KNOTS>(curves, seams, layout, out);
+    }
+    with_knots::<MAX_KNOTS>(curves, seams, layout, out)
 }

@@ -5,9 +5,7 @@ use Rattle.std.specs.Prelude.{◌≡◌, ℕ, zero, suc, ◌+◌, ◌-◌, ◌*�
 use Rattle.std.specs.Float.{nan, inf, fin, Format, binary64}
 use Rattle.std.specs.Float.Ieee.{prec, low, up, down, size, round, fits}
 use Rattle.base.specs.Answers.{Answer, good, turned_away}
-use Rattle.base.specs.Refusal.{refused, verdict_of}
-use Rattle.floats.specs.declared.root.RootAnswer.{RootAnswer}
-use Rattle.floats.specs.declared.root.RootAnswer.TheVariants.{Value, Refused}
+use Rattle.base.specs.Refusal.{refused}
 
 -- ---- what the root is
 
@@ -94,12 +92,6 @@ root f (fin true (suc m) e) = nan
 root f (fin false (suc m) e) = rounded f (apart f (fin false (suc m) e))
 
 -- ---- the public function
-
--- 01's number, places and value of each case
-unfoldable pub root_of : RootAnswer → Answer Float
-unfolding verdict_of
-root_of (Value r) = good r
-root_of (Refused r) = turned_away (verdict_of r)
 
 -- a NaN, or a number below zero, -0 not among them
 unfoldable pub rootless : Float → Bool

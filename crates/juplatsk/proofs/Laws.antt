@@ -1,128 +1,86 @@
--- Answers stored as a number, an array and values: from a verdict, and for the definition that the answer equals. Assumes nothing.
-use mathlib.Core.Path.{◌≡◌, refl, sym, ap, subst, ◌∙◌}
-use mathlib.Core.Bool.{Bool}
+-- Answers stored as a number, an array and values: by the kind of the answer, and for the definition that the answer equals. Assumes nothing.
+use mathlib.Core.Path.{◌≡◌, refl, ap, ◌∙◌}
+use mathlib.Core.Bool.{Bool, true, false}
 use mathlib.Core.List.{List, [], ◌∷◌}
 use Prim.Native.Nat.{ℕ}
 use lib.Ieee.{Float, of_bits, binary64}
-use Rattle.base.specs.declared.verdict.Verdict.{Verdict}
-use Rattle.base.specs.Refusal.{passed, verdict_of}
+use Rattle.std.specs.Prelude.{Result, Ok, Err, Option, Some, None, unwrap_or, is_some}
+use Rattle.std.specs.Result.{result_unwrap_or}
+use Rattle.std.specs.Int.{from_bool}
 use Rattle.base.specs.declared.refusal.Refusal.{Refusal}
-use Rattle.counts.specs.Solver.{Round, round_of, Solve, solve_of, Energy, energy_of, Hold, hold_of}
-use Rattle.counts.specs.declared.answer.SolveAnswer.{SolveAnswer}
-use Rattle.counts.specs.declared.answer.SolveAnswer.TheVariants as solve_answer
-use Rattle.counts.specs.declared.answer.RoundAnswer.{RoundAnswer}
-use Rattle.counts.specs.declared.answer.RoundAnswer.TheVariants as round_answer
-use Rattle.counts.specs.declared.answer.EnergyAnswer.{EnergyAnswer}
-use Rattle.counts.specs.declared.answer.EnergyAnswer.TheVariants as energy_answer
-use Rattle.counts.specs.declared.answer.HoldAnswer.{HoldAnswer}
-use Rattle.counts.specs.declared.answer.HoldAnswer.TheVariants as hold_answer
-use Rattle.base.specs.Answers.{Answer, verdict}
-use Rattle.floats.specs.Root.{root_of}
+use Rattle.base.specs.declared.verdict.Verdict.{Verdict}
+use Rattle.base.specs.Refusal.{outcome}
+use Rattle.base.specs.Answers.{Answer, answered, verdict}
+use Rattle.counts.specs.Solver.{move_of, Round, round_of, Solve, solve_of, Energy, energy_of, Hold, hold_of}
+use Rattle.counts.specs.declared.answer.RoundOutcome.{RoundOutcome}
 use Rattle.curves.specs.Coons.{Outcome, outcome_of}
-use Rattle.curves.specs.declared.answer.GridAnswer.{GridAnswer}
-use Rattle.curves.specs.declared.answer.GridAnswer.TheVariants as grid_answer
-use Rattle.floats.specs.declared.root.RootAnswer.{RootAnswer}
-use Rattle.floats.specs.declared.root.RootAnswer.TheVariants as root_answer
 use Rattle.mesh.specs.Mesh.{Mesh, mesh_of}
-use Rattle.juplatsk.specs.Stored.{flag, solve_stored, hold_stored, grid_stored, energy_stored, round_stored, cost_of, root_value}
-use Rattle.juplatsk.specs.inner.Stores.{Stores, StoresSolve, StoresHold, StoresGrid, StoresEnergy, StoresRound, StoresRoot}
+use Rattle.juplatsk.specs.Stored.{flag, is_made, solve_stored, hold_stored, grid_stored, energy_stored, round_stored, cost_of, root_value}
+use Rattle.juplatsk.specs.inner.Stores.{StoresNumber, StoresFlag, StoresSum, StoresRound, StoresRoot}
 
--- ---- a verdict's number returned, and its places stored before the rest
+-- ---- what is stored, by the verdict v that was told, and the values of an answer that is accepted or refused
 
-as_stored : {w : Verdict} {r : ℕ} {answer : List ℕ} (v : Verdict) (rest : List ℕ) → w ≡ v → r ≡ w.number → answer ≡ w.first ∷ w.second ∷ rest → Stores r answer v (v.first ∷ v.second ∷ rest)
-as_stored v rest t e k = (e ∙ ap (λ (x : Verdict). x.number) t, k ∙ ap (λ (x : Verdict). x.first ∷ x.second ∷ rest) t)
+pub number_stored : (a : Result ℕ Refusal) {v : Verdict} {x : ℕ} → v ≡ outcome a → x ≡ result_unwrap_or a 0 → StoresNumber a v.number (v.first ∷ v.second ∷ x ∷ [])
+unfolding solve_of outcome_of
+number_stored (Ok n) e f = rw (e, f) (record { of_solve = λ counts. (refl, refl); of_grid = λ out. (refl, refl) })
+number_stored (Err r) e f = rw (e, f) (record { of_solve = λ counts. (refl, refl); of_grid = λ out. (refl, refl) })
 
--- ---- each answer by its verdict, arm by arm
-
-pub solve_accepted : {a : SolveAnswer} {w : Verdict} {moves r : ℕ} {answer : List ℕ} → a ≡ solve_answer.Moves moves → w ≡ passed → (r ≡ w.number)
-    × (answer ≡ w.first ∷ w.second ∷ moves ∷ []) → StoresSolve a r answer
-unfolding solve_of
-solve_accepted {r = r} {answer = answer} e t s = subst (λ (x : SolveAnswer). StoresSolve x r answer) (sym e) (λ counts. as_stored passed _ t s.0 s.1)
-
-pub solve_refused : {a : SolveAnswer} {cause : Refusal} {w : Verdict} {r : ℕ} {answer : List ℕ} → a ≡ solve_answer.Refused cause
-    → w ≡ (verdict_of cause) → (r ≡ w.number) × (answer ≡ w.first ∷ w.second ∷ 0 ∷ []) → StoresSolve a r answer
-unfolding solve_of
-solve_refused {cause = cause} {r = r} {answer = answer} e t s = subst (λ (x : SolveAnswer). StoresSolve x r answer) (sym e) (λ counts. as_stored (verdict_of cause) _ t s.0 s.1)
-
-pub grid_accepted : {a : GridAnswer} {w : Verdict} {quads r : ℕ} {answer : List ℕ} → a ≡ grid_answer.Made quads → w ≡ passed → (r ≡ w.number)
-    × (answer ≡ w.first ∷ w.second ∷ quads ∷ []) → StoresGrid a r answer
-unfolding outcome_of
-grid_accepted {r = r} {answer = answer} e t s = subst (λ (x : GridAnswer). StoresGrid x r answer) (sym e) (λ out. as_stored passed _ t s.0 s.1)
-
-pub grid_refused : {a : GridAnswer} {cause : Refusal} {w : Verdict} {r : ℕ} {answer : List ℕ} → a ≡ grid_answer.Refused cause → w ≡ (verdict_of cause)
-    → (r ≡ w.number) × (answer ≡ w.first ∷ w.second ∷ 0 ∷ []) → StoresGrid a r answer
-unfolding outcome_of
-grid_refused {cause = cause} {r = r} {answer = answer} e t s = subst (λ (x : GridAnswer). StoresGrid x r answer) (sym e) (λ out. as_stored (verdict_of cause) _ t s.0 s.1)
-
-pub hold_accepted : {a : HoldAnswer} {yes : Bool} {w : Verdict} {k r : ℕ} {answer : List ℕ} → a ≡ hold_answer.Holds yes → w ≡ passed → k ≡ flag yes
-    → (r ≡ w.number) × (answer ≡ w.first ∷ w.second ∷ k ∷ []) → StoresHold a r answer
-unfolding hold_of
-hold_accepted {w = w} {r = r} {answer = answer} e t f s =
-    subst (λ (x : HoldAnswer). StoresHold x r answer) (sym e) (as_stored passed _ t s.0 (s.1 ∙ ap (λ (x : ℕ). w.first ∷ w.second ∷ x ∷ []) f))
-
-pub hold_refused : {a : HoldAnswer} {cause : Refusal} {w : Verdict} {r : ℕ} {answer : List ℕ} → a ≡ hold_answer.Refused cause → w ≡ (verdict_of cause)
-    → (r ≡ w.number) × (answer ≡ w.first ∷ w.second ∷ 0 ∷ []) → StoresHold a r answer
-unfolding hold_of
-hold_refused {cause = cause} {r = r} {answer = answer} e t s = subst (λ (x : HoldAnswer). StoresHold x r answer) (sym e) (as_stored (verdict_of cause) _ t s.0 s.1)
-
-pub energy_accepted : {a : EnergyAnswer} {total : Float} {w : Verdict} {r : ℕ} {answer : List ℕ} {sum : List Float} → a ≡ energy_answer.Total total
-    → w ≡ passed → (r ≡ w.number) × ((answer ≡ w.first ∷ w.second ∷ []) × (sum ≡ total ∷ [])) → StoresEnergy a r answer sum
+pub sum_stored : (a : Result Float Refusal) {v : Verdict} {x : Float} → v ≡ outcome a → x ≡ result_unwrap_or a (of_bits binary64 0)
+    → StoresSum a v.number (v.first ∷ v.second ∷ []) (x ∷ [])
 unfolding energy_of
-energy_accepted {r = r} {answer = answer} {sum = sum} e t s = subst (λ (x : EnergyAnswer). StoresEnergy x r answer sum) (sym e) (as_stored passed _ t s.0 s.1.0, s.1.1)
+sum_stored (Ok t) e f = rw (e, f) ((refl, refl), refl)
+sum_stored (Err r) e f = rw (e, f) ((refl, refl), refl)
 
-pub energy_refused : {a : EnergyAnswer} {cause : Refusal} {w : Verdict} {r : ℕ} {answer : List ℕ} {sum : List Float} → a ≡ energy_answer.Refused cause
-    → w ≡ (verdict_of cause) → (r ≡ w.number) × ((answer ≡ w.first ∷ w.second ∷ []) × (sum ≡ of_bits binary64 0 ∷ [])) → StoresEnergy a r answer sum
-unfolding energy_of
-energy_refused {cause = cause} {r = r} {answer = answer} {sum = sum} e t s =
-    subst (λ (x : EnergyAnswer). StoresEnergy x r answer sum) (sym e) (as_stored (verdict_of cause) _ t s.0 s.1.0, s.1.1)
+flag_is : (b : Bool) → from_bool b ≡ flag b
+flag_is true = refl
+flag_is false = refl
 
-pub round_moved : {a : RoundAnswer} {value : Float} {cut : Bool} {w : Verdict} {k r : ℕ} {answer : List ℕ} {cost : List Float}
-    → a ≡ round_answer.Moved value cut → w ≡ passed → k ≡ flag cut → (r ≡ w.number)
-    × ((answer ≡ w.first ∷ w.second ∷ 1 ∷ k ∷ []) × (cost ≡ value ∷ [])) → StoresRound a r answer cost
+made_is : (c : Option Float) → is_some c ≡ is_made (move_of c)
+made_is None = refl
+made_is (Some x) = refl
+
+cost_is : (c : Option Float) → unwrap_or c (of_bits binary64 0) ≡ cost_of (move_of c)
+cost_is None = refl
+cost_is (Some x) = refl
+
+pub flag_stored : (a : Result Bool Refusal) {v : Verdict} {b : Bool} {x : ℕ} → v ≡ outcome a → b ≡ result_unwrap_or a false → x ≡ from_bool b
+    → StoresFlag a v.number (v.first ∷ v.second ∷ x ∷ [])
+unfolding hold_of
+flag_stored (Ok b) e f g = rw (g, f, e, flag_is) (refl, refl)
+flag_stored (Err r) e f g = rw (g, f, e, flag_is) (refl, refl)
+
+-- what stands for the outcome of a refused round
+abbrev pub no_outcome : RoundOutcome
+no_outcome = record { cost = None; cut = false }
+
+pub round_stored_by : (a : Result RoundOutcome Refusal) {v : Verdict} {o : RoundOutcome} {some : Bool} {made cut : ℕ} {cost : Float} → v ≡ outcome a
+    → o ≡ result_unwrap_or a no_outcome → some ≡ is_some o.cost → made ≡ from_bool some → cut ≡ from_bool o.cut → cost ≡ unwrap_or o.cost (of_bits binary64 0)
+    → StoresRound a v.number (v.first ∷ v.second ∷ made ∷ cut ∷ []) (cost ∷ [])
 unfolding round_of
-round_moved {w = w} {r = r} {answer = answer} {cost = cost} e t f s =
-    subst (λ (x : RoundAnswer). StoresRound x r answer cost) (sym e) (λ counts. (as_stored passed _ t s.0 (s.1.0 ∙ ap (λ (x : ℕ). w.first ∷ w.second ∷ 1 ∷ x ∷ []) f), s.1.1))
-
-pub round_idle : {a : RoundAnswer} {cut : Bool} {w : Verdict} {k r : ℕ} {answer : List ℕ} {cost : List Float} → a ≡ round_answer.Idle cut → w ≡ passed
-    → k ≡ flag cut → (r ≡ w.number) × ((answer ≡ w.first ∷ w.second ∷ 0 ∷ k ∷ []) × (cost ≡ of_bits binary64 0 ∷ [])) → StoresRound a r answer cost
-unfolding round_of
-round_idle {w = w} {r = r} {answer = answer} {cost = cost} e t f s =
-    subst (λ (x : RoundAnswer). StoresRound x r answer cost) (sym e) (λ counts. (as_stored passed _ t s.0 (s.1.0 ∙ ap (λ (x : ℕ). w.first ∷ w.second ∷ 0 ∷ x ∷ []) f), s.1.1))
-
-pub round_refused : {a : RoundAnswer} {cause : Refusal} {w : Verdict} {r : ℕ} {answer : List ℕ} {cost : List Float} → a ≡ round_answer.Refused cause
-    → w ≡ (verdict_of cause) → (r ≡ w.number) × ((answer ≡ w.first ∷ w.second ∷ 0 ∷ 0 ∷ []) × (cost ≡ of_bits binary64 0 ∷ []))
-    → StoresRound a r answer cost
-unfolding round_of
-round_refused {cause = cause} {r = r} {answer = answer} {cost = cost} e t s =
-    subst (λ (x : RoundAnswer). StoresRound x r answer cost) (sym e) (λ counts. (as_stored (verdict_of cause) _ t s.0 s.1.0, s.1.1))
-
-pub root_accepted : {a : RootAnswer} {value : Float} → a ≡ root_answer.Value value → StoresRoot a 0 (value ∷ [])
-unfolding root_of
-root_accepted {value = value} e = subst (λ (x : RootAnswer). StoresRoot x 0 (value ∷ [])) (sym e) (refl, refl)
-
-pub root_refused : {a : RootAnswer} {cause : Refusal} {w : Verdict} → a ≡ root_answer.Refused cause → w ≡ (verdict_of cause) → StoresRoot a w.number (of_bits binary64 0 ∷ [])
-unfolding root_of
-root_refused {w = w} e t = subst (λ (x : RootAnswer). StoresRoot x w.number (of_bits binary64 0 ∷ [])) (sym e) (ap (λ (x : Verdict). x.number) t, refl)
+round_stored_by (Ok o) e f s m k c = rw (c, k, m, s, f, e, made_is, flag_is, flag_is, cost_is) (λ counts. ((refl, refl), refl))
+round_stored_by (Err r) e f s m k c = rw (c, k, m, s, f, e) (λ counts. ((refl, refl), refl))
 
 -- ---- what is stored of an answer is stored of the definition that it equals, and so is the buffer
 
-solve_left : (a : SolveAnswer) (counts : List ℕ) → counts ≡ (solve_of a counts).counts
+solve_left : (a : Result ℕ Refusal) (counts : List ℕ) → counts ≡ (solve_of a counts).counts
 unfolding solve_of
-solve_left (solve_answer.Moves moves) counts = refl
-solve_left (solve_answer.Refused r) counts = refl
+solve_left (Ok moves) counts = refl
+solve_left (Err r) counts = refl
 
-pub solve_exported : (a : SolveAnswer) {counts : List ℕ} {s : Solve} {r : ℕ} {answer : List ℕ} → StoresSolve a r answer → solve_of a counts ≡ s
+pub solve_exported : (a : Result ℕ Refusal) {counts : List ℕ} {s : Solve} {r : ℕ} {answer : List ℕ} → StoresNumber a r answer → solve_of a counts ≡ s
     → (r ≡ s.verdict.number) × (answer ≡ solve_stored s) × (counts ≡ s.counts)
-solve_exported a {counts} t e =
-    ((t counts).0 ∙ ap (λ (x : Solve). x.verdict.number) e, (t counts).1 ∙ ap solve_stored e, solve_left a counts ∙ ap (λ (x : Solve). x.counts) e)
+solve_exported a {counts} t e = (
+  (t.of_solve counts).0 ∙ ap (λ (x : Solve). x.verdict.number) e,
+  (t.of_solve counts).1 ∙ ap solve_stored e,
+  solve_left a counts ∙ ap (λ (x : Solve). x.counts) e,
+)
 
-round_left : (a : RoundAnswer) (counts : List ℕ) → counts ≡ (round_of a counts).counts
+round_left : (a : Result RoundOutcome Refusal) (counts : List ℕ) → counts ≡ (round_of a counts).counts
 unfolding round_of
-round_left (round_answer.Moved cost cut) counts = refl
-round_left (round_answer.Idle cut) counts = refl
-round_left (round_answer.Refused r) counts = refl
+round_left (Ok o) counts = refl
+round_left (Err r) counts = refl
 
-pub round_exported : (a : RoundAnswer) {counts : List ℕ} {s : Round} {r : ℕ} {answer : List ℕ} {cost : List Float} → StoresRound a r answer cost
+pub round_exported : (a : Result RoundOutcome Refusal) {counts : List ℕ} {s : Round} {r : ℕ} {answer : List ℕ} {cost : List Float} → StoresRound a r answer cost
     → round_of a counts ≡ s → (r ≡ s.verdict.number) × (answer ≡ round_stored s) × (cost ≡ cost_of s.move ∷ []) × (counts ≡ s.counts)
 round_exported a {counts} t e = (
   (t counts).0.0 ∙ ap (λ (x : Round). x.verdict.number) e,
@@ -131,28 +89,31 @@ round_exported a {counts} t e = (
   round_left a counts ∙ ap (λ (x : Round). x.counts) e,
 )
 
-pub hold_exported : (a : HoldAnswer) {s : Hold} {r : ℕ} {answer : List ℕ} → StoresHold a r answer → hold_of a ≡ s → (r ≡ s.verdict.number) × (answer ≡ hold_stored s)
+pub hold_exported : (a : Result Bool Refusal) {s : Hold} {r : ℕ} {answer : List ℕ} → StoresFlag a r answer → hold_of a ≡ s → (r ≡ s.verdict.number) × (answer ≡ hold_stored s)
 hold_exported a t e = (t.0 ∙ ap (λ (x : Hold). x.verdict.number) e, t.1 ∙ ap hold_stored e)
 
-pub energy_exported : (a : EnergyAnswer) {s : Energy} {r : ℕ} {answer : List ℕ} {sum : List Float} → StoresEnergy a r answer sum → energy_of a ≡ s
+pub energy_exported : (a : Result Float Refusal) {s : Energy} {r : ℕ} {answer : List ℕ} {sum : List Float} → StoresSum a r answer sum → energy_of a ≡ s
     → (r ≡ s.verdict.number) × (answer ≡ energy_stored s) × (sum ≡ s.total ∷ [])
 energy_exported a t e =
     (t.0.0 ∙ ap (λ (x : Energy). x.verdict.number) e, t.0.1 ∙ ap energy_stored e, t.1 ∙ ap (λ (x : Energy). x.total ∷ []) e)
 
-pub root_exported : (a : RootAnswer) {s : Answer Float} {r : ℕ} {root : List Float} → StoresRoot a r root → root_of a ≡ s → (r ≡ (verdict s).number) × (root ≡ root_value s ∷ [])
+pub root_exported : (a : Result Float Refusal) {s : Answer Float} {r : ℕ} {root : List Float} → StoresRoot a r root → answered a ≡ s → (r ≡ (verdict s).number) × (root ≡ root_value s ∷ [])
 root_exported a t e = (t.0 ∙ ap (λ (x : Answer Float). (verdict x).number) e, t.1 ∙ ap (λ (x : Answer Float). root_value x ∷ []) e)
 
-grid_left : (a : GridAnswer) (out : List Float) → out ≡ (outcome_of a out).out
+grid_left : (a : Result ℕ Refusal) (out : List Float) → out ≡ (outcome_of a out).out
 unfolding outcome_of
-grid_left (grid_answer.Made quads) out = refl
-grid_left (grid_answer.Refused r) out = refl
+grid_left (Ok quads) out = refl
+grid_left (Err r) out = refl
 
-pub grid_exported : (a : GridAnswer) {out : List Float} {s : Outcome} {r : ℕ} {answer : List ℕ} → StoresGrid a r answer → outcome_of a out ≡ s
+pub grid_exported : (a : Result ℕ Refusal) {out : List Float} {s : Outcome} {r : ℕ} {answer : List ℕ} → StoresNumber a r answer → outcome_of a out ≡ s
     → (r ≡ s.verdict.number) × (answer ≡ grid_stored s) × (out ≡ s.out)
-grid_exported a {out} t e =
-    ((t out).0 ∙ ap (λ (x : Outcome). x.verdict.number) e, (t out).1 ∙ ap grid_stored e, grid_left a out ∙ ap (λ (x : Outcome). x.out) e)
+grid_exported a {out} t e = (
+  (t.of_grid out).0 ∙ ap (λ (x : Outcome). x.verdict.number) e,
+  (t.of_grid out).1 ∙ ap grid_stored e,
+  grid_left a out ∙ ap (λ (x : Outcome). x.out) e,
+)
 
-pub mesh_exported : (a : GridAnswer) {points : List Float} {cells : List ℕ} {s : Mesh} {r : ℕ} {answer : List ℕ} → StoresGrid a r answer
+pub mesh_exported : (a : Result ℕ Refusal) {points : List Float} {cells : List ℕ} {s : Mesh} {r : ℕ} {answer : List ℕ} → StoresNumber a r answer
     → mesh_of a points cells ≡ s
     → (r ≡ s.grid.verdict.number) × (answer ≡ grid_stored s.grid) × (points ≡ s.grid.out) × (cells ≡ s.cells)
 unfolding mesh_of

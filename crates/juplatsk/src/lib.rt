@@ -1,5 +1,6 @@
 // The public functions of the libraries below, for callers in C and Rust. include/juplatsk.h says what each is lent and leaves. A lent list
 // is a pointer and a length there. Each function returns the refusal's number, 0 if the call is accepted.
+// stays: the C interface is of numbers, flags and lists, each a parameter, of all functions below
 #![tactic(auto)]
 
 mod answers;
@@ -20,9 +21,11 @@ ghost use Rattle.juplatsk.specs.Limit.{limit_told};
 ghost use Rattle.juplatsk.specs.Version.{version};
 ghost use Rattle.juplatsk.specs.Stored.{solve_stored, hold_stored, energy_stored, round_stored, grid_stored, cost_of, root_value};
 
-use crate::answers::{store_energy, store_grid, store_hold, store_root, store_round, store_solve};
+use crate::answers::{store_flag, store_number, store_root, store_round, store_sum};
 use crate::limit::search_limit;
 use crate::version::VERSION;
+use counts::ranges::Ranges;
+use curves::sides::Sides;
 
 #[unsafe(no_mangle)]
 pub extern "C" fn juplatsk_version() -> u32
@@ -45,7 +48,7 @@ pub extern "C" fn juplatsk_solve_counts(
 {
     let limit = search_limit(stated, limit);
     let solved = counts::solve_counts(regions, ideals, counts, limit);
-    store_solve(solved, answer)
+    store_number(solved, answer)
 }
 
 #[unsafe(no_mangle)]
@@ -82,8 +85,8 @@ pub extern "C" fn juplatsk_solve_counts_within(
         (result ≡ o.verdict.number) × (answer.new ≡ solve_stored o) × (counts.new ≡ o.counts) }
 {
     let limit = search_limit(stated, limit);
-    let solved = counts::solve_counts_within(regions, least, most, counts, limit);
-    store_solve(solved, answer)
+    let solved = counts::solve_counts_within(regions, Ranges { least, most }, counts, limit);
+    store_number(solved, answer)
 }
 
 #[unsafe(no_mangle)]
@@ -103,7 +106,7 @@ pub extern "C" fn juplatsk_round_within(
         × (cost.new ≡ cost_of o.move ∷ []) × (counts.new ≡ o.counts) }
 {
     let limit = search_limit(stated, limit);
-    let made = counts::round_within(regions, least, most, counts, limit);
+    let made = counts::round_within(regions, Ranges { least, most }, counts, limit);
     store_round(made, answer, cost)
 }
 
@@ -118,7 +121,7 @@ pub extern "C" fn juplatsk_energy(
         (result ≡ o.verdict.number) × (answer.new ≡ energy_stored o) × (sum.new ≡ o.total ∷ []) }
 {
     let total = counts::energy(counts, ideals);
-    store_energy(total, answer, sum)
+    store_sum(total, answer, sum)
 }
 
 #[unsafe(no_mangle)]
@@ -131,7 +134,7 @@ pub extern "C" fn juplatsk_constraints_hold(
         (result ≡ o.verdict.number) × (answer.new ≡ hold_stored o) }
 {
     let held = counts::constraints_hold(regions, counts);
-    store_hold(held, answer)
+    store_flag(held, answer)
 }
 
 #[unsafe(no_mangle)]
@@ -160,10 +163,20 @@ pub extern "C" fn juplatsk_coons_from_parameters(
         let o = coons_seamed bottom.now right.now top.now left.now s out.old in
         (result ≡ o.verdict.number) × (answer.new ≡ grid_stored o) × (out.new ≡ o.out) }
 {
-    let made = curves::coons::coons_from_parameters(
-        bottom, right, top, left, bottom_u, top_u, left_v, right_v, out,
-    );
-    store_grid(made, answer)
+    let curves = Sides {
+        bottom,
+        right,
+        top,
+        left,
+    };
+    let seams = Sides {
+        bottom: bottom_u,
+        right: right_v,
+        top: top_u,
+        left: left_v,
+    };
+    let made = curves::coons::coons_from_parameters(curves, seams, out);
+    store_number(made, answer)
 }
 
 #[unsafe(no_mangle)]
@@ -180,8 +193,14 @@ pub extern "C" fn juplatsk_coons_curves(
     ensures { let o = coons_quads bottom.now right.now top.now left.now n_u n_v out.old in
         (result ≡ o.verdict.number) × (answer.new ≡ grid_stored o) × (out.new ≡ o.out) }
 {
-    let made = curves::coons::coons_curves(bottom, right, top, left, n_u, n_v, out);
-    store_grid(made, answer)
+    let curves = Sides {
+        bottom,
+        right,
+        top,
+        left,
+    };
+    let made = curves::coons::coons_curves(curves, n_u, n_v, out);
+    store_number(made, answer)
 }
 
 #[unsafe(no_mangle)]
@@ -204,10 +223,20 @@ pub extern "C" fn juplatsk_lay_region(
         let o = lay region.now counts.now tile out.old in
         (result ≡ o.verdict.number) × (answer.new ≡ grid_stored o) × (out.new ≡ o.out) }
 {
-    let made = curves::lay::lay_region(
-        region, counts, breaks0, breaks1, breaks2, breaks3, bottom, right, top, left, out,
-    );
-    store_grid(made, answer)
+    let breaks = Sides {
+        bottom: breaks0,
+        right: breaks1,
+        top: breaks2,
+        left: breaks3,
+    };
+    let curves = Sides {
+        bottom,
+        right,
+        top,
+        left,
+    };
+    let made = curves::lay::lay_region(region, counts, breaks, curves, out);
+    store_number(made, answer)
 }
 
 #[unsafe(no_mangle)]
@@ -227,8 +256,14 @@ pub extern "C" fn juplatsk_mesh_tile_curves(
         (result ≡ o.grid.verdict.number) × (answer.new ≡ grid_stored o.grid)
         × (points.new ≡ o.grid.out) × (cells.new ≡ o.cells) }
 {
-    let made = mesh::tile::mesh_tile_curves(bottom, right, top, left, n_u, n_v, points, cells);
-    store_grid(made, answer)
+    let curves = Sides {
+        bottom,
+        right,
+        top,
+        left,
+    };
+    let made = mesh::tile::mesh_tile_curves(curves, n_u, n_v, points, cells);
+    store_number(made, answer)
 }
 
 #[unsafe(no_mangle)]
@@ -243,7 +278,7 @@ pub extern "C" fn juplatsk_coons_checked(
         (result ≡ o.verdict.number) × (answer.new ≡ grid_stored o) × (out.new ≡ o.out) }
 {
     let made = mesh::tile::coons_checked(boundary, n_u, n_v, out);
-    store_grid(made, answer)
+    store_number(made, answer)
 }
 
 #[unsafe(no_mangle)]
@@ -260,5 +295,5 @@ pub extern "C" fn juplatsk_mesh_tile(
         × (points.new ≡ o.grid.out) × (cells.new ≡ o.cells) }
 {
     let made = mesh::tile::mesh_tile(boundary, n_u, n_v, points, cells);
-    store_grid(made, answer)
+    store_number(made, answer)
 }

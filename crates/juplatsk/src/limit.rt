@@ -2,13 +2,9 @@
 ghost use Rattle.std.specs.Prelude.{◌≡◌};
 ghost use Rattle.juplatsk.specs.Limit.{limit_told};
 
-use counts::search_limit::SearchLimit;
-
-pub(crate) fn search_limit(stated: bool, limit: u32) -> SearchLimit
+// stays: C has no Option, so its callers say beside a limit whether there is one
+pub(crate) fn search_limit(stated: bool, limit: u32) -> Option<u32>
     ensures { result ≡ limit_told stated limit }
 {
-    if stated {
-        return SearchLimit::Expansions(limit);
-    }
-    SearchLimit::Default
+    if stated { Some(limit) } else { None }
 }

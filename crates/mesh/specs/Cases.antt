@@ -1,6 +1,6 @@
 -- 01's bench cases: what is asked, and what is answered and left, whole. A to F and H to L are those that 01 wants proved together; G, which runs, is among them too,
 -- and so are a few of 02's. Assumes nothing.
-use Rattle.std.specs.Prelude.{◌≡◌, true, false, List, [], ◌∷◌, ◌++◌, ℕ, ◌+◌, ◌*◌, length, replicate, negsuc, Float}
+use Rattle.std.specs.Prelude.{◌≡◌, true, false, List, Option, Some, None, [], ◌∷◌, ◌++◌, ℕ, ◌+◌, ◌*◌, length, replicate, negsuc, Float}
 use Rattle.std.specs.Float.{nan, fin, binary64}
 use Rattle.std.specs.Float.Ieee.{of_bits}
 use Rattle.base.specs.Refusal.{passed, refused}
@@ -8,8 +8,6 @@ use Rattle.regions.specs.Written.{region, alone}
 use Rattle.counts.specs.Cost.{real, Spacing, by, within}
 use Rattle.counts.specs.Solver.{none, made, expansions, Round, round, Solve, solve}
 use Rattle.counts.specs.Values.{max_limit}
-use Rattle.counts.specs.declared.search_limit.SearchLimit.{SearchLimit}
-use Rattle.counts.specs.declared.search_limit.SearchLimit.TheVariants.{Default, Expansions}
 use Rattle.floats.specs.Scalar.{nought, half, one}
 use Rattle.base.specs.Buffers.{tabulate}
 use Rattle.base.specs.Answers.{Answer, good}
@@ -38,8 +36,8 @@ pub record Breaks : Type 0 where
 
 pub data Case : Type 0 where
   -- regions, ideals of either kind, counts lent, limit
-  solved : List ℕ → Spacing → List ℕ → SearchLimit → Solve → Case
-  moved : List ℕ → Spacing → List ℕ → SearchLimit → Round → Case
+  solved : List ℕ → Spacing → List ℕ → Option ℕ → Solve → Case
+  moved : List ℕ → Spacing → List ℕ → Option ℕ → Round → Case
   -- n_u, n_v, output lent
   gridded : Tile → ℕ → ℕ → List Float → Outcome → Case
   -- output lent
@@ -71,8 +69,8 @@ All_hold (c ∷ cs) = Holds c × All_hold cs
 
 -- ---- A to G: one count more is lent than is needed; 02: "Callers that relied on the old value state it themselves (..) and the bench table"
 
-abbrev pub old_limit : SearchLimit
-old_limit = Expansions 100000
+abbrev pub old_limit : Option ℕ
+old_limit = Some 100000
 
 abbrev pub reals : List ℕ → List Float
 reals [] = []
@@ -171,14 +169,14 @@ case_J = seamed square (seams early late early late) lent (record { verdict = re
 -- ---- K: "a round from count 0 on a free edge (no region) with ideal 1, limit 0: unchanged and cut; limit 1: count 1, not cut"
 
 abbrev pub case_K_turned_back : Case
-case_K_turned_back = moved [] (by (real 1 ∷ [])) (0 ∷ []) (Expansions 0) (record { verdict = passed; move = none; cut = true; counts = 0 ∷ [] })
+case_K_turned_back = moved [] (by (real 1 ∷ [])) (0 ∷ []) (Some 0) (record { verdict = passed; move = none; cut = true; counts = 0 ∷ [] })
 
 -- the move costs -1
 abbrev pub minus_one : Float
 minus_one = of_bits binary64 0xbff0_0000_0000_0000
 
 abbrev pub case_K_made : Case
-case_K_made = moved [] (by (real 1 ∷ [])) (0 ∷ []) (Expansions 1) (record { verdict = passed; move = made minus_one; cut = false; counts = 1 ∷ [] })
+case_K_made = moved [] (by (real 1 ∷ [])) (0 ∷ []) (Some 1) (record { verdict = passed; move = made minus_one; cut = false; counts = 1 ∷ [] })
 
 -- ---- L: "root of 2^-1074 is 2^-537"; `negsuc n` is -(n + 1)
 
@@ -192,22 +190,22 @@ from_to least most = within (reals least) (reals most)
 
 -- "An edge costs nothing while its count lies from least to most": a free edge from 2 to 5 gets 2
 abbrev pub case_least_met : Case
-case_least_met = solved [] (from_to (2 ∷ []) (5 ∷ [])) (lent_counts 1) Default (record { verdict = passed; moves = 2; counts = 2 ∷ 7 ∷ [] })
+case_least_met = solved [] (from_to (2 ∷ []) (5 ∷ [])) (lent_counts 1) None (record { verdict = passed; moves = 2; counts = 2 ∷ 7 ∷ [] })
 
 -- bottom 3 to 5 and top 1 to 3, right 1 to 2 and left 2 to 4: both pairs meet where the ranges do
 abbrev pub case_ranges_meet : Case
 case_ranges_meet =
-    solved (region (alone 0) (alone 1) (alone 2) (alone 3)) (from_to (3 ∷ 1 ∷ 1 ∷ 2 ∷ []) (5 ∷ 2 ∷ 3 ∷ 4 ∷ [])) (lent_counts 4) Default
+    solved (region (alone 0) (alone 1) (alone 2) (alone 3)) (from_to (3 ∷ 1 ∷ 1 ∷ 2 ∷ []) (5 ∷ 2 ∷ 3 ∷ 4 ∷ [])) (lent_counts 4) None
     (record { verdict = passed; moves = 5; counts = 3 ∷ 2 ∷ 3 ∷ 2 ∷ 7 ∷ [] })
 
 -- inside its range an edge is left alone
 abbrev pub case_inside : Case
-case_inside = moved [] (from_to (2 ∷ []) (5 ∷ [])) (4 ∷ []) (Expansions 1) (record { verdict = passed; move = none; cut = false; counts = 4 ∷ [] })
+case_inside = moved [] (from_to (2 ∷ []) (5 ∷ [])) (4 ∷ []) (Some 1) (record { verdict = passed; move = none; cut = false; counts = 4 ∷ [] })
 
 -- "A least above its most is refused (..) under 35, with the lowest edge"
 abbrev pub case_reversed : Case
 case_reversed =
-    solved [] (from_to (1 ∷ 3 ∷ 3 ∷ []) (1 ∷ 2 ∷ 2 ∷ [])) (lent_counts 3) Default (record { verdict = refused 35 1 0; moves = 0; counts = lent_counts 3 })
+    solved [] (from_to (1 ∷ 3 ∷ 3 ∷ []) (1 ∷ 2 ∷ 2 ∷ [])) (lent_counts 3) None (record { verdict = refused 35 1 0; moves = 0; counts = lent_counts 3 })
 
 -- ---- 02, "Longer hedges": "A side now has 32 places, so a region record is 132 numbers of 16 bits"
 
@@ -222,12 +220,12 @@ last_cost = of_bits binary64 0xbff0_0400_0000_0000
 -- the last place is read as the others are: only edge 31 has a piece too few, and gets it with the edge opposite; two entries a search are enough for that
 abbrev pub case_last_place : Case
 case_last_place =
-    moved long_hedge (by (reals (replicate 32 1 ++ 32 ∷ []))) (replicate 31 1 ++ 0 ∷ 31 ∷ []) (Expansions 2)
+    moved long_hedge (by (reals (replicate 32 1 ++ 32 ∷ []))) (replicate 31 1 ++ 0 ∷ 31 ∷ []) (Some 2)
     (record { verdict = passed; move = made last_cost; cut = true; counts = replicate 32 1 ++ 32 ∷ [] })
 
 -- "broken": a round on regions that are not let by
 abbrev pub turned_away : List ℕ → Case
-turned_away regions = moved regions (by (real 1 ∷ [])) (0 ∷ []) (Expansions 1) (record { verdict = refused 1 0 0; move = none; cut = false; counts = 0 ∷ [] })
+turned_away regions = moved regions (by (real 1 ∷ [])) (0 ∷ []) (Some 1) (record { verdict = refused 1 0 0; move = none; cut = false; counts = 0 ∷ [] })
 
 abbrev pub case_side_of_33 : Case
 case_side_of_33 = turned_away (33 ∷ replicate 131 0)
@@ -239,19 +237,19 @@ case_record_of_68 = turned_away (replicate 68 0)
 -- ---- 02, "A lower search limit unless stated"
 
 -- an edge that wants one piece, counts 9 and 7 lent
-abbrev pub free_edge : SearchLimit → Solve → Case
+abbrev pub free_edge : Option ℕ → Solve → Case
 free_edge limit o = solved [] (by (real 1 ∷ [])) (lent_counts 1) limit o
 
 abbrev pub case_unstated : Case
-case_unstated = free_edge Default (record { verdict = passed; moves = 1; counts = 1 ∷ 7 ∷ [] })
+case_unstated = free_edge None (record { verdict = passed; moves = 1; counts = 1 ∷ 7 ∷ [] })
 
 -- 0 is a limit, and not none: each search is turned back at once
 abbrev pub case_limit_0 : Case
-case_limit_0 = free_edge (Expansions 0) (record { verdict = passed; moves = 0; counts = 0 ∷ 7 ∷ [] })
+case_limit_0 = free_edge (Some 0) (record { verdict = passed; moves = 0; counts = 0 ∷ 7 ∷ [] })
 
 -- "tested as a round's"
 abbrev pub case_limit_over : Case
-case_limit_over = free_edge (Expansions (max_limit + 1)) (record { verdict = refused 10 0 0; moves = 0; counts = lent_counts 1 })
+case_limit_over = free_edge (Some (max_limit + 1)) (record { verdict = refused 10 0 0; moves = 0; counts = lent_counts 1 })
 
 -- ---- 02, "A strip with no marked edges"
 

@@ -3,12 +3,12 @@ use Rattle.std.specs.Prelude.{Bool, not, ◌&&◌, ◌||◌, cond, List, ◌++�
 use Rattle.std.specs.Float.{nan}
 use Rattle.std.specs.Float.Ieee.{eq}
 use Rattle.base.specs.declared.verdict.Verdict.{Verdict}
-use Rattle.base.specs.Refusal.{refused, verdict_of, refuse_if}
+use Rattle.base.specs.Refusal.{refused, refuse_if}
 use Rattle.base.specs.Tests.{if_passed}
 use Rattle.base.specs.Answers.{Answer, good, turned_away}
 use Rattle.curves.specs.Curve.{point_count}
-use Rattle.mesh.specs.declared.boundary.LoopAnswer.{LoopAnswer}
-use Rattle.mesh.specs.declared.boundary.LoopAnswer.TheVariants.{Corners, Quarters, Refused}
+use Rattle.mesh.specs.declared.boundary.Pieces.{Pieces}
+use Rattle.mesh.specs.declared.boundary.Pieces.TheVariants.{Corners, Quarters}
 
 -- ---- the points used
 
@@ -28,17 +28,8 @@ points_used points = cond (closes points) (point_count points - 1) (point_count 
 
 -- ---- what is refused: "1, 12"; what is not falls into four curves
 
--- of four points each is a corner, and "only a 4-point loop shares its corners"; of 8 or more each curve has a quarter, of so many points
-pub data Pieces : Type 0 where
-  corners : Pieces
-  quarters : ℕ → Pieces
-
--- 01's number, places and values of each case
-unfoldable pub loop_of : LoopAnswer → Answer Pieces
-unfolding verdict_of
-loop_of Corners = good corners
-loop_of (Quarters n) = good (quarters n)
-loop_of (Refused r) = turned_away (verdict_of r)
+-- Of four points each is a corner, and "only a 4-point loop shares its corners"; of 8 or more each curve has a quarter, of so many points. These
+-- are the code's own `Pieces`.
 
 -- "at most 4,096 points"
 abbrev pub max_loop : ℕ
@@ -51,7 +42,7 @@ size_test points = refuse_if (ltb max_loop (point_count points) || not (eqb (len
 -- "loop not 4 points, nor 8 or more in fours"
 unfoldable pub in_fours : ℕ → Answer Pieces
 in_fours used =
-    cond (eqb used 4) (good corners) (cond (leb 8 used && eqb (used % 4) 0) (good (quarters (used / 4))) (turned_away (refused 12 0 0)))
+    cond (eqb used 4) (good Corners) (cond (leb 8 used && eqb (used % 4) 0) (good (Quarters (used / 4))) (turned_away (refused 12 0 0)))
 
 unfoldable pub from_loop : List Float → Answer Pieces
 unfolding points_used size_test in_fours
@@ -65,5 +56,5 @@ points_from points k n = take (2 * n) (drop (2 * k) points)
 
 -- the curve k of four corners goes from the corner k to the next one, and after the last corner comes the first
 unfoldable pub piece : Pieces → List Float → ℕ → List Float
-piece corners points k = points_from points k 1 ++ points_from points ((k + 1) % 4) 1
-piece (quarters n) points k = points_from points (k * n) n
+piece Corners points k = points_from points k 1 ++ points_from points ((k + 1) % 4) 1
+piece (Quarters n) points k = points_from points (k * n) n

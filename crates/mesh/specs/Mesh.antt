@@ -1,17 +1,17 @@
 -- A tile's mesh: "x, y, +0.0 for each grid point, rows from the bottom, and four point indices (32 bits) for each quad, counter-clockwise from its lower left". Assumes nothing.
-use Rattle.std.specs.Prelude.{Bool, ◌&&◌, cond, List, [], ◌∷◌, ℕ, ◌+◌, ◌*◌, length, leb, ltb, Float}
+use Rattle.std.specs.Prelude.{Bool, Result, ◌&&◌, cond, List, [], ◌∷◌, ℕ, ◌+◌, ◌*◌, length, leb, ltb, Float}
 use Rattle.base.specs.declared.verdict.Verdict.{Verdict}
 use Rattle.base.specs.Refusal.{is_passed}
 use Rattle.base.specs.Buffers.{tabulate, concat_tabulate, splice}
 use Rattle.curves.specs.Coons.{Outcome, outcome_of, coons_curves_beside, coons_nodes_beside}
-use Rattle.curves.specs.declared.answer.GridAnswer.{GridAnswer}
+use Rattle.base.specs.declared.refusal.Refusal.{Refusal}
 
 -- what a call answers, with the points that it leaves as the output of the grid; and the indices that it leaves
 pub record Mesh : Type 0 where
   pub grid : Outcome
   pub cells : List ℕ
 
-unfoldable pub mesh_of : GridAnswer → List Float → List ℕ → Mesh
+unfoldable pub mesh_of : Result ℕ Refusal → List Float → List ℕ → Mesh
 unfolding outcome_of
 mesh_of answer points cells = record { grid = outcome_of answer points; cells = cells }
 

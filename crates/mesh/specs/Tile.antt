@@ -5,7 +5,8 @@ use Rattle.base.specs.Refusal.{refused, refuse_if}
 use Rattle.base.specs.Tests.{if_passed}
 use Rattle.base.specs.Answers.{Answer, good, turned_away}
 use Rattle.curves.specs.Coons.{Outcome, refusal, coons_quads}
-use Rattle.mesh.specs.Loop.{Pieces, from_loop, piece}
+use Rattle.mesh.specs.declared.boundary.Pieces.{Pieces}
+use Rattle.mesh.specs.Loop.{from_loop, piece}
 use Rattle.mesh.specs.Mesh.{Mesh, mesh_tile_curves}
 use Rattle.curves.specs.Limits.{max_cells}
 

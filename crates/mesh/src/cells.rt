@@ -14,17 +14,14 @@ fn write_row(n: u32, j: u32, from: usize, cells: &mut [u32])
 {
     let across = n + 1;
     let first = j * across;
-    let mut i = 0;
-    let mut at = from;
-    while i < n {
+    for i in 0..n {
         let low = first + i;
         let high = low + across;
+        let at = from + 4 * i as usize;
         cells[at] = low;
         cells[at + 1] = low + 1;
         cells[at + 2] = high + 1;
         cells[at + 3] = high;
-        i += 1;
-        at += 4;
     }
 }
 
@@ -32,25 +29,9 @@ pub(crate) fn write_cells(n: u32, m: u32, cells: &mut [u32])
     requires { CellsGiven n m cells.old }
     ensures { cells.new ≡ splice cells.old 0 (mesh_cells n m) }
 {
-    let width = 4 * (n as usize);
-    let mut j = 0;
-    let mut at = 0usize;
-    while j < m {
-        write_row(n, j, at, cells);
-        j += 1;
-        at += width;
-    }
-}
-
-// Writes k zeros.
-pub(crate) fn clear(k: usize, cells: &mut [u32])
-    requires { k ≤ length cells.old }
-    ensures { cells.new ≡ splice cells.old 0 (no_cells k) }
-{
-    let mut i = 0usize;
-    while i < k {
-        cells[i] = 0;
-        i += 1;
+    let width = 4 * n as usize;
+    for j in 0..m {
+        write_row(n, j, j as usize * width, cells);
     }
 }
 
@@ -59,10 +40,8 @@ pub(crate) fn clear(k: usize, cells: &mut [u32])
 pub(crate) fn zeroes(cause: Refusal) -> bool
     ensures { result ≡ zeroes (verdict_of cause) }
 {
-    match cause {
-        Refusal::LinesParallel(_, _) => true,
-        Refusal::CrossingOutside(_, _) => true,
-        Refusal::BadQuadArea(_, _) => true,
-        _ => false,
-    }
+    matches!(
+        cause,
+        Refusal::LinesParallel(..) | Refusal::CrossingOutside(..) | Refusal::BadQuadArea(..)
+    )
 }

@@ -10,6 +10,7 @@ pub const MAX_EDGES: usize = 256;
 pub const PLACES: u16 = 32;
 
 // Their number stands before them.
+// stays: C lends records as one list of numbers, so sides and records are found by their sizes, here and wherever one is read
 pub const SIDE_SIZE: usize = PLACES as usize + 1;
 
 pub const RECORD_SIZE: usize = 4 * SIDE_SIZE;
@@ -22,7 +23,7 @@ pub fn side<'a>(records: &'a [u16], k: u32) -> &'a [u16]
     if at >= records.len() {
         return &records[..0];
     }
-    let n = records[at] as usize;
+    let n = usize::from(records[at]);
     let start = at + 1;
     let end = start + n;
     if end > records.len() {
@@ -44,5 +45,5 @@ pub fn empty_pair(records: &[u16], k: u32) -> bool
 {
     let edges = side(records, k);
     let others = side(records, opposite(k as usize) as u32);
-    edges.len() == 0 && others.len() == 0
+    edges.is_empty() && others.is_empty()
 }

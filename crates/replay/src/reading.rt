@@ -1,295 +1,222 @@
-// A case's bytes, read by position. Every read is total: past the end of the case there are zeros, so no position needs a proof, and a
-// case that is cut off compares as different. The layout is that of compare/README.md.
-ghost use Rattle.std.specs.Prelude.{◌<◌, ◌≤◌};
-ghost use Rattle.replay.specs.Counting.{Counts};
+// A case's bytes, read in order. Every read is total: past the end of the case there are zeros, so no read needs a proof, and a case that is cut
+// off compares as different, since it doesn't end where its last value does. The layout is that of compare/README.md.
+ghost use Rattle.std.specs.Prelude.{◌<◌};
 
-use base::verdict::Verdict;
+use base::refusal::Refusal;
+use base::verdict::{Verdict, accepted};
 
-// The first position behind the operation.
-pub(crate) const INPUT: usize = 4;
-
-// No case reaches this far.
-const FAR: usize = 1_000_000_000;
 // No list of a case is this long.
 const LONG: u32 = 1_000_000;
+
 // The bit of the sign, and the pattern of infinity: without its sign, a pattern above it is a NaN's.
 const SIGN: u64 = 0x8000_0000_0000_0000;
 
 const INFINITY: u64 = 0x7ff0_0000_0000_0000;
 
-fn wide(byte: u8) -> u32
-    ensures { result < 256 }
-{
-    byte as u32
+// A case, and how far it is read.
+#[derive(Clone, Copy)]
+pub(crate) struct Case<'a> {
+    bytes: &'a [u8],
+    at: usize,
 }
 
-fn byte(case: &[u8], at: usize) -> u32
-    ensures { result < 256 }
-{
-    if at < case.len() { wide(case[at]) } else { 0 }
+// What a list of a case is made of.
+pub(crate) trait Value: Copy {
+    fn read(case: &mut Case) -> Self;
+
+    // Whether the two are the same to the bit.
+    fn is(self, other: Self) -> bool;
+
+    // What an output holds at index i before a call: no two values alike, and none that a call would write by chance.
+    fn lent(i: usize) -> Self;
 }
 
-// The position `by` bytes further.
-pub(crate) fn past(at: usize, by: usize) -> usize {
-    if at > FAR {
-        return at;
+impl Value for u16 {
+    fn read(case: &mut Case) -> u16 {
+        u16::from_le_bytes(case.take())
     }
-    if by > FAR {
-        return at;
+
+    fn is(self, other: u16) -> bool {
+        self == other
     }
-    at + by
+
+    fn lent(i: usize) -> u16 {
+        let k = i % 65536;
+        u16::MAX - k as u16
+    }
 }
 
-fn pair(case: &[u8], at: usize) -> u32
-    ensures { result < 65536 }
-{
-    let low = byte(case, at);
-    let high = byte(case, past(at, 1));
-    low + 256 * high
+impl Value for u32 {
+    fn read(case: &mut Case) -> u32 {
+        u32::from_le_bytes(case.take())
+    }
+
+    fn is(self, other: u32) -> bool {
+        self == other
+    }
+
+    fn lent(i: usize) -> u32 {
+        let k = i % 4294967296;
+        u32::MAX - k as u32
+    }
 }
 
-// A place of a record.
-fn place(case: &[u8], at: usize) -> u16 {
-    pair(case, at) as u16
+impl Value for f64 {
+    fn read(case: &mut Case) -> f64 {
+        float_of(u64::from_le_bytes(case.take()))
+    }
+
+    // Of equal numbers only the two zeros differ in their bits, and their inverses differ. All NaNs are one.
+    fn is(self, other: f64) -> bool {
+        if self.is_nan() {
+            return other.is_nan();
+        }
+        self == other && 1.0 / self == 1.0 / other
+    }
+
+    fn lent(i: usize) -> f64 {
+        -f64::from(u32::lent(i))
+    }
 }
 
-pub(crate) fn number(case: &[u8], at: usize) -> u32 {
-    let low = pair(case, at);
-    let high = pair(case, past(at, 2));
-    low + 65536 * high
-}
+// A number, of which 0 is false.
+impl Value for bool {
+    fn read(case: &mut Case) -> bool {
+        u32::read(case) != 0
+    }
 
-fn double(number: u32) -> u64
-    ensures { result < 4294967296 }
-{
-    number as u64
-}
+    fn is(self, other: bool) -> bool {
+        self == other
+    }
 
-fn bits(case: &[u8], at: usize) -> u64 {
-    let low = double(number(case, at));
-    let high = double(number(case, past(at, 4)));
-    low + 4294967296 * high
+    fn lent(_i: usize) -> bool {
+        false
+    }
 }
 
 // The f64 of a pattern. All NaNs are one.
 #[tactic(auto, using(std::proofs::lemmas::Float::not_nan_f64_bits))]
 fn float_of(pattern: u64) -> f64 {
     if pattern % SIGN > INFINITY {
-        return 0.0 / 0.0;
+        return f64::NAN;
     }
     f64::from_bits(pattern)
 }
 
-pub(crate) fn float(case: &[u8], at: usize) -> f64 {
-    float_of(bits(case, at))
-}
-
-pub(crate) fn flag(case: &[u8], at: usize) -> bool {
-    number(case, at) != 0
-}
-
-// The length of the list at `at`.
-fn list_length(case: &[u8], at: usize) -> usize
-    ensures { result ≤ 1000000 }
-{
-    let n = number(case, at);
-    if n > LONG { 0 } else { n as usize }
-}
-
-pub(crate) fn past_number(at: usize) -> usize {
-    past(at, 4)
-}
-
-pub(crate) fn past_float(at: usize) -> usize {
-    past(at, 8)
-}
-
-pub(crate) fn past_verdict(at: usize) -> usize {
-    past(at, 12)
-}
-
-pub(crate) fn past_places(case: &[u8], at: usize) -> usize {
-    past(at, 4 + 2 * list_length(case, at))
-}
-
-pub(crate) fn past_numbers(case: &[u8], at: usize) -> usize {
-    past(at, 4 + 4 * list_length(case, at))
-}
-
-pub(crate) fn past_floats(case: &[u8], at: usize) -> usize {
-    past(at, 4 + 8 * list_length(case, at))
-}
-
-fn least(a: usize, b: usize) -> usize
-    ensures { result ≤ b }
-{
-    if a < b { a } else { b }
-}
-
-// Puts the list of places at `at` to the start of `out`, and answers its length.
-pub(crate) fn places(case: &[u8], at: usize, out: &mut [u16]) -> usize
-    ensures { Counts result out.new }
-{
-    let n = least(list_length(case, at), out.len());
-    let mut from = past_number(at);
-    for slot in &mut out[..n] {
-        *slot = place(case, from);
-        from = past(from, 2);
+impl<'a> Case<'a> {
+    pub(crate) fn new(bytes: &'a [u8]) -> Case<'a> {
+        Case { bytes, at: 0 }
     }
-    n
-}
 
-pub(crate) fn numbers(case: &[u8], at: usize, out: &mut [u32]) -> usize
-    ensures { Counts result out.new }
-{
-    let n = least(list_length(case, at), out.len());
-    let mut from = past_number(at);
-    for slot in &mut out[..n] {
-        *slot = number(case, from);
-        from = past_number(from);
+    // The next N bytes.
+    pub(crate) fn take<const N: usize>(&mut self) -> [u8; N] {
+        let mut taken = [0; N];
+        for (i, byte) in taken.iter_mut().enumerate() {
+            *byte = self.byte(i);
+        }
+        self.at = self.at.saturating_add(N);
+        taken
     }
-    n
-}
 
-pub(crate) fn floats(case: &[u8], at: usize, out: &mut [f64]) -> usize
-    ensures { Counts result out.new }
-{
-    let n = least(list_length(case, at), out.len());
-    let mut from = past_number(at);
-    for slot in &mut out[..n] {
-        *slot = float(case, from);
-        from = past_float(from);
+    // The byte i further.
+    fn byte(&self, i: usize) -> u8 {
+        match self.bytes.get(self.at.saturating_add(i)) {
+            Some(byte) => *byte,
+            None => 0,
+        }
     }
-    n
-}
 
-// Whether the list of numbers at `at` is just `values`.
-pub(crate) fn is_numbers(case: &[u8], at: usize, values: &[u32]) -> bool {
-    if list_length(case, at) != values.len() {
-        return false;
+    pub(crate) fn next<T: Value>(&mut self) -> T {
+        T::read(self)
     }
-    let mut from = past_number(at);
-    for value in values {
-        if number(case, from) != *value {
+
+    // Whether the next value is this one.
+    pub(crate) fn is<T: Value>(&mut self, value: T) -> bool {
+        T::read(self).is(value)
+    }
+
+    // Whether the verdict and the value that come next are this answer: the value of a refusal is zero.
+    pub(crate) fn is_answer<T: Value + Default>(&mut self, answer: Result<T, Refusal>) -> bool {
+        let (verdict, value) = match answer {
+            Ok(value) => (accepted(), value),
+            Err(refusal) => (Verdict::from(refusal), T::default()),
+        };
+        self.is_verdict(verdict) && self.is(value)
+    }
+
+    pub(crate) fn is_verdict(&mut self, verdict: Verdict) -> bool {
+        let number = self.next();
+        let first = self.next();
+        let second = self.next();
+        verdict
+            == Verdict {
+                number,
+                first,
+                second,
+            }
+    }
+
+    // The length of the list that comes next.
+    fn length(&mut self) -> usize {
+        let n: u32 = self.next();
+        if n > LONG { 0 } else { n as usize }
+    }
+
+    // The list that comes next, put to the start of `out`: as much of it as there is room for.
+    pub(crate) fn list<'b, T: Value>(&mut self, out: &'b mut [T]) -> &'b mut [T] {
+        let n = self.length();
+        for i in 0..n {
+            let value = self.next();
+            if i < out.len() {
+                out[i] = value;
+            }
+        }
+        let room = out.len();
+        &mut out[..n.min(room)]
+    }
+
+    // Whether the list that comes next is just `values`.
+    pub(crate) fn is_list<T: Value>(&mut self, values: &[T]) -> bool {
+        if self.length() != values.len() {
             return false;
         }
-        from = past_number(from);
+        for value in values {
+            if !self.is(*value) {
+                return false;
+            }
+        }
+        true
     }
-    true
-}
 
-// Whether the verdict at `at` is this one.
-pub(crate) fn is_verdict(case: &[u8], at: usize, verdict: Verdict) -> bool {
-    let first_at = past_number(at);
-    let second_at = past_number(first_at);
-    if number(case, at) != verdict.number {
-        return false;
+    // The start of `out` as it is lent to a call, as long as the number that comes next says; none where that is more than there is room for.
+    pub(crate) fn lend<'b, T: Value>(&mut self, out: &'b mut [T]) -> Option<&'b mut [T]> {
+        let n = self.length();
+        if n > out.len() {
+            return None;
+        }
+        for (i, slot) in out.iter_mut().enumerate() {
+            *slot = T::lent(i);
+        }
+        Some(&mut out[..n])
     }
-    if number(case, first_at) != verdict.first {
-        return false;
-    }
-    number(case, second_at) == verdict.second
-}
 
-// Whether the f64 at `at` is x, to the bit: of equal numbers only the two zeros differ in their bits, and their inverses differ. All NaNs
-// are one.
-pub(crate) fn is_float(case: &[u8], at: usize, x: f64) -> bool {
-    let expected = float(case, at);
-    if x != x {
-        return expected != expected;
-    }
-    if x != expected {
-        return false;
-    }
-    1.0 / x == 1.0 / expected
-}
-
-// What an output holds at index i before a call: no two values alike, and none that a grid would have by chance.
-fn lent_number(i: usize) -> u32 {
-    let k = i % 4294967296;
-    u32::MAX - k as u32
-}
-
-fn lent_float(i: usize) -> f64 {
-    -(lent_number(i) as f64)
-}
-
-// Fills the start of `out` as it is lent to a call, and answers its length, which is the number at `at`.
-pub(crate) fn lend_floats(case: &[u8], at: usize, out: &mut [f64]) -> usize
-    ensures { Counts result out.new }
-{
-    let n = least(list_length(case, at), out.len());
-    for (i, slot) in out[..n].iter_mut().enumerate() {
-        *slot = lent_float(i);
-    }
-    n
-}
-
-pub(crate) fn lend_numbers(case: &[u8], at: usize, out: &mut [u32]) -> usize
-    ensures { Counts result out.new }
-{
-    let n = least(list_length(case, at), out.len());
-    for (i, slot) in out[..n].iter_mut().enumerate() {
-        *slot = lent_number(i);
-    }
-    n
-}
-
-// Whether x is what an output with so many values written from `from` on should hold at index i.
-fn is_left_float(case: &[u8], from: usize, written: usize, i: usize, x: f64) -> bool {
-    if i < written {
-        is_float(case, from, x)
-    } else {
-        x == lent_float(i)
-    }
-}
-
-fn is_left_number(case: &[u8], from: usize, written: usize, i: usize, x: u32) -> bool {
-    if i < written {
-        number(case, from) == x
-    } else {
-        x == lent_number(i)
-    }
-}
-
-// Whether an output that was lent with the length at `lent_at` has the list at `at` written to its start, and is else as it was lent.
-pub(crate) fn is_written_floats(case: &[u8], lent_at: usize, at: usize, values: &[f64]) -> bool {
-    let written = list_length(case, at);
-    if list_length(case, lent_at) != values.len() {
-        return false;
-    }
-    if written > values.len() {
-        return false;
-    }
-    let mut from = past_number(at);
-    for (i, value) in values.iter().enumerate() {
-        if !is_left_float(case, from, written, i, *value) {
+    // Whether an output has the list that comes next written to its start, and is else as it was lent.
+    pub(crate) fn is_written<T: Value>(&mut self, values: &[T]) -> bool {
+        let written = self.length();
+        if written > values.len() {
             return false;
         }
-        from = past_float(from);
-    }
-    true
-}
-
-pub(crate) fn is_written_numbers(case: &[u8], lent_at: usize, at: usize, values: &[u32]) -> bool {
-    let written = list_length(case, at);
-    if list_length(case, lent_at) != values.len() {
-        return false;
-    }
-    if written > values.len() {
-        return false;
-    }
-    let mut from = past_number(at);
-    for (i, value) in values.iter().enumerate() {
-        if !is_left_number(case, from, written, i, *value) {
-            return false;
+        for (i, value) in values.iter().enumerate() {
+            let expected = if i < written { self.next() } else { T::lent(i) };
+            if !value.is(expected) {
+                return false;
+            }
         }
-        from = past_number(from);
+        true
     }
-    true
-}
 
-// Whether the case ends at `at`.
-pub(crate) fn is_end(case: &[u8], at: usize) -> bool {
-    at == case.len()
+    // Whether the case ends here.
+    pub(crate) fn is_end(&self) -> bool {
+        self.at == self.bytes.len()
+    }
 }

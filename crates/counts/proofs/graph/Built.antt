@@ -14,12 +14,11 @@ use lib.Dec.{T, leb, ltb, eqb, leb→le, lt→ltb, ltb→lt}
 use lib.Ieee.Fits.{and_l, and_r}
 use Rattle.base.specs.Lists.{In, member, Distinct}
 use Rattle.base.specs.declared.verdict.Verdict.{Verdict}
-use Rattle.base.specs.Refusal.{passed, refused, outcome, verdict_of, then_test, refuse_if, is_passed}
+use Rattle.base.specs.Refusal.{passed, refused, verdict_of, then_test, refuse_if, is_passed}
 use Rattle.regions.specs.Region.{Constraint, places, region_count, constraint, holds, incidence, side_size, record_size, across}
 use Rattle.regions.specs.Accept.{records_whole, sides_fit, limits_test, overused_test, max_regions, max_edges}
 use Rattle.counts.specs.inner.Tables.{the_graph, no_constraint, edges_on, StandsOn, Tables, edge_slots}
 use Rattle.counts.specs.inner.Graph.{first_side, second_side, side_of, PairTested, Tested, Placed, Filled, MayBuild}
-use Rattle.base.specs.declared.refusal.Check.TheVariants.{Passed, Refused}
 use Rattle.base.specs.declared.refusal.Refusal.TheVariants.{EdgeOverused}
 use Rattle.counts.proofs.Accepted.{ConstraintOk, pairs_ok, overused_ok}
 use Rattle.base.proofs.BoolLaws.{T_or_not, clash, or_left, or_right, T_true, not_T_false, cond_yes, cond_no}
@@ -129,8 +128,8 @@ overused_from g e n h =
     ∙ ap (λ (k : ℕ). then_test (refuse_if (ltb 2 (length (incidence g e))) (refused 6 e 0)) (overused_test g k (n - (e + 1)))) (sym (add-one e))
 
 pub overused_here : (g : List Constraint) {e n : ℕ} → e < n → 2 < length (incidence g e)
-    → overused_test g e (n - e) ≡ outcome (Refused (EdgeOverused e))
-unfolding outcome verdict_of
+    → overused_test g e (n - e) ≡ verdict_of (EdgeOverused e)
+unfolding verdict_of
 overused_here g {e} {n} h l =
     overused_from g e n h
     ∙ ap (λ (v : Verdict). then_test v (overused_test g (e + 1) (n - (e + 1))))
@@ -143,8 +142,8 @@ overused_next g {e} {n} h l =
     ∙ ap (λ (v : Verdict). then_test v (overused_test g (e + 1) (n - (e + 1))))
     (cond_no (ltb 2 (length (incidence g e))) (refused 6 e 0) passed (λ t. let k = ltb→lt 2 (length (incidence g e)) t in omega arith))
 
-pub overused_done : (g : List Constraint) {e n : ℕ} → n ≤ e → overused_test g e (n - e) ≡ outcome Passed
-unfolding overused_test outcome
+pub overused_done : (g : List Constraint) {e n : ℕ} → n ≤ e → overused_test g e (n - e) ≡ passed
+unfolding overused_test
 overused_done g {e} {n} h = let q : n - e ≡ 0 = omega arith in ap (overused_test g e) q
 
 -- ---- the tables

@@ -12,6 +12,7 @@ use native.Mathlib.Omega.{arith}
 use lib.ListN.{length, get_or, replicate}
 use lib.Dec.{T, eqb, eqb→eq}
 use lib.Ieee.{Float}
+use Rattle.std.specs.Prelude.{Ok, Some, None}
 use Rattle.base.specs.Lists.{In, member}
 use Rattle.base.specs.Refusal.{passed, is_passed}
 use Rattle.regions.specs.Region.{places}
@@ -23,7 +24,6 @@ use Rattle.counts.specs.Solver.{made, round_of, round_made, round_by}
 use Rattle.counts.specs.inner.Tables.{the_graph, decoded, path_of, path_size}
 use Rattle.counts.specs.inner.Components.{Labels, Refreshed}
 use Rattle.counts.specs.inner.RoundContract.{Buffers, RoundInput, CanApply, MayApply, Priced, Ready, FoundIn, found_of}
-use Rattle.counts.specs.declared.answer.RoundAnswer.TheVariants.{Moved, Idle}
 use Rattle.counts.specs.declared.augment.FoundMove.{FoundMove}
 use Rattle.counts.proofs.augment.Applying.{apply_length}
 use Rattle.base.proofs.BoolLaws.{by_cases, or_split}
@@ -85,12 +85,12 @@ module _ {regions : List ℕ} {model : CostModel} {limit : ℕ} {counts best : L
       ap (λ (m : List Change). round_made r.cut m r.kept counts) (sym e ∙ sym (ap (λ (m : Found). m.best) f.is))
       ∙ ap (λ (m : Found). round_by m counts) f.is
 
-  pub round_idle : len ≡ 0 → round_of (Idle r.cut) counts ≡ round_by b counts
+  pub round_idle : len ≡ 0 → round_of (Ok (record { cost = None; cut = r.cut })) counts ≡ round_by b counts
   unfolding round_of
   round_idle e = answered [] (found_none e)
 
   pub round_moved : {after : List ℕ} → len ≢ 0 → after ≡ apply_changes (path_of len best) counts
-      → round_of (Moved r.kept r.cut) after ≡ round_by b counts
+      → round_of (Ok (record { cost = Some r.kept; cut = r.cut })) after ≡ round_by b counts
   unfolding round_of
   round_moved n e =
       let s = found_some n in
@@ -210,11 +210,12 @@ module _ {regions : List ℕ} {model : CostModel} {limit : ℕ} {start counts : 
     solve_ends e = ends regions model limit counts moves (max_moves - moves) (found_none f e) ∙ s.rest
 
     pub solve_stops : len ≢ 0 → moves ≡ max_moves
-        → record { moves = moves; counts = counts; more = true } ≡ solve_from (the_graph regions) model limit max_moves 0 start
+        → record { moves = max_moves; counts = counts; more = true } ≡ solve_from (the_graph regions) model limit max_moves 0 start
     solve_stops n h =
         let m = found_some f n in
         let q : 0 ≡ max_moves - moves = omega arith in
-        stops regions model limit counts moves m.0 m.1 m.2
+        ap (λ (k : ℕ). record { moves = k; counts = counts; more = true }) (sym h)
+        ∙ stops regions model limit counts moves m.0 m.1 m.2
         ∙ ap (λ (k : ℕ). solve_from (the_graph regions) model limit k moves counts) q
         ∙ s.rest
 

@@ -1,13 +1,11 @@
 -- What the tests and the sums of the code answer where no definition of a public function says it by itself (src/check.rt, src/constraint.rt).
 -- Assumes nothing.
-use Rattle.std.specs.Prelude.{◌≡◌, cond, List, ℕ, ◌≤◌, length, T, Float}
+use Rattle.std.specs.Prelude.{cond, List, ℕ, ◌≤◌, length, T, Option, Some, None}
 use Rattle.base.specs.declared.verdict.Verdict.{Verdict}
 use Rattle.regions.specs.Region.{places, record_size, region_count, side_sum}
 use Rattle.counts.specs.Cost.{Spacing, edges_of}
-use Rattle.regions.specs.Accept.{pairs_test, sides_fit, max_edges}
+use Rattle.regions.specs.Accept.{pairs_test, sides_fit}
 use Rattle.counts.specs.Solver.{round_order, solve_order, side_in_range}
-use Rattle.counts.specs.declared.constraint.SideSum.{SideSum}
-use Rattle.counts.specs.declared.constraint.SideSum.TheVariants as side_total
 
 -- a round's tests up to 6, which the code makes on its tables
 unfoldable pub round_head : ℕ → List ℕ → Spacing → List ℕ → ℕ → Verdict
@@ -21,16 +19,11 @@ unfolding solve_order pairs_test
 solve_head p regions spacing room limit =
     solve_order p regions spacing room limit (pairs_test p (edges_of spacing) 0 (region_count p regions) regions)
 
--- what the tests of the ranges ask: not too many edges, and both ends for each
-pub record MayTestRanges (least most : List Float) : Type 0 where
-  pub few : length least ≤ max_edges
-  pub most_long : length most ≡ length least
-
 -- what `region_holds` asks: a record stands there, and no side of it is longer than its places
 pub record RecordThere (records : List ℕ) : Type 0 where
   pub long : record_size places ≤ length records
   pub sides_fit : T (sides_fit places 1 records)
 
 -- `side_sum`: "Sum the integer counts on one side", unless an edge is out of range
-abbrev pub sum_of_side : List ℕ → List ℕ → SideSum
-sum_of_side counts side = cond (side_in_range counts side) (side_total.Total (side_sum counts side)) side_total.OutOfRange
+abbrev pub sum_of_side : List ℕ → List ℕ → Option ℕ
+sum_of_side counts side = cond (side_in_range counts side) (Some (side_sum counts side)) None

@@ -1,11 +1,11 @@
 -- What the functions of a round say of their tables and buffers: the records that their contracts cite. Assumes nothing.
-use Rattle.std.specs.Prelude.{◌≡◌, Bool, true, false, ◌||◌, cond, List, [], ℕ, zero, suc, ◌+◌, ◌-◌, ◌*◌, ◌/◌, ◌%◌, ◌≤◌, ◌<◌, length, get_or, replicate, T, eqb, ltb, Float}
+use Rattle.std.specs.Prelude.{◌≡◌, Bool, true, false, ◌||◌, cond, List, [], ℕ, zero, suc, ◌+◌, ◌-◌, ◌*◌, ◌/◌, ◌%◌, ◌≤◌, ◌<◌, length, get_or, replicate, T, eqb, ltb, Float, Option, Some, None}
 use Rattle.std.specs.Float.{nan, inf}
 use Rattle.base.specs.Lists.{In, Distinct}
 use Rattle.counts.specs.Move.{Change, edges, is_allowed, apply_changes}
 use Rattle.counts.specs.Cost.{CostModel, by_ranges}
 use Rattle.counts.specs.Search.{State, run}
-use Rattle.counts.specs.Round.{Found, improves, find_augmentation, Solved}
+use Rattle.counts.specs.Round.{Found, improves, find_augmentation, Solved, max_moves}
 use Rattle.base.specs.Refusal.{is_passed}
 use Rattle.regions.specs.Region.{places}
 use Rattle.regions.specs.Accept.{regions_test, max_edges}
@@ -15,7 +15,6 @@ use Rattle.counts.specs.inner.SearchContract.{no_marks}
 use Rattle.counts.specs.declared.search.SearchState.{SearchState}
 use Rattle.counts.specs.declared.augment.Choice.{Choice}
 use Rattle.counts.specs.declared.augment.FoundMove.{FoundMove}
-use Rattle.counts.specs.declared.solve.MovesMade.{MovesMade}
 use Rattle.counts.specs.Values.{max_count}
 
 -- ---- one search for each start
@@ -238,6 +237,7 @@ pub record Ready (regions : List ℕ) (model : CostModel) (limit : ℕ) (counts 
   pub priced : Priced model counts costs allowed
   pub remembered : Remembered regions costs allowed limit kept cut known
 
--- a solve's moves, with the counts that it leaves
-abbrev pub solved_of : MovesMade → List ℕ → Solved
-solved_of r counts = record { moves = r.moves; counts = counts; more = r.more }
+-- a solve's moves, or none if there is one more than are allowed; with the counts that it leaves
+abbrev pub solved_of : Option ℕ → List ℕ → Solved
+solved_of (Some moves) counts = record { moves = moves; counts = counts; more = false }
+solved_of None counts = record { moves = max_moves; counts = counts; more = true }

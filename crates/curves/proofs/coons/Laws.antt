@@ -15,9 +15,10 @@ use Rattle.base.specs.Refusal.{passed, refused, is_passed, then_test, refuse_if}
 use Rattle.base.proofs.BoolLaws.{not_T_false, T_true, by_truth}
 use Rattle.base.proofs.TestLaws.{then_left, then_right, then_both, not_refused, four_passed}
 use Rattle.base.specs.Buffers.{splice}
+use Rattle.curves.specs.declared.sides.Sides.{Sides}
 use Rattle.curves.specs.Boundary.{BoundaryCurves, boundary_of, checked_curves}
-use Rattle.curves.specs.inner.Curves.{Sides, ShortCurves}
-use Rattle.curves.specs.inner.Grids.{ShortSeams, TileShort, CellsGiven}
+use Rattle.curves.specs.inner.Curves.{ShortCurves}
+use Rattle.curves.specs.inner.Grids.{ShortSeams, TileShort, CellsFitIn}
 use Rattle.curves.specs.Seam.{uniform_parameters}
 use Rattle.curves.specs.Grid.{Seams, seams, n_u, n_v, needed}
 use Rattle.curves.specs.Coons.{Outcome, refusal, unless, seams_and_room_test, grid_stage_beside, patch_beside, patch}
@@ -40,7 +41,7 @@ curve_let_by points p = go (ltb max_curve (length points)) refl p
     go true e q = absurd q
     go false e q = ltb-false max_curve (length points) e
 
-pub curves_let_by : {p : Sides} → T (is_passed (curves_limit p.bottom p.right p.top p.left)) → ShortCurves max_curve p
+pub curves_let_by : {p : Sides (List Float)} → T (is_passed (curves_limit p.bottom p.right p.top p.left)) → ShortCurves max_curve p
 unfolding curves_limit
 curves_let_by {p} passed =
     let q = four_passed (curve_limit p.bottom) (curve_limit p.right) (curve_limit p.top) (curve_limit p.left) passed in
@@ -97,18 +98,18 @@ same_seams layout b r t l n m us vs out e f =
     ap (λ (x : List Float). patch layout b r t l (seams x x vs vs) out) e
     ∙ ap (λ (x : List Float). patch layout b r t l (seams (uniform_parameters n) (uniform_parameters n) x x) out) f
 
--- they are within their limits
-pub even_short : {p : Sides} {n m : ℕ} {us vs : List Float} → CellsGiven p n m → us ≡ uniform_parameters n → vs ≡ uniform_parameters m
-    → TileShort max_curve p (seams us us vs vs)
-even_short {n = n} {m = m} {us = us} {vs = vs} given e f =
-    let of_us : length us ≤ max_seam = omega (arith, ap length e ∙ length_even n, given.columns) in
-    let of_vs : length vs ≤ max_seam = omega (arith, ap length f ∙ length_even m, given.rows) in
-    record { curves = given.curves; seams = record { bottom = of_us; top = of_us; left = of_vs; right = of_vs } }
-
 -- such a seam is within its limit
 even_let_by : (n : ℕ) → n ≤ max_cells → T (is_passed (seam_limit (uniform_parameters n)))
 unfolding seam_limit
 even_let_by n h = rw (le-ltb max_seam (length (uniform_parameters n)) (omega (arith, length_even n))) tt
+
+-- nor are the seams of so many cells too long for a tile
+pub even_short : {p : Sides (List Float)} {n m : ℕ} {us vs : List Float} → CellsFitIn max_seam p n m → us ≡ uniform_parameters n → vs ≡ uniform_parameters m
+    → TileShort max_curve p (seams us us vs vs)
+even_short {n = n} {m = m} {us = us} {vs = vs} given e f =
+    let of_us : length us ≤ max_seam = omega (arith, ap length e ∙ length_even n, given.us_fit) in
+    let of_vs : length vs ≤ max_seam = omega (arith, ap length f ∙ length_even m, given.vs_fit) in
+    record { curves = given.curves; seams = record { bottom = of_us; top = of_us; left = of_vs; right = of_vs } }
 
 -- so limits that are tested before the seams are made need no further test
 pub even_within : (layout : Layout) (b r t l : List Float) (n m : ℕ) (out : List Float)

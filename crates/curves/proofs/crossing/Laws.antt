@@ -1,5 +1,5 @@
--- `logical_intersection` by its tests, one law for each way through. Assumes nothing.
-use mathlib.Core.Path.{◌≡◌, refl, sym, ap, ◌∙◌}
+-- `logical_intersection` where the lines are not parallel, and where it is not refused. Assumes nothing.
+use mathlib.Core.Path.{◌≡◌, sym, ap, ◌∙◌}
 use mathlib.Core.Bool.{Bool, true, false, ◌&&◌, cond}
 use Prim.Native.Nat.{ℕ}
 use lib.Dec.{T}
@@ -10,10 +10,6 @@ use Rattle.floats.specs.Scalar.{e_12, float_abs, clamp_unit, in_unit}
 use Rattle.curves.specs.Point.{point}
 use Rattle.curves.specs.Crossing.{denominator, crossing_u, crossing_v, inside_or_refused, logical_intersection}
 use Rattle.curves.specs.declared.point.Point.{Point}
-
-pub parallel : (a b c d : Float) (i j : ℕ) → lt (float_abs (denominator a b c d)) e_12 ≡ true → turned_away (refused 23 i j) ≡ logical_intersection a b c d i j
-unfolding logical_intersection
-parallel a b c d i j e = sym (ap (λ (p : Bool). cond p (turned_away (refused 23 i j)) (inside_or_refused (crossing_u a b c d) (crossing_v a b c d) i j)) e)
 
 pub not_parallel : (a b c d : Float) (i j : ℕ) → lt (float_abs (denominator a b c d)) e_12 ≡ false
     → inside_or_refused (crossing_u a b c d) (crossing_v a b c d) i j ≡ logical_intersection a b c d i j
@@ -31,12 +27,6 @@ by_tests u v i j p q e f =
 pub inside : (u v : Float) (i j : ℕ) {x y : Float} → x ≡ clamp_unit u → y ≡ clamp_unit v → in_unit u ≡ true → in_unit v ≡ true
     → good (point x y) ≡ inside_or_refused u v i j
 inside u v i j {y = y} h k e f = ap (λ (z : Float). good (point z y)) h ∙ ap (λ (z : Float). good (point (clamp_unit u) z)) k ∙ by_tests u v i j true true e f
-
-pub u_outside : (u v : Float) (i j : ℕ) → in_unit u ≡ false → turned_away (refused 24 i j) ≡ inside_or_refused u v i j
-u_outside u v i j e = by_tests u v i j false (in_unit v) e refl
-
-pub v_outside : (u v : Float) (i j : ℕ) → in_unit u ≡ true → in_unit v ≡ false → turned_away (refused 24 i j) ≡ inside_or_refused u v i j
-v_outside u v i j e f = by_tests u v i j true false e f
 
 -- ---- there is a crossing where no test refuses it
 

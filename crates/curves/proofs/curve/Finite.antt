@@ -1,7 +1,7 @@
 -- A curve whose whole length is finite has finite points: a sum, a difference, a square or a root of what is not finite is not finite either, and
 -- each point is an end of some segment. So the points of a curve need no look of their own where its length passes. Assumes nothing.
 use mathlib.Core.Path.{◌≡◌, refl, sym, ap, subst, ◌∙◌}
-use mathlib.Core.Bool.{Bool, true, not}
+use mathlib.Core.Bool.{true}
 use mathlib.Core.List.{List}
 use Prim.Native.Nat.{ℕ, zero, suc, ◌+◌, ◌-◌, ◌*◌, ◌/◌, ◌%◌, ◌<◌, ◌≤◌}
 use native.Mathlib.Nat.{add-zero, add-suc}
@@ -10,14 +10,14 @@ use lib.ListN.{length, get_or, drop}
 use lib.Dec.{T}
 use lib.Ieee.{Float, nan, binary64, add, sub, mul}
 use lib.Ieee.Fits.{and_l}
-use Rattle.base.specs.Refusal.{passed, refused, refuse_if}
+use Rattle.base.specs.Refusal.{passed}
 use Rattle.base.proofs.BoolLaws.{T_true, true_T}
 use Rattle.floats.specs.Scalar.{is_finite, is_positive}
-use Rattle.curves.specs.Curve.{point_count, point_at, distance, length_to, total_length, all_finite, total_test, curve_test}
+use Rattle.curves.specs.Curve.{point_count, point_at, distance, length_to, total_length, all_finite, curve_test}
 use Rattle.curves.specs.inner.Segments.{SoundLength}
 use Rattle.curves.specs.declared.point.Point.{Point}
 use Rattle.floats.proofs.scalar.Finite.{sum_first, sum_second, difference_first, difference_second, square_finite, root_finite}
-use Rattle.curves.proofs.curve.Laws.{finite_next, finite_end, measured}
+use Rattle.curves.proofs.curve.Laws.{finite_next, finite_end, good_length}
 
 -- ---- a distance
 
@@ -102,8 +102,6 @@ positive_finite x e = and_l (is_finite x) _ (true_T _ e)
 -- such a curve passes
 pub length_passes : (points : List Float) (side : ℕ) {total : Float} → 2 ≤ point_count points → SoundLength total (length points) → total ≡ total_length points
     → passed ≡ curve_test points side
-unfolding total_test
 length_passes points side {total} two s e =
-    let h = s.positive in
-    let t = positive_finite (total_length points) (sym (ap is_positive e) ∙ h) in
-    ap (λ (b : Bool). refuse_if (not b) (refused 15 side 0)) (sym h) ∙ measured points side two (points_finite points two t s.even) e
+    let t = positive_finite (total_length points) (sym (ap is_positive e) ∙ s.positive) in
+    good_length points side two (points_finite points two t s.even) e s.positive

@@ -1,5 +1,5 @@
 -- The halving does not depend on the number that bounds its steps, and goes one step as the code does. Assumes nothing.
-use mathlib.Core.Path.{◌≡◌, refl, sym, ap, ◌∙◌}
+use mathlib.Core.Path.{◌≡◌, refl, ap, ◌∙◌}
 use mathlib.Core.Bool.{Bool, true, false, cond}
 use Prim.Native.Nat.{ℕ, zero, suc, ◌+◌, ◌-◌, ◌/◌, ◌<◌, ◌≤◌}
 use native.Mathlib.Omega.{arith}
@@ -7,10 +7,6 @@ use lib.Dec.{ltb}
 use lib.Ieee.{Float, le}
 use borrow.Author.Tests.{ltb-true, lt-ltb, le-ltb}
 use Rattle.curves.specs.Curve.{ArcCurve, knot_count, length_at, halve, segment_at}
-
--- a comparison with a length that was read
-pub read : {x y : Float} {b : Bool} (t : Float) → x ≡ y → le x t ≡ b → le y t ≡ b
-read t e h = ap (λ (z : Float). le z t) (sym e) ∙ h
 
 -- either half is shorter
 narrower : (right : Bool) (lo hi : ℕ) → 1 < hi - lo → cond right hi ((lo + hi) / 2) - cond right ((lo + hi) / 2) lo < hi - lo

@@ -1,101 +1,90 @@
 -- The tests of one curve: the values one by one, and the chain of 13, 14, 15 by its tests; and its knots, one by one. Assumes nothing.
-use mathlib.Core.Path.{◌≡◌, refl, sym, ap, ◌∙◌}
-use mathlib.Core.Bool.{Bool, true, false, not, ◌&&◌}
+use mathlib.Core.Path.{◌≡◌, refl, sym, ap, subst, ◌∙◌}
+use mathlib.Core.Bool.{Bool, true, false, not, ◌&&◌, true≢false}
 use mathlib.Core.List.{List, [], ◌∷◌}
-use Prim.Native.Nat.{ℕ, suc, ◌+◌, ◌*◌, ◌<◌, ◌≤◌}
-use native.Mathlib.Nat.{mul_comm, zero-add}
+use Prim.Native.Nat.{ℕ, suc, ◌+◌, ◌-◌, ◌<◌, ◌≤◌}
+use native.Mathlib.Nat.{zero-add}
 use native.Mathlib.Numerals.{add-one}
 use native.Mathlib.Omega.{arith}
-use lib.ListN.{length, get_or, set, drop, drop_of_length-le}
+use lib.ListN.{length, get_or, drop, drop_of_length-le}
 use lib.Seq.{drop-cons}
 use lib.Dec.{ltb}
-use lib.Ieee.{Float, nan, binary64, add}
+use lib.Ieee.{Float, nan}
 use borrow.Author.Tests.{lt-ltb, le-ltb}
+use Rattle.std.proofs.Common.{◌↔◌}
+use Rattle.std.specs.Bool.{IsTrue}
+use Rattle.std.specs.List.{All}
+use Rattle.std.proofs.lemmas.List.Elements.{All-nil, All-cons, All-head, All-tail}
 use Rattle.base.specs.declared.verdict.Verdict.{Verdict}
-use Rattle.base.specs.Refusal.{refused, then_test, refuse_if}
-use Rattle.floats.specs.Scalar.{is_finite}
-use Rattle.base.specs.Buffers.{concat_tabulate, splice}
-use Rattle.curves.specs.Curve.{point_count, point_at, distance, length_to, total_length, knot_of, knot_values, arc_curve, knot_count, length_at}
+use Rattle.base.specs.Refusal.{passed, refused, then_test, refuse_if}
+use Rattle.base.proofs.BoolLaws.{by_truth}
+use Rattle.floats.specs.Scalar.{nought, is_finite, is_positive}
+use Rattle.curves.specs.Curve.{point_count, point_at, length_to, total_length, knot_of, arc_curve, knot_count, no_knot, knot, length_at}
 use Rattle.curves.specs.Curve.{all_finite, total_test, curve_test}
+use Rattle.curves.specs.inner.Segments.{next_knot}
 use Rattle.curves.specs.declared.point.Point.{Point}
-use Rattle.base.proofs.BufferLaws.{length_concat, getD_concat, splice_none, store_next, concat_step}
+use Rattle.curves.specs.declared.curve.Knot.{Knot}
+use Rattle.base.proofs.BufferLaws.{length_tabulate}
+use Rattle.curves.proofs.Filling.{at_index}
 
 -- ---- every value is finite
 
-finite_turn : (xs : List Float) (i : ℕ) (b : Bool) → i < length xs → is_finite (get_or xs i nan) ≡ b → all_finite (drop i xs) ≡ b && all_finite (drop (i + 1) xs)
+pub finite_next : (xs : List Float) (i : ℕ) → i < length xs → is_finite (get_or xs i nan) ≡ true → all_finite (drop i xs) ≡ all_finite (drop (i + 1) xs)
 unfolding all_finite
-finite_turn xs i b h e =
+finite_next xs i h e =
     ap all_finite (drop-cons xs i nan h)
     ∙ ap (λ (x : Bool). x && all_finite (drop (suc i) xs)) e
-    ∙ ap (λ (k : ℕ). b && all_finite (drop k xs)) (sym (add-one i))
-
-pub finite_next : (xs : List Float) (i : ℕ) → i < length xs → is_finite (get_or xs i nan) ≡ true → all_finite (drop i xs) ≡ all_finite (drop (i + 1) xs)
-finite_next xs i h e = finite_turn xs i true h e
-
-pub finite_not : (xs : List Float) (i : ℕ) → i < length xs → is_finite (get_or xs i nan) ≡ false → all_finite (drop i xs) ≡ false
-finite_not xs i h e = finite_turn xs i false h e
+    ∙ ap (λ (k : ℕ). all_finite (drop k xs)) (sym (add-one i))
 
 pub finite_end : (xs : List Float) (i : ℕ) → length xs ≤ i → all_finite (drop i xs) ≡ true
 unfolding all_finite
 finite_end xs i h = ap all_finite (drop_of_length-le xs h)
 
+-- the same, as the code asks for it
+abbrev Finite : Float → Type 0
+Finite x = IsTrue (is_finite x)
+
+of_all : (xs : List Float) → All Finite xs → all_finite xs ≡ true
+unfolding all_finite
+of_all [] h = refl
+of_all (x ∷ xs) h = rw (All-head Finite x xs h, of_all xs (All-tail Finite x xs h))
+
+to_all : (xs : List Float) → all_finite xs ≡ true → All Finite xs
+unfolding all_finite
+to_all [] e = All-nil Finite
+to_all (x ∷ xs) e = by_truth (is_finite x) (λ f. All-cons Finite x xs f (to_all xs (rw f at e))) (λ f. absurd (true≢false (sym e ∙ ap (λ (b : Bool). b && all_finite xs) f)))
+
+pub finite_if_all : (b : Bool) (xs : List Float) → (IsTrue b ↔ All Finite xs) → b ≡ all_finite xs
+finite_if_all true xs h = sym (of_all xs (h.0 refl))
+finite_if_all false xs h = by_truth (all_finite xs) (λ e. absurd (true≢false (sym (h.1 (to_all xs e))))) sym
+
 -- ---- the knots
 
--- one point further
-pub length_more : (points : List Float) (k : ℕ) {run step : Float} {p q : Point} → run ≡ length_to points k → p ≡ point_at points k
-    → q ≡ point_at points (k + 1) → step ≡ distance p q → add binary64 run step ≡ length_to points (k + 1)
+pub first_knot : (points : List Float) {p : Point} → p ≡ point_at points 0 → record { x = p.x; y = p.y; length = nought } ≡ knot_of points 0
 unfolding length_to
-length_more points k {step = step} {q = q} e f g h =
-    ap (λ (x : Float). add binary64 x step) e
-    ∙ ap (add binary64 (length_to points k)) (h ∙ ap (λ (x : Point). distance x q) f ∙ ap (distance (point_at points k)) (g ∙ ap (point_at points) (add-one k)))
-    ∙ sym (ap (length_to points) (add-one k))
+first_knot points e = ap (λ (p : Point). record { x = p.x; y = p.y; length = nought }) e
 
-abbrev pub knot_on : List Float → ℕ → List Float
-knot_on points k = knot_values (knot_of points k)
+further : (points : List Float) (k : ℕ) → next_knot (knot_of points k) (point_at points (suc k)) ≡ knot_of points (suc k)
+unfolding length_to
+further points k = refl
 
-knots_length : (points : List Float) (n : ℕ) → length (concat_tabulate (knot_on points) 0 n) ≡ 3 * n
-knots_length points n = length_concat (knot_on points) 3 0 n (λ i h. refl) ∙ mul_comm n 3
-
-pub length_arc : (points : List Float) → length (arc_curve points) ≡ 3 * point_count points
-unfolding arc_curve
-length_arc points = knots_length points (point_count points)
+-- the one after the knot before k
+pub knot_further : (points : List Float) (k : ℕ) {last next : Knot} {p : Point} → last ≡ knot_of points (k - 1) → 1 ≤ k → p ≡ point_at points k
+    → next ≡ next_knot last p → next ≡ knot_of points k
+knot_further points k e h f g =
+    let s : suc (k - 1) ≡ k = omega arith in
+    rw (g, e, f) (subst (λ (i : ℕ). next_knot (knot_of points (k - 1)) (point_at points i) ≡ knot_of points i) s (further points (k - 1)))
 
 pub knot_count_arc : (points : List Float) → knot_count (arc_curve points) ≡ point_count points
-knot_count_arc points = let l = length_arc points in omega (arith, l)
-
--- the knots of the first k points are written over d
-pub record KnotsTo (points : List Float) (from : ℕ) (d : List Float) (k : ℕ) (knots : List Float) : Type 0 where
-  pub written : knots ≡ splice d from (concat_tabulate (knot_on points) 0 k)
-
-pub no_knots : {points d : List Float} {from : ℕ} → KnotsTo points from d 0 d
-no_knots {d = d} {from = from} = record { written = splice_none d from }
-
--- a turn of the loop that writes them
-pub next_knot : {points d knots next : List Float} {from k at : ℕ} {p : Point} {run : Float} → KnotsTo points from d k knots → at ≡ from + 3 * k → at ≤ length d
-    → p ≡ point_at points k → run ≡ length_to points k → next ≡ splice knots at (p.x ∷ p.y ∷ run ∷ []) → KnotsTo points from d (k + 1) next
-next_knot {points} {d} {knots} {next} {from} {k} {at} {p} {run} o e h f g w =
-    let l = knots_length points k in
-    let here : p.x ∷ p.y ∷ run ∷ [] ≡ knot_on points k =
-    ap (λ (x : Point). x.x ∷ x.y ∷ run ∷ []) f ∙ ap (λ (x : Float). (point_at points k).x ∷ (point_at points k).y ∷ x ∷ []) g in
-    record { written = concat_step d from (knot_on points) knots k at next o.written (omega (arith, l, e)) h (w ∙ ap (splice knots at) here) }
-
-pub knots_done : {points d knots : List Float} {from k : ℕ} → KnotsTo points from d k knots → k ≡ point_count points → knots ≡ splice d from (arc_curve points)
 unfolding arc_curve
-knots_done {points} {d} {from = from} o e = o.written ∙ ap (λ (k : ℕ). splice d from (concat_tabulate (knot_on points) 0 k)) e
+knot_count_arc points = length_tabulate (knot_of points) 0 (point_count points)
 
-pub knot_stored : (d : List Float) (k : ℕ) (x y z : Float) → k + 3 ≤ length d → set (set (set d k x) (k + 1) y) (k + 2) z ≡ splice d k (x ∷ y ∷ z ∷ [])
-knot_stored d k x y z h =
-    let s0 = store_next d k [] d k x (splice_none d k) (omega arith) (omega arith) in
-    let s1 = store_next d k (x ∷ []) _ (k + 1) y s0 refl (omega arith) in
-    store_next d k (x ∷ y ∷ []) _ (k + 2) z s1 refl (omega arith)
-
--- the value r of the knot i
-pub in_arc : (points : List Float) (i r : ℕ) → i < point_count points → r < 3 → get_or (arc_curve points) (3 * i + r) nan ≡ get_or (knot_on points i) r nan
+pub knot_in_arc : (points : List Float) (i : ℕ) → i < point_count points → knot (arc_curve points) i ≡ knot_of points i
 unfolding arc_curve
-in_arc points i r h q = getD_concat (knot_on points) 3 0 (point_count points) i r nan (λ j. refl) h q ∙ ap (λ (x : ℕ). get_or (knot_on points x) r nan) (zero-add i)
+knot_in_arc points i h = at_index (knot_of points) 0 (point_count points) i no_knot h ∙ ap (knot_of points) (zero-add i)
 
 pub length_in_arc : (points : List Float) (i : ℕ) → i < point_count points → length_at (arc_curve points) i ≡ length_to points i
-length_in_arc points i h = in_arc points i 2 h (omega arith)
+length_in_arc points i h = ap (λ (k : Knot). k.length) (knot_in_arc points i h)
 
 -- ---- 13, 14, 15
 
@@ -117,6 +106,15 @@ too_short points side h = by_tests points side true _ _ (lt-ltb (point_count poi
 pub not_finite : (points : List Float) (side : ℕ) → 2 ≤ point_count points → all_finite points ≡ false → refused 14 side 0 ≡ curve_test points side
 not_finite points side h f = by_tests points side false false _ (le-ltb (point_count points) 2 h) f refl
 
-pub measured : (points : List Float) (side : ℕ) {total : Float} → 2 ≤ point_count points → all_finite points ≡ true → total ≡ total_length points
+measured : (points : List Float) (side : ℕ) {total : Float} → 2 ≤ point_count points → all_finite points ≡ true → total ≡ total_length points
     → total_test total side ≡ curve_test points side
 measured points side {total} h f g = by_tests points side false true total (le-ltb (point_count points) 2 h) f g
+
+module _ (points : List Float) (side : ℕ) {total : Float} (h : 2 ≤ point_count points) (f : all_finite points ≡ true) (g : total ≡ total_length points) where
+  pub bad_length : is_positive total ≡ false → refused 15 side 0 ≡ curve_test points side
+  unfolding total_test
+  bad_length e = ap (λ (b : Bool). refuse_if (not b) (refused 15 side 0)) (sym e) ∙ measured points side h f g
+
+  pub good_length : is_positive total ≡ true → passed ≡ curve_test points side
+  unfolding total_test
+  good_length e = ap (λ (b : Bool). refuse_if (not b) (refused 15 side 0)) (sym e) ∙ measured points side h f g

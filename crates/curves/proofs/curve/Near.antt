@@ -5,10 +5,9 @@ use Prim.Native.Nat.{ℕ, zero, suc, ◌+◌, ◌-◌, ◌/◌, ◌<◌, ◌≤�
 use native.Mathlib.Omega.{arith}
 use borrow.Author.Tests.{ltb-true, ltb-false}
 use lib.Dec.{ltb}
-use lib.ListN.{length}
 use lib.Ieee.{Float, lt, le}
 use Rattle.curves.specs.Curve.{ArcCurve, knot_count, length_at, segment_at}
-use Rattle.curves.specs.inner.Segments.{Rising, Sampled, Hinted, InSegment}
+use Rattle.curves.specs.inner.Segments.{Rising, InSegment}
 use Rattle.floats.proofs.scalar.Order.{le_le, lt_le, lt_not_le}
 use Rattle.curves.proofs.curve.Halving.{halved, whole, step_right, step_left, stop}
 
@@ -61,12 +60,5 @@ module _ (c : ArcCurve) (target : Float) (rises : Rising c) where
     found_whole : k ≡ segment_at c target
     found_whole = let h = inside.has_end in sym (found (knot_count c - 1) 0 (knot_count c - 1) (omega arith) (omega arith) (omega arith) (omega arith)) ∙ whole c target
 
--- a hint in the list, and any hint
-pub usable : {c : ArcCurve} {near : ℕ} → Hinted c near → near < length c → Sampled c
-usable h l = record { two = h.two; rising = h.rising l }
-
-pub any_hint : {c : ArcCurve} {near : ℕ} → Sampled c → Hinted c near
-any_hint s = record { two = s.two; rising = λ l. s.rising }
-
-pub hinted : {c : ArcCurve} {target : Float} {k : ℕ} → Sampled c → InSegment c k target → k ≡ segment_at c target
-hinted {c} {target} {k} s inside = found_whole c target s.rising k inside
+pub hinted : {c : ArcCurve} {target : Float} {k : ℕ} → Rising c → InSegment c k target → k ≡ segment_at c target
+hinted {c} {target} {k} rises inside = found_whole c target rises k inside

@@ -7,20 +7,20 @@ use Prim.Native.Nat.{ℕ, zero, suc, ◌+◌, ◌-◌, ◌*◌, ◌<◌, ◌≤�
 use native.Mathlib.Nat.{le_trans, le_of_eq, mul-pos, mul_assoc, mul_right_comm, mul-le-mul_right, zero-mul}
 use native.Mathlib.Numerals.{add-one}
 use native.Mathlib.Omega.{arith}
-use borrow.Author.Tests.{ltb-false, le-ltb}
-use lib.Dec.{T, T_not, ltb}
+use borrow.Author.Tests.{le-ltb}
+use lib.Dec.{T, ltb}
 use lib.IntN.{ℤ}
 use lib.Ieee.{Float, nan, inf, fin, Format, binary64, up, down, round, sum, add, sub, mul, le, fits, of_bits}
 use lib.Ieee.Fits.{and_l, down_pos, round-fits}
 use lib.Ieee.Order.{round_mono}
 use lib.Ieee.Scale.{grid, finite, round_val, round_under}
 use Rattle.base.specs.Refusal.{refused, is_passed, then_test, refuse_if}
-use Rattle.base.proofs.BoolLaws.{T_true, not_T_false}
-use Rattle.base.proofs.TestLaws.{then_left, then_right, not_refused}
+use Rattle.base.proofs.BoolLaws.{T_true}
+use Rattle.base.proofs.TestLaws.{then_right, not_refused}
 use Rattle.floats.specs.Scalar.{nought, is_finite, is_positive}
 use Rattle.floats.specs.Root.{among, rounded, root}
 use Rattle.curves.specs.Curve.{point_count, point_at, distance, length_to, total_length, arc_curve, length_at, all_finite, total_test, curve_test}
-use Rattle.curves.specs.inner.Segments.{Rising, Sampled}
+use Rattle.curves.specs.inner.Segments.{Rising}
 use Rattle.curves.specs.declared.point.Point.{Point}
 use Rattle.floats.proofs.root.Amounts.{among_of}
 use Rattle.floats.proofs.scalar.Exact.{round_own}
@@ -164,7 +164,8 @@ total_finite total side t = and_l (is_finite total) (not (le total nought)) (not
     not_not true u = tt
     not_not false u = u
 
-rise_passed : (points : List Float) (side : ℕ) → T (is_passed (curve_test points side)) → Rising (arc_curve points)
+-- they rise on a curve that has passed
+pub rise_passed : (points : List Float) (side : ℕ) → T (is_passed (curve_test points side)) → Rising (arc_curve points)
 unfolding curve_test
 rise_passed points side t =
     let total = total_test (total_length points) side in
@@ -172,13 +173,3 @@ rise_passed points side t =
     let u : T (is_passed rest) = then_right (refuse_if (ltb (point_count points) 2) (refused 13 side 0)) rest t in
     let v : T (is_passed total) = then_right (refuse_if (not (all_finite points)) (refused 14 side 0)) total u in
     lengths_rise points (total_finite (total_length points) side v)
-
--- a curve that has passed can be asked for its points
-pub sampled : (points : List Float) (side : ℕ) → T (is_passed (curve_test points side)) → Sampled (arc_curve points)
-unfolding curve_test
-sampled points side t =
-    let short = ltb (point_count points) 2 in
-    let long : T (not short) = not_refused short 12 side 0 (then_left (refuse_if short (refused 13 side 0)) _ t) in
-    let two : 2 ≤ point_count points = ltb-false (point_count points) 2 (not_T_false short (T_not short long)) in
-    let n = knot_count_arc points in
-    record { two = omega (arith, n, two); rising = rise_passed points side t }

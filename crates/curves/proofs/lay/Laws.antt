@@ -5,24 +5,21 @@ use mathlib.Core.List.{List, [], ◌∷◌}
 use Prim.Native.Nat.{ℕ, zero, suc, ◌+◌, ◌/◌, ◌≤◌, ◌<◌}
 use native.Mathlib.Nat.{add-suc}
 use native.Mathlib.Omega.{arith}
-use lib.Dec.{T, ltb, eqb, ltb→lt, eqb→eq}
+use lib.Dec.{T, ltb, eqb, eqb→eq}
 use lib.Ieee.{Float}
-use lib.Ieee.Fits.{and_l, and_r}
 use lib.ListN.{length, get_or, set, take, drop, length-append}
 use lib.Seq.{take_all}
 use Rattle.base.specs.Lists.{all}
 use Rattle.base.specs.declared.verdict.Verdict.{Verdict}
-use Rattle.base.specs.Refusal.{passed, refused, verdict_of, outcome, is_passed, then_test, refuse_if}
+use Rattle.std.specs.Prelude.{Result, Err, IsErrAnd}
+use Rattle.base.specs.Refusal.{passed, refused, verdict_of, is_passed, then_test, refuse_if}
 use Rattle.regions.specs.Region.{places, side, side_sum, record_size, empty_pair}
 use Rattle.regions.specs.Accept.{sides_fit, limits_test}
-use Rattle.base.specs.declared.refusal.Check.{Check}
-use Rattle.base.specs.declared.refusal.Check.TheVariants.{Passed, Refused}
 use Rattle.base.specs.declared.refusal.Refusal.{Refusal}
 use Rattle.base.specs.declared.refusal.Refusal.TheVariants as because
 use Rattle.base.proofs.BoolLaws.{T_true, by_truth}
-use Rattle.base.proofs.TestLaws.{then_left, then_right, not_refused, four_passed, told_passed}
-use Rattle.regions.proofs.accept.Laws.{limits_passed, whole_sides, side_few}
-use Rattle.counts.proofs.SolverLaws.{side_short}
+use Rattle.base.proofs.TestLaws.{then_left, then_right, not_refused, four_passed}
+use Rattle.regions.proofs.accept.Laws.{limits_passed, whole_sides, side_short}
 use Rattle.base.proofs.Turns.{drop_at}
 use Rattle.base.specs.Buffers.{splice}
 use Rattle.curves.specs.Seam.{edge_values, seam_from, side_seam}
@@ -30,11 +27,11 @@ use Rattle.curves.specs.Grid.{Seams, seams}
 use Rattle.curves.specs.Coons.{Outcome, outcome_of, curves_limit, seam_limit, seams_limit, coons_from_parameters}
 use Rattle.curves.specs.Lay.{TileInput, counts_along, one_cell, seam_of, seams_of, record_test, edges_test, breaks_test, sides_test, lay_test, lay}
 use Rattle.curves.specs.declared.rows.Layout.TheVariants.{Quads}
-use Rattle.curves.specs.declared.answer.GridAnswer.TheVariants as grid_answer
 use Rattle.base.proofs.BufferLaws.{part_written, set_splice, take_splice}
-use Rattle.curves.proofs.stage.Laws.{turned_away, goes_on}
+use Rattle.curves.proofs.stage.Laws.{turned_away, exit_refuses, goes_on}
 use Rattle.curves.proofs.seam.Laws.{length_edge}
 use Rattle.curves.specs.Limits.{max_seam}
+use Rattle.curves.specs.declared.sides.Sides.{Sides}
 use Rattle.curves.specs.inner.Lays.{Counted, SidePassed, SideLaid, FourShort}
 
 -- ---- the seam of a side, by whether its pair is empty
@@ -106,11 +103,6 @@ module _ (counts edges d : List ℕ) where
   pub along_done : {out : List ℕ} (i : ℕ) → out ≡ splice d 0 (take i (counts_along counts edges)) → length edges ≤ i → out ≡ splice d 0 (counts_along counts edges)
   along_done i o h = o ∙ ap (splice d 0) (take_all i (counts_along counts edges) (let n = length_along counts edges in omega (arith, n)))
 
-pub edge_below : (n : ℕ) (edges : List ℕ) (i : ℕ) → T (all (λ (e : ℕ). ltb e n) edges) → i < length edges → get_or edges i 0 < n
-edge_below n [] i t h = absurd (omega arith)
-edge_below n (e ∷ edges) zero t h = ltb→lt e n (and_l (ltb e n) (all (λ (x : ℕ). ltb x n) edges) t)
-edge_below n (e ∷ edges) (suc i) t h = edge_below n edges i (and_r (ltb e n) (all (λ (x : ℕ). ltb x n) edges) t) (omega arith)
-
 -- ---- the tests, by what the code finds
 
 module _ (region : List ℕ) (n : ℕ) where
@@ -165,8 +157,7 @@ sides_short region n t k h =
     (not_not (eqb (length region) (record_size places))
     (not_refused (not (eqb (length region) (record_size places))) 0 0 0 (then_left v (limits_test places n region) t))) in
     let w = (limits_passed places n region (T_true (is_passed (limits_test places n region)) (then_right v (limits_test places n region) t))).1 in
-    side_short places region k (side_few places 0 region
-    (subst (λ (m : ℕ). T (sides_fit places (m / record_size places) region)) e (whole_sides places region w)) k h)
+    side_short places region (subst (λ (m : ℕ). T (sides_fit places (m / record_size places) region)) e (whole_sides places region w)) k h
 
 -- what they let by of the whole
 pub record Known (region : List ℕ) (n : ℕ) (f : TileInput) : Type 0 where
@@ -177,10 +168,10 @@ pub record Known (region : List ℕ) (n : ℕ) (f : TileInput) : Type 0 where
   pub side2 : SidePassed region n 2 f.breaks2
   pub side3 : SidePassed region n 3 f.breaks3
 
-pub known : {region : List ℕ} {n : ℕ} {f : TileInput} {c : Check} → c ≡ Passed → outcome c ≡ lay_test region n f → Known region n f
+pub known : {region : List ℕ} {n : ℕ} {f : TileInput} → passed ≡ lay_test region n f → Known region n f
 unfolding lay_test sides_test
-known {region} {n} {f} {c} passes o =
-    let t : T (is_passed (lay_test region n f)) = subst (λ (v : Verdict). T (is_passed v)) o (told_passed c passes) in
+known {region} {n} {f} o =
+    let t : T (is_passed (lay_test region n f)) = subst (λ (v : Verdict). T (is_passed v)) o tt in
     let limit = curves_limit f.bottom f.right f.top f.left in
     let s = then_right (record_test region n) (then_test limit (sides_test region n f)) t in
     let r = then_right limit (sides_test region n f) s in
@@ -207,14 +198,10 @@ module _ (s : Seams) where
   limits b t l r =
       then_test (refuse_if b (refused 1 0 0)) (then_test (refuse_if t (refused 1 0 0)) (then_test (refuse_if l (refused 1 0 0)) (refuse_if r (refused 1 0 0))))
 
-  limits_by : (n0 n2 n3 n1 : ℕ) → n0 ≡ length s.bottom → n2 ≡ length s.top → n3 ≡ length s.left → n1 ≡ length s.right
-      → limits (ltb max_seam n0) (ltb max_seam n2) (ltb max_seam n3) (ltb max_seam n1) ≡ seams_limit s
+  limits_by : (n : Sides ℕ) → n.bottom ≡ length s.bottom → n.top ≡ length s.top → n.left ≡ length s.left → n.right ≡ length s.right
+      → limits (ltb max_seam n.bottom) (ltb max_seam n.top) (ltb max_seam n.left) (ltb max_seam n.right) ≡ seams_limit s
   unfolding seams_limit seam_limit
-  limits_by n0 n2 n3 n1 e0 e2 e3 e1 =
-      ap (λ (x : ℕ). limits (ltb max_seam x) (ltb max_seam n2) (ltb max_seam n3) (ltb max_seam n1)) e0
-      ∙ ap (λ (x : ℕ). limits (ltb max_seam (length s.bottom)) (ltb max_seam x) (ltb max_seam n3) (ltb max_seam n1)) e2
-      ∙ ap (λ (x : ℕ). limits (ltb max_seam (length s.bottom)) (ltb max_seam (length s.top)) (ltb max_seam x) (ltb max_seam n1)) e3
-      ∙ ap (λ (x : ℕ). limits (ltb max_seam (length s.bottom)) (ltb max_seam (length s.top)) (ltb max_seam (length s.left)) (ltb max_seam x)) e1
+  limits_by n b t l r = rw (b, t, l, r)
 
   some_limit : (b t l r : Bool) → (b || (t || (l || r))) ≡ true → refused 1 0 0 ≡ limits b t l r
   some_limit true t l r h = refl
@@ -224,50 +211,52 @@ module _ (s : Seams) where
   some_limit false false false false h = absurd (true≢false (sym h))
 
   -- one of the seams is too long
-  limit_passed : (n0 n2 n3 n1 : ℕ) → n0 ≡ length s.bottom → n2 ≡ length s.top → n3 ≡ length s.left → n1 ≡ length s.right
-      → (ltb max_seam n0 || (ltb max_seam n2 || (ltb max_seam n3 || ltb max_seam n1))) ≡ true → refused 1 0 0 ≡ seams_limit s
-  limit_passed n0 n2 n3 n1 e0 e2 e3 e1 h =
-      some_limit (ltb max_seam n0) (ltb max_seam n2) (ltb max_seam n3) (ltb max_seam n1) h ∙ limits_by n0 n2 n3 n1 e0 e2 e3 e1
+  limit_passed : (n : Sides ℕ) → n.bottom ≡ length s.bottom → n.top ≡ length s.top → n.left ≡ length s.left → n.right ≡ length s.right
+      → (ltb max_seam n.bottom || (ltb max_seam n.top || (ltb max_seam n.left || ltb max_seam n.right))) ≡ true → refused 1 0 0 ≡ seams_limit s
+  limit_passed n b t l r h =
+      some_limit (ltb max_seam n.bottom) (ltb max_seam n.top) (ltb max_seam n.left) (ltb max_seam n.right) h ∙ limits_by n b t l r
 
 -- ---- lay's answer, by its tests
+
+-- each side is laid in its buffer
+pub record SidesLaid (region counts : List ℕ) (f : TileInput) (a : Sides (List Float)) (n : Sides ℕ) : Type 0 where
+  pub bottom : SideLaid region counts 0 f.breaks0 a.bottom n.bottom
+  pub right : SideLaid region counts 1 f.breaks1 a.right n.right
+  pub top : SideLaid region counts 2 f.breaks2 a.top n.top
+  pub left : SideLaid region counts 3 f.breaks3 a.left n.left
 
 module _ (region counts : List ℕ) (f : TileInput) (out : List Float) where
   abbrev grid_by : Seams → Outcome
   grid_by s = coons_from_parameters Quads f.bottom f.right f.top f.left s out
 
-  pub lay_refused : {c : Check} {cause : Refusal} → c ≡ Refused cause → outcome c ≡ lay_test region (length counts) f
-      → outcome_of (grid_answer.Refused cause) out ≡ lay region counts f out
+  pub lay_refused : (o : Result ℕ Refusal) (r : Refusal) → IsErrAnd o (λ (e : Refusal). e ≡ r) → verdict_of r ≡ lay_test region (length counts) f
+      → outcome_of o out ≡ lay region counts f out
   unfolding lay
-  lay_refused e o = turned_away out (grid_by (seams_of region counts f)) e o
+  lay_refused o r h e = exit_refuses out (grid_by (seams_of region counts f)) o r h e
 
   laid : Known region (length counts) f → grid_by (seams_of region counts f) ≡ lay region counts f out
   unfolding lay
   laid k = goes_on out (grid_by (seams_of region counts f)) (lay_test region (length counts) f) (T_true (is_passed (lay_test region (length counts) f)) k.passed)
 
   -- once its tests are passed and its sides are laid
-  module _ (k : Known region (length counts) f) {a0 a2 a3 a1 : List Float} {n0 n2 n3 n1 : ℕ}
-      (bottom : SideLaid region counts 0 f.breaks0 a0 n0) (top : SideLaid region counts 2 f.breaks2 a2 n2)
-      (left : SideLaid region counts 3 f.breaks3 a3 n3) (right : SideLaid region counts 1 f.breaks1 a1 n1) where
-    pub laid_by : {x : Outcome} → FourShort n0 n2 n3 n1 → x ≡ grid_by (seams (take n0 a0) (take n2 a2) (take n3 a3) (take n1 a1)) → x ≡ lay region counts f out
+  module _ (k : Known region (length counts) f) (a : Sides (List Float)) (n : Sides ℕ) (s : SidesLaid region counts f a n) where
+    pub laid_by : {x : Outcome} → FourShort n
+        → x ≡ grid_by (seams (take n.bottom a.bottom) (take n.top a.top) (take n.left a.left) (take n.right a.right)) → x ≡ lay region counts f out
     laid_by short q =
-        let b = seam_of region counts 0 f.breaks0 in
-        let t = seam_of region counts 2 f.breaks2 in
-        let l = seam_of region counts 3 f.breaks3 in
-        q
-        ∙ ap (λ (z : List Float). grid_by (seams z (take n2 a2) (take n3 a3) (take n1 a1))) (bottom.written short.bottom_short)
-        ∙ ap (λ (z : List Float). grid_by (seams b z (take n3 a3) (take n1 a1))) (top.written short.top_short)
-        ∙ ap (λ (z : List Float). grid_by (seams b t z (take n1 a1))) (left.written short.left_short)
-        ∙ ap (λ (z : List Float). grid_by (seams b t l z)) (right.written short.right_short)
-        ∙ laid k
+        let b = s.bottom.written short.bottom_short in
+        let t = s.top.written short.top_short in
+        let l = s.left.written short.left_short in
+        let r = s.right.written short.right_short in
+        (rw (b, t, l, r) at q) ∙ laid k
 
     -- "1 for a seam too long": where the curves are within their limit, that of the seams decides
-    pub seam_too_long : (ltb max_seam n0 || (ltb max_seam n2 || (ltb max_seam n3 || ltb max_seam n1))) ≡ true
-        → outcome_of (grid_answer.Refused because.Malformed) out ≡ lay region counts f out
-    unfolding coons_from_parameters outcome verdict_of
+    pub seam_too_long : (ltb max_seam n.bottom || (ltb max_seam n.top || (ltb max_seam n.left || ltb max_seam n.right))) ≡ true
+        → outcome_of (Err because.Malformed) out ≡ lay region counts f out
+    unfolding coons_from_parameters verdict_of
     seam_too_long h =
         let limit = curves_limit f.bottom f.right f.top f.left in
         let limit_of_seams = seams_limit (seams_of region counts f) in
-        let e = limit_passed (seams_of region counts f) n0 n2 n3 n1 bottom.long top.long left.long right.long h in
-        let q : outcome (Refused because.Malformed) ≡ then_test limit limit_of_seams =
+        let e = limit_passed (seams_of region counts f) n s.bottom.long s.top.long s.left.long s.right.long h in
+        let q : verdict_of because.Malformed ≡ then_test limit limit_of_seams =
         e ∙ ap (λ (b : Bool). cond b limit_of_seams limit) (sym (T_true (is_passed limit) k.curves)) in
-        turned_away out _ {c = Refused because.Malformed} refl q ∙ laid k
+        turned_away out _ because.Malformed q ∙ laid k

@@ -1,21 +1,17 @@
--- A level and an upright line cross where they begin: nothing is rounded on the way. What the tests of `is_plain` say, and lines one by one. Assumes nothing.
+-- A level and an upright line cross where they begin: nothing is rounded on the way. What the tests of `is_plain` say. Assumes nothing.
 use mathlib.Core.Path.{◌≡◌, refl, sym, ap, ◌∙◌, subst}
-use mathlib.Core.Logic.{inl, inr}
 use mathlib.Core.Bool.{true, false, not}
-use mathlib.Core.List.{List}
-use Prim.Native.Nat.{ℕ, ◌+◌, ◌<◌, ◌≤◌}
-use native.Mathlib.Nat.{eq-or-lt_of_le}
+use Prim.Native.Nat.{ℕ, ◌+◌, ◌≤◌}
 use native.Mathlib.Omega.{arith}
 use borrow.Author.Tests.{ltb-true}
 use lib.Dec.{T, ltb}
 use lib.IntN.{ℤ, pos}
-use lib.ListN.{get_or}
 use lib.Ieee.{Float, nan, inf, fin, binary64, add, sub, mul, div, lt, of_bits, to_bits, fits, is_nan}
 use Rattle.base.specs.Answers.{good}
 use Rattle.floats.specs.Scalar.{one, e_12, float_abs, clamp_unit, in_unit}
 use Rattle.curves.specs.Point.{point}
 use Rattle.curves.specs.Crossing.{denominator, crossing_u, crossing_v, inside_or_refused, logical_intersection}
-use Rattle.curves.specs.inner.Level.{Plain, Straight}
+use Rattle.curves.specs.inner.Level.{Plain}
 use Rattle.floats.proofs.scalar.Laws.{impossible}
 use Rattle.floats.proofs.scalar.Exact.{sub_self_zero, mul_by_zero, add_zero_own, div_one_own}
 use Rattle.curves.proofs.crossing.Laws.{not_parallel, inside}
@@ -105,21 +101,3 @@ plain_by nan f h k b = impossible h
 plain_by (inf s) f h k b = impossible h
 plain_by (fin true m e) f h k b = let p = ltb-true (to_bits binary64 (fin true m e)) 0x8000_0000_0000_0000 b in let q = signed m e in absurd (omega arith)
 plain_by (fin false m e) f h k b = record { digits = m; exponent = e; is = refl; held = f; inside = h; clamped = k }
-
--- ---- lines one by one: those below i are upright
-
-abbrev pub UprightTo : List Float → List Float → ℕ → Type 0
-UprightTo bottom top i = (j : ℕ) → j < i → Straight (get_or bottom j nan) (get_or top j nan)
-
-pub upright_none : (bottom top : List Float) → UprightTo bottom top 0
-upright_none bottom top j h = absurd (omega arith)
-
-pub upright_more : (bottom top : List Float) (i : ℕ) → UprightTo bottom top i → Straight (get_or bottom i nan) (get_or top i nan) → UprightTo bottom top (i + 1)
-upright_more bottom top i h s j l =
-    elim (eq-or-lt_of_le (before j i l)) [
-      | inl e ↦ subst (λ (k : ℕ). Straight (get_or bottom k nan) (get_or top k nan)) (sym e) s
-      | inr k ↦ h j k
-    ]
-  where
-    before : (j i : ℕ) → j < i + 1 → j ≤ i
-    before j i l = omega arith

@@ -2,43 +2,34 @@
 -- they add to the output, one after the other, is what the grid writes. Assumes nothing.
 use mathlib.Core.Path.{◌≡◌, refl, sym, ap, ◌∙◌}
 use mathlib.Core.List.{List}
-use Prim.Native.Nat.{ℕ, zero, suc, ◌+◌, ◌-◌, ◌*◌, ◌<◌, ◌≤◌}
+use Prim.Native.Nat.{ℕ, zero, suc, ◌+◌, ◌-◌, ◌<◌, ◌≤◌}
 use native.Mathlib.Nat.{zero-add}
 use native.Mathlib.Numerals.{add-one}
 use native.Mathlib.Omega.{arith}
-use lib.ListN.{get_or}
-use lib.Ieee.{Float, nan}
+use lib.Ieee.{Float}
 use Rattle.base.specs.declared.verdict.Verdict.{Verdict}
 use Rattle.base.specs.Buffers.{concat_tabulate}
 use Rattle.base.specs.Tests.{first_of}
-use Rattle.curves.specs.Point.{point}
-use Rattle.curves.specs.Curve.{point_at}
+use Rattle.curves.specs.Point.{no_point}
 use Rattle.curves.specs.Quad.{quad_test}
 use Rattle.curves.specs.Grid.{PointRow, Grid, node, grid_quad, area_test, quads_test, quad_values, corner_values, node_values, grid_values}
-use Rattle.curves.specs.inner.Rows.{coordinates, row_points, cell_test, cells_test, below_test, quads_between, nodes_of, row_part, grid_part}
+use Rattle.curves.specs.inner.Rows.{row_points, point_in, cell_test, cells_test, below_test, quads_between, nodes_of, row_part, grid_part}
 use Rattle.curves.specs.declared.point.Point.{Point}
 use Rattle.curves.specs.declared.rows.Layout.{Layout}
 use Rattle.curves.specs.declared.rows.Layout.TheVariants.{Quads, Nodes}
-use Rattle.base.proofs.BufferLaws.{concat_same, getD_concat}
+use Rattle.base.proofs.BufferLaws.{concat_same}
 use Rattle.base.proofs.TestLaws.{first_same, first_shifted}
+use Rattle.curves.proofs.Filling.{at_index}
 
 -- ---- a row
 
-pub value_of_row : (f : PointRow) (n i r : ℕ) → i ≤ n → r < 2 → get_or (row_points f n) (2 * i + r) nan ≡ get_or (coordinates (f i)) r nan
+pub point_of_row : (f : PointRow) (n i : ℕ) → i ≤ n → point_in (row_points f n) i ≡ node (f i)
 unfolding row_points
-value_of_row f n i r h l =
-    getD_concat (λ (k : ℕ). coordinates (f k)) 2 0 (n + 1) i r nan (λ k. refl) (omega arith) l ∙ ap (λ (k : ℕ). get_or (coordinates (f k)) r nan) (zero-add i)
-
-pub point_of_row : (f : PointRow) (n i : ℕ) → i ≤ n → point_at (row_points f n) i ≡ node (f i)
-point_of_row f n i h =
-    let e : 2 * i ≡ 2 * i + 0 = omega arith in
-    let x = ap (λ (k : ℕ). get_or (row_points f n) k nan) e ∙ value_of_row f n i 0 h (omega arith) in
-    let y = value_of_row f n i 1 h (omega arith) in
-    ap (λ (v : Float). point v (get_or (row_points f n) (2 * i + 1) nan)) x ∙ ap (point (node (f i)).x) y
+point_of_row f n i h = at_index (λ (k : ℕ). node (f k)) 0 (n + 1) i no_point (omega arith) ∙ ap (λ (k : ℕ). node (f k)) (zero-add i)
 
 pub nodes_of_row : (f : PointRow) (n : ℕ) → nodes_of (row_points f n) n ≡ concat_tabulate (λ (i : ℕ). node_values (node (f i))) 0 (n + 1)
 unfolding nodes_of
-nodes_of_row f n = concat_same (λ (i : ℕ). node_values (point_at (row_points f n) i)) (λ (i : ℕ). node_values (node (f i))) 0 (n + 1)
+nodes_of_row f n = concat_same (λ (i : ℕ). node_values (point_in (row_points f n) i)) (λ (i : ℕ). node_values (node (f i))) 0 (n + 1)
     (λ i h. ap node_values (point_of_row f n i (omega arith)))
 
 -- ---- two rows of a grid
@@ -46,8 +37,8 @@ nodes_of_row f n = concat_same (λ (i : ℕ). node_values (point_at (row_points 
 module _ (f : Grid) (n : ℕ) where
   -- whatever is made of the four corners of a quad
   quad_of_rows : {A : Type 0} (make : Point → Point → Point → Point → A) (j i : ℕ) → i < n
-      → make (point_at (row_points (f j) n) i) (point_at (row_points (f j) n) (i + 1)) (point_at (row_points (f (j + 1)) n) (i + 1))
-      (point_at (row_points (f (j + 1)) n) i)
+      → make (point_in (row_points (f j) n) i) (point_in (row_points (f j) n) (i + 1)) (point_in (row_points (f (j + 1)) n) (i + 1))
+      (point_in (row_points (f (j + 1)) n) i)
       ≡ make (node (f j i)) (node (f j (i + 1))) (node (f (j + 1) (i + 1))) (node (f (j + 1) i))
   quad_of_rows make j i h = rw (
     point_of_row (f j) n i (omega arith),

@@ -10,29 +10,35 @@ use lib.Dec.{T, T_not, ltb, eqb, eqb→eq}
 use lib.Ieee.{Float}
 use borrow.Author.Tests.{lt-ltb, le-ltb, ltb-false}
 use Rattle.base.specs.declared.verdict.Verdict.{Verdict}
-use Rattle.base.specs.Refusal.{passed, refused, verdict_of, outcome, is_passed, then_test, refuse_if}
-use Rattle.base.specs.declared.refusal.Check.{Check}
-use Rattle.base.specs.declared.refusal.Check.TheVariants.{Passed, Refused}
+use Rattle.base.specs.Refusal.{passed, refused, verdict_of, is_passed, then_test, refuse_if}
+use Rattle.std.specs.Prelude.{Result, Ok, Err, IsErrAnd}
+use Rattle.std.proofs.lemmas.Result.{err_from_is_err_and}
 use Rattle.base.specs.declared.refusal.Refusal.{Refusal}
 use Rattle.base.specs.declared.refusal.Refusal.TheVariants as because
 use Rattle.base.proofs.BoolLaws.{not_T_false, by_truth, clash, false_T}
-use Rattle.base.proofs.TestLaws.{then_left, then_right, not_refused, was_passed, chain_stops, chain_goes_on, told_passed, both_passed, follows, refuses}
+use Rattle.base.proofs.TestLaws.{then_left, then_right, not_refused, was_passed, chain_stops, chain_goes_on, both_passed, follows, refuses}
 use Rattle.curves.specs.Boundary.{BoundaryCurves}
 use Rattle.curves.specs.inner.Grids.{ShortSeams, PairedSeams, Gridded}
 use Rattle.curves.specs.Seam.{seam_test, pair_test, seams_test}
 use Rattle.curves.specs.Grid.{Seams, n_u, n_v, Grid, grid_of, grid_test, needed}
 use Rattle.curves.specs.Coons.{Outcome, outcome_of, refusal, unless, filled, seams_and_room_test, grid_stage}
 use Rattle.curves.specs.declared.rows.Layout.{Layout}
-use Rattle.curves.specs.declared.answer.GridAnswer.TheVariants as grid_answer
 use Rattle.curves.proofs.grid.Filled.{good_grid, no_grid}
 use Rattle.curves.specs.Limits.{max_cells}
 
 -- ---- an answer, by the tests before it
 
-pub turned_away : (out : List Float) (rest : Outcome) {c : Check} {cause : Refusal} {v : Verdict} → c ≡ Refused cause → outcome c ≡ v
-    → outcome_of (grid_answer.Refused cause) out ≡ unless v out rest
+pub turned_away : (out : List Float) (rest : Outcome) (r : Refusal) {v : Verdict} → verdict_of r ≡ v → outcome_of (Err r) out ≡ unless v out rest
 unfolding outcome_of
-turned_away out rest {c} {cause} {v} e o = refuses rest (refusal out) c cause v e o
+turned_away out rest r {v} e = refuses rest (refusal out) r v e
+
+-- the exit of a `?`
+pub exit_leaves : (o : Result ℕ Refusal) (r : Refusal) (out : List Float) → IsErrAnd o (λ (e : Refusal). e ≡ r) → outcome_of o out ≡ outcome_of (Err r) out
+exit_leaves o r out h = let p = err_from_is_err_and o h in rw (p.1, p.2)
+
+pub exit_refuses : (out : List Float) (rest : Outcome) (o : Result ℕ Refusal) (r : Refusal) {v : Verdict} → IsErrAnd o (λ (e : Refusal). e ≡ r) → verdict_of r ≡ v
+    → outcome_of o out ≡ unless v out rest
+exit_refuses out rest o r h e = exit_leaves o r out h ∙ turned_away out rest r e
 
 pub goes_on : (out : List Float) (rest : Outcome) (v : Verdict) → is_passed v ≡ true → rest ≡ unless v out rest
 goes_on out rest v e = ap (λ (b : Bool). elim b [
@@ -53,27 +59,27 @@ went_on out rest v t =
     let u : T (is_passed v) = subst (λ (o : Outcome). T (is_passed o.verdict)) (sym (stays out rest v e)) t in
     absurd (clash (is_passed v) u (false_T (is_passed v) e)))
 
-pub let_by : (out : List Float) (rest : Outcome) {c : Check} {v : Verdict} → c ≡ Passed → outcome c ≡ v → rest ≡ unless v out rest
-let_by out rest {v = v} e o = goes_on out rest v (was_passed e o)
+pub let_by : (out : List Float) (rest : Outcome) {v : Verdict} → passed ≡ v → rest ≡ unless v out rest
+let_by out rest {v} e = goes_on out rest v (was_passed e)
 
 -- two tests in a row were passed
-pub limits_passed : {c : Check} (u v : Verdict) → c ≡ Passed → outcome c ≡ then_test u v → T (is_passed u) × T (is_passed v)
-limits_passed {c} u v e o = both_passed (outcome c) u v o (told_passed c e)
+pub limits_passed : (u v : Verdict) → passed ≡ then_test u v → T (is_passed u) × T (is_passed v)
+limits_passed u v e = both_passed passed u v e tt
 
 -- ---- the grid
 
-module _ {layout : Layout} {f : Grid} {n m : ℕ} {out left : List Float} {c : Check} (g : Gridded layout f n m out left (outcome c)) where
-  made : c ≡ Passed → outcome_of (grid_answer.Made (m * n)) left ≡ filled layout f n m out
+module _ {layout : Layout} {f : Grid} {n m : ℕ} {out left : List Float} where
+  made : Gridded layout f n m out left passed → outcome_of (Ok (m * n)) left ≡ filled layout f n m out
   unfolding outcome_of filled
-  made e =
-      let q = follows (good_grid f n m layout out) (no_grid f n m layout out) c (grid_test f n m) e g.told in
+  made g =
+      let q = follows (good_grid f n m layout out) (no_grid f n m layout out) (grid_test f n m) g.told in
       ap (λ (l : List Float). record { verdict = passed; quads = m * n; out = l }) (g.left ∙ ap (λ (x : Outcome). x.out) (sym q)) ∙ q
 
-  not_made : {cause : Refusal} → c ≡ Refused cause → outcome_of (grid_answer.Refused cause) left ≡ filled layout f n m out
+  not_made : (r : Refusal) → Gridded layout f n m out left (verdict_of r) → outcome_of (Err r) left ≡ filled layout f n m out
   unfolding outcome_of filled
-  not_made {cause} e =
-      let q = refuses (good_grid f n m layout out) (no_grid f n m layout out) c cause (grid_test f n m) e g.told in
-      ap (λ (l : List Float). refusal l (verdict_of cause)) (g.left ∙ ap (λ (x : Outcome). x.out) (sym q)) ∙ q
+  not_made r g =
+      let q = refuses (good_grid f n m layout out) (no_grid f n m layout out) r (grid_test f n m) g.told in
+      ap (λ (l : List Float). refusal l (verdict_of r)) (g.left ∙ ap (λ (x : Outcome). x.out) (sym q)) ∙ q
 
 -- ---- the seams and the room
 
@@ -94,9 +100,9 @@ equally_long xs ys k q = go (eqb (length xs) (length ys)) refl q
     go false e u = absurd u
 
 -- what seams that are let by are like
-pub seams_paired : {s : Seams} {k : Check} → ShortSeams s → k ≡ Passed → outcome k ≡ seams_tested s → PairedSeams s
+pub seams_paired : {s : Seams} → ShortSeams s → passed ≡ seams_tested s → PairedSeams s
 unfolding seams_test
-seams_paired {s} {k} short e o =
+seams_paired {s} short o =
     let b = s.bottom in
     let t = s.top in
     let l = s.left in
@@ -105,7 +111,7 @@ seams_paired {s} {k} short e o =
     let v2 = then_test (seam_test r 1) v1 in
     let v3 = then_test (seam_test l 3) v2 in
     let v4 = then_test (seam_test t 2) v3 in
-    let p = subst (λ (v : Verdict). T (is_passed v)) o (told_passed k e) in
+    let p = subst (λ (v : Verdict). T (is_passed v)) o tt in
     let p3 = then_right (seam_test t 2) v3 (then_right (seam_test b 0) v4 p) in
     let p1 = then_right (seam_test r 1) v1 (then_right (seam_test l 3) v2 p3) in
     record {
@@ -128,20 +134,20 @@ module _ (layout : Layout) (c : BoundaryCurves) (s : Seams) (out : List Float) w
   abbrev rest : Outcome
   rest = filled layout (grid_of c s) (n_u s) (n_v s) out
 
-  pub bad_seams : {k : Check} {cause : Refusal} → k ≡ Refused cause → outcome k ≡ seams_tested s
-      → outcome_of (grid_answer.Refused cause) out ≡ grid_stage layout c s out
+  pub bad_seams : (o : Result ℕ Refusal) (r : Refusal) → IsErrAnd o (λ (e : Refusal). e ≡ r) → verdict_of r ≡ seams_tested s
+      → outcome_of o out ≡ grid_stage layout c s out
   unfolding grid_stage seams_and_room_test
-  bad_seams e o = turned_away out rest refl (chain_stops (refuse_if (ltb (length out) (needed layout (n_u s) (n_v s))) (refused 11 0 0)) e o)
+  bad_seams o r h e = exit_refuses out rest o r h (chain_stops r (refuse_if (ltb (length out) (needed layout (n_u s) (n_v s))) (refused 11 0 0)) e)
 
-  module _ {k : Check} (e : k ≡ Passed) (o : outcome k ≡ seams_tested s) where
+  module _ (o : passed ≡ seams_tested s) where
     -- the chain, once the seams are let by
     room_only : (d : Bool) → ltb (length out) (needed layout (n_u s) (n_v s)) ≡ d → refuse_if d (refused 11 0 0) ≡ seams_and_room_test false layout s (length out)
     unfolding seams_and_room_test
-    room_only d h = ap (λ (x : Bool). refuse_if x (refused 11 0 0)) (sym h) ∙ chain_goes_on e o
+    room_only d h = ap (λ (x : Bool). refuse_if x (refused 11 0 0)) (sym h) ∙ chain_goes_on o
 
-    pub no_room : length out < needed layout (n_u s) (n_v s) → outcome_of (grid_answer.Refused because.OutputTooShort) out ≡ grid_stage layout c s out
-    unfolding grid_stage outcome verdict_of
-    no_room h = turned_away out rest {c = Refused because.OutputTooShort} refl (room_only true (lt-ltb (length out) (needed layout (n_u s) (n_v s)) h))
+    pub no_room : length out < needed layout (n_u s) (n_v s) → outcome_of (Err because.OutputTooShort) out ≡ grid_stage layout c s out
+    unfolding grid_stage verdict_of
+    no_room h = turned_away out rest because.OutputTooShort (room_only true (lt-ltb (length out) (needed layout (n_u s) (n_v s)) h))
 
     to_the_grid : (x : Outcome) → needed layout (n_u s) (n_v s) ≤ length out → x ≡ rest → x ≡ grid_stage layout c s out
     unfolding grid_stage
@@ -149,10 +155,10 @@ module _ (layout : Layout) (c : BoundaryCurves) (s : Seams) (out : List Float) w
         q ∙ goes_on out rest (seams_and_room_test false layout s (length out))
         (ap is_passed (sym (room_only false (le-ltb (length out) (needed layout (n_u s) (n_v s)) h))))
 
-    module _ {left : List Float} {g : Check} (h : needed layout (n_u s) (n_v s) ≤ length out)
-        (w : Gridded layout (grid_of c s) (n_u s) (n_v s) out left (outcome g)) where
-      pub grid_made : g ≡ Passed → outcome_of (grid_answer.Made (n_v s * n_u s)) left ≡ grid_stage layout c s out
-      grid_made p = to_the_grid _ h (made w p)
+    module _ {left : List Float} (h : needed layout (n_u s) (n_v s) ≤ length out) where
+      pub grid_made : Gridded layout (grid_of c s) (n_u s) (n_v s) out left passed → outcome_of (Ok (n_v s * n_u s)) left ≡ grid_stage layout c s out
+      grid_made w = to_the_grid _ h (made w)
 
-      pub grid_refused : {cause : Refusal} → g ≡ Refused cause → outcome_of (grid_answer.Refused cause) left ≡ grid_stage layout c s out
-      grid_refused p = to_the_grid _ h (not_made w p)
+      pub grid_refused : (o : Result ℕ Refusal) (r : Refusal) → IsErrAnd o (λ (e : Refusal). e ≡ r)
+          → Gridded layout (grid_of c s) (n_u s) (n_v s) out left (verdict_of r) → outcome_of o left ≡ grid_stage layout c s out
+      grid_refused o r k w = to_the_grid _ h (exit_leaves o r left k ∙ not_made r w)

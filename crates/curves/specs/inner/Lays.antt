@@ -1,12 +1,14 @@
 -- What lay's functions ask and tell of one side: the counts of its edges, and its seam. Assumes nothing.
 use Rattle.std.specs.Prelude.{◌≡◌, List, ℕ, ◌*◌, ◌<◌, ◌≤◌, T, ltb, length, take, Float}
+use Rattle.std.specs.Borrow.{Bor}
 use Rattle.base.specs.Lists.{all}
 use Rattle.base.specs.Refusal.{is_passed}
 use Rattle.base.specs.Buffers.{splice}
 use Rattle.regions.specs.Region.{places, side, side_sum}
 use Rattle.curves.specs.Seam.{side_seam}
-use Rattle.curves.specs.Lay.{counts_along, seam_of, edges_test, breaks_test}
+use Rattle.curves.specs.Lay.{TileInput, tile_input, counts_along, seam_of, edges_test, breaks_test}
 use Rattle.curves.specs.Limits.{max_seam}
+use Rattle.curves.specs.declared.sides.Sides.{Sides}
 
 -- one break more than edges, and room for the seam of these counts
 pub record SeamGiven (breaks : List Float) (counts : List ℕ) (out : List Float) : Type 0 where
@@ -42,8 +44,12 @@ pub record SideLaid (region counts : List ℕ) (k : ℕ) (breaks after : List Fl
   pub written : n ≤ max_seam → take n after ≡ seam_of region counts k breaks
 
 -- the lengths of four seams are within the limit
-pub record FourShort (bottom top left right : ℕ) : Type 0 where
-  pub bottom_short : bottom ≤ max_seam
-  pub top_short : top ≤ max_seam
-  pub left_short : left ≤ max_seam
-  pub right_short : right ≤ max_seam
+pub record FourShort (lengths : Sides ℕ) : Type 0 where
+  pub bottom_short : lengths.bottom ≤ max_seam
+  pub top_short : lengths.top ≤ max_seam
+  pub left_short : lengths.left ≤ max_seam
+  pub right_short : lengths.right ≤ max_seam
+
+-- the breaks and the curves that are lent
+abbrev pub lent_input : Sides (Bor (List Float)) → Sides (Bor (List Float)) → TileInput
+lent_input b c = tile_input b.bottom.now b.right.now b.top.now b.left.now c.bottom.now c.right.now c.top.now c.left.now

@@ -1,6 +1,6 @@
 -- The amount of a value, in units of the format's smallest value: it is the value's own, it has no more digits than the format keeps (`digits_of`), and it says which value it is
 -- (`same_value`). Assumes nothing.
-use mathlib.Core.Path.{◌≡◌, sym, ap, ◌∙◌, subst}
+use mathlib.Core.Path.{◌≡◌, sym, ap, ◌∙◌}
 use mathlib.Core.Bool.{Bool, false, not, ◌&&◌, cond}
 use Prim.Native.Nat.{ℕ, zero, suc, ◌+◌, ◌-◌, ◌*◌, ◌/◌, ◌%◌, ◌^◌, ◌≤◌, ◌<◌}
 use native.Mathlib.Nat.{mul-pos, mul-lt-mul_of_pos_right, lt_of_mul-lt-mul_right, mul_assoc, mul-one, zero-mul, mul-div_cancel, mul_right_comm}
@@ -29,7 +29,7 @@ pub among_of : (f : Format) (x : Float) (a : ℕ) → T (fits f x) → HasValue 
 unfolding among
 among_of f nan a h v = absurd v
 among_of f (inf s) a h v = absurd v
-among_of f (fin s m e) a h v = and_i (not s) (fits f (fin s m e)) (subst (λ (b : Bool). T (not b)) (sym v.0) tt) h
+among_of f (fin s m e) a h v = and_i (not s) (fits f (fin s m e)) (rw v.0 tt) h
 
 pub fits_of : (f : Format) (x : Float) → T (among f x) → T (fits f x)
 unfolding among
@@ -42,12 +42,12 @@ unfolding among
 clear_sign f s m e h = is_false s (and_l (not s) (fits f (fin s m e)) h)
 
 -- what `fits` says of a value that is not zero
-record Fitting (f : Format) (m : ℕ) (e : ℤ) : Type 0 where
-  few : m < 2 ^ prec f
-  fine : down e ≤ 2 ^ low f
-  bounded : m * up e < 2 ^ suc (emax f) * down e
+pub record Fitting (f : Format) (m : ℕ) (e : ℤ) : Type 0 where
+  pub few : m < 2 ^ prec f
+  pub fine : down e ≤ 2 ^ low f
+  pub bounded : m * up e < 2 ^ suc (emax f) * down e
 
-fitting : (f : Format) (s : Bool) (m : ℕ) (e : ℤ) → T (fits f (fin s (suc m) e)) → Fitting f (suc m) e
+pub fitting : (f : Format) (s : Bool) (m : ℕ) (e : ℤ) → T (fits f (fin s (suc m) e)) → Fitting f (suc m) e
 unfolding fits
 fitting f s m e h =
     let a = eqb (suc m % 2) 1 in
@@ -105,17 +105,16 @@ radicand_digits f y d = ap (λ (x : ℕ). d.digits * x) (pow-add 2 d.power (low 
 pub own_amount : (f : Format) (y : Float) → T (among f y) → HasValue y false (amount f y) (2 ^ low f)
 own_amount f y h =
     let d = digits_of f y h in
-    subst (λ (a : ℕ). HasValue y false a (2 ^ low f)) (sym (amount_digits f y d)) d.value
+    rw (amount_digits f y d) d.value
 
 -- ---- two values of a format that are the same number with the same sign are the same, since the bit patterns are
 
-bits_of : (f : Format) (x : Float) (s : Bool) (a : ℕ) → HasValue x s a (2 ^ low f) → to_bits f x ≡ cond s (top f) 0 + (size a - prec f) * hid f + a / 2 ^ (size a - prec f)
+bits_of : (f : Format) (x : Float) (s : Bool) (a : ℕ) → HasValue x s a (2 ^ low f)
+    → to_bits f x ≡ cond s (top f) 0 + (size a - prec f) * hid f + a / 2 ^ (size a - prec f)
 unfolding to_bits
 bits_of f nan s a v = absurd v
 bits_of f (inf t) s a v = absurd v
-bits_of f (fin t m e) s a v =
-    ap (λ (b : Bool). cond b (top f) 0 + (size (m * up e * 2 ^ low f / down e) - prec f) * hid f + m * up e * 2 ^ low f / down e / 2 ^ (size (m * up e * 2 ^ low f / down e) - prec f)) v.0
-    ∙ ap (λ (n : ℕ). cond s (top f) 0 + (size n - prec f) * hid f + n / 2 ^ (size n - prec f)) (ap (λ (x : ℕ). x / down e) v.1 ∙ mul-div_cancel a (down_pos e))
+bits_of f (fin t m e) s a v = rw (v.0, v.1, mul-div_cancel a (down_pos e))
 
 pub same_value : (f : Format) (x y : Float) (s : Bool) (a : ℕ) → T (fits f x) → T (fits f y) → HasValue x s a (2 ^ low f) → HasValue y s a (2 ^ low f) → x ≡ y
 same_value f x y s a p q v w = sym (of_bits-to_bits f x p) ∙ ap (λ (b : ℕ). of_bits f b) (bits_of f x s a v ∙ sym (bits_of f y s a w)) ∙ of_bits-to_bits f y q
@@ -127,7 +126,7 @@ below_top f m e a v h =
     let w : m * up e * 2 ^ low f < 2 ^ suc (emax f) * down e * 2 ^ low f = mul-lt-mul_of_pos_right h (pow_pos (low f)) in
     let r : 2 ^ suc (emax f) * down e * 2 ^ low f ≡ 2 ^ (suc (emax f) + low f) * down e = mul_right_comm (2 ^ suc (emax f)) (down e) (2 ^ low f)
     ∙ ap (λ (x : ℕ). x * down e) (sym (pow-add 2 (suc (emax f)) (low f))) in
-    lt_of_mul-lt-mul_right (down e) (subst (λ (x : ℕ). x < 2 ^ (suc (emax f) + low f) * down e) v (subst (λ (x : ℕ). m * up e * 2 ^ low f < x) r w))
+    lt_of_mul-lt-mul_right (down e) (rw (← v) (rw (← r) w))
 
 pub amount_lt : (f : Format) (x : Float) → T (among f x) → amount f x < 2 ^ (suc (emax f) + low f)
 unfolding among
@@ -136,5 +135,5 @@ amount_lt f x h = go x h (own_amount f x h)
     go : (x : Float) → T (among f x) → HasValue x false (amount f x) (2 ^ low f) → amount f x < 2 ^ (suc (emax f) + low f)
     go nan h v = absurd h
     go (inf s) h v = absurd h
-    go (fin s zero e) h v = below_top f 0 e (amount f (fin s 0 e)) v.1 (subst (λ (x : ℕ). x < 2 ^ suc (emax f) * down e) (sym (zero-mul (up e))) (mul-pos (pow_pos (suc (emax f))) (down_pos e)))
+    go (fin s zero e) h v = below_top f 0 e (amount f (fin s 0 e)) v.1 (rw zero-mul (mul-pos (pow_pos (suc (emax f))) (down_pos e)))
     go (fin s (suc m) e) h v = below_top f (suc m) e (amount f (fin s (suc m) e)) v.1 (fitting f s m e (fits_of f (fin s (suc m) e) h)).bounded

@@ -1,13 +1,14 @@
 -- What a reader of `root` wants to know, in one place: it is the correctly rounded root, for every finite operand above zero of either format (`root_iff`, `root_half_unit`), and what it is
 -- for the others. Assumes nothing.
-use mathlib.Core.Path.{◌≡◌, refl, sym, ap, ◌∙◌, subst}
+use mathlib.Core.Path.{◌≡◌, refl}
 use mathlib.Core.Bool.{Bool, true, false}
 use mathlib.Core.Logic.{◌↔◌}
-use Prim.Native.Nat.{ℕ, zero, suc, ◌*◌, ◌^◌, ◌<◌}
-use native.Mathlib.Nat.{lt_irrefl, mul-pos, zero-mul}
+use Prim.Native.Nat.{ℕ, zero, suc, ◌*◌, ◌<◌}
+use native.Mathlib.Nat.{mul-pos}
+use native.Mathlib.Omega.{arith}
 use lib.IntN.{ℤ, pos}
 use lib.Dec.{T}
-use lib.Ieee.{Float, nan, inf, fin, Format, low, up}
+use lib.Ieee.{Float, nan, inf, fin, Format, down}
 use lib.Ieee.Fits.{down_pos}
 use Rattle.floats.specs.Root.{amount, among, Nearest, HalfUnit, apart, rounded, root}
 use Rattle.floats.proofs.root.Amounts.{own_amount}
@@ -17,7 +18,7 @@ use Rattle.floats.proofs.root.TakenApart.{taken_apart}
 -- ---- finite operands above zero
 
 no_zero : (f : Format) (s : Bool) (e : ℤ) → T (among f (fin s zero e)) → 0 < amount f (fin s zero e) → ⊥
-no_zero f s e X P = lt_irrefl 0 (subst (λ (y : ℕ). 0 < y) (sym (own_amount f (fin s zero e) X).1 ∙ ap (λ (y : ℕ). y * 2 ^ low f) (zero-mul (up e)) ∙ zero-mul (2 ^ low f)) (mul-pos P (down_pos e)))
+no_zero f s e X P = let p : 0 < amount f (fin s zero e) * down e = mul-pos P (down_pos e) in omega (arith, (own_amount f (fin s zero e) X).1)
 
 pub root_above : (f : Format) (x : Float) → T (among f x) → 0 < amount f x → rounded f (apart f x) ≡ root f x
 unfolding root among
@@ -28,14 +29,14 @@ root_above f (fin true (suc m) e) X P = absurd X
 root_above f (fin false (suc m) e) X P = refl
 
 pub root_nearest : (f : Format) (x : Float) → T (among f x) → 0 < amount f x → Nearest f x (root f x)
-root_nearest f x X P = subst (λ (r : Float). Nearest f x r) (root_above f x X P) (rounding f x (apart f x) X (taken_apart f x X P).0)
+root_nearest f x X P = rw (← (root_above f x X P)) (rounding f x (apart f x) X (taken_apart f x X P).0)
 
 -- r is the correctly rounded root of x exactly where it is `root x`
 pub root_iff : (f : Format) (x r : Float) → T (among f x) → 0 < amount f x → Nearest f x r ↔ (r ≡ root f x)
-root_iff f x r X P = (λ n. only f x r (root f x) n (root_nearest f x X P), λ e. subst (λ (y : Float). Nearest f x y) (sym e) (root_nearest f x X P))
+root_iff f x r X P = (λ n. only f x r (root f x) n (root_nearest f x X P), λ e. rw e (root_nearest f x X P))
 
 pub root_half_unit : (f : Format) (x : Float) → T (among f x) → 0 < amount f x → HalfUnit f x (root f x)
-root_half_unit f x X P = subst (λ (r : Float). HalfUnit f x r) (root_above f x X P) (half_unit f x (apart f x) X (taken_apart f x X P).0)
+root_half_unit f x X P = rw (← (root_above f x X P)) (half_unit f x (apart f x) X (taken_apart f x X P).0)
 
 -- ---- special operands
 

@@ -1,35 +1,28 @@
--- Newton's iteration: from any r above 0 the next guess is not below the whole root of n (`newton_above`), and a guess whose square is above n may go one down (`one_down`).
+-- Newton's iteration: from any r above 0 the next guess is not below the whole root of n (`newton_above`).
 -- With q = n / r the next guess is (r + q) / 2, and the square of what is a half more than that is at least r * (q + 1), which is above n: twice a product is at most the two squares
 -- (`products`). Assumes nothing.
-use mathlib.Core.Path.{◌≡◌, ap, subst}
-use Prim.Native.Nat.{ℕ, zero, suc, ◌+◌, ◌-◌, ◌*◌, ◌/◌, ◌^◌, ◌≤◌, ◌<◌}
-use native.Mathlib.Nat.{lt_of_lt_of_le, zero-lt-suc, mul_comm, mul_assoc, mul-add, add-mul, mul-le-mul_left, mul-le-mul_right, div-lt_iff_lt-mul}
+use mathlib.Core.Path.{◌≡◌, subst}
+use Prim.Native.Nat.{ℕ, ◌+◌, ◌-◌, ◌*◌, ◌/◌, ◌^◌, ◌≤◌, ◌<◌}
+use native.Mathlib.Nat.{lt_of_lt_of_le, mul-le-mul_left, mul-le-mul_right, div-lt_iff_lt-mul}
 use native.Mathlib.Decide.{dec_le}
 use native.Mathlib.Omega.{arith}
 use Rattle.floats.specs.inner.RootSteps.{NotBelow}
-use Rattle.floats.proofs.root.Squares.{square_add, whole_reaches}
+use Rattle.floats.proofs.root.Squares.{whole_reaches}
 
 -- ---- twice a product is at most the two squares
 
 products : (a b : ℕ) → 2 * (a * b) ≤ a * a + b * b
 products a b = either (dec_le a b)
   where
-    rest : (a b : ℕ) → a ≤ b → a + (b - a) ≡ b
-    rest a b h = omega arith
-
     -- b is a + d
     ordered : (a d : ℕ) → 2 * (a * (a + d)) ≤ a * a + (a + d) * (a + d)
-    ordered a d = omega (arith, mul-add a a d, square_add a d)
-
-    other : (a b : ℕ) → (a ≤ b → ⊥) → b ≤ a
-    other a b h = omega arith
+    ordered a d = omega arith
 
     either : Dec (a ≤ b) → 2 * (a * b) ≤ a * a + b * b
-    either (yes h) = subst (λ (x : ℕ). 2 * (a * x) ≤ a * a + x * x) (rest a b h) (ordered a (b - a))
+    either (yes h) = subst (λ (x : ℕ). 2 * (a * x) ≤ a * a + x * x) (omega arith) (ordered a (b - a))
     either (no h) =
-        let l : b ≤ a = other a b h in
-        let w : 2 * (b * a) ≤ b * b + a * a = subst (λ (x : ℕ). 2 * (b * x) ≤ b * b + x * x) (rest b a l) (ordered b (a - b)) in
-        omega (arith, mul_comm a b)
+        let w : 2 * (b * a) ≤ b * b + a * a = subst (λ (x : ℕ). 2 * (b * x) ≤ b * b + x * x) (omega arith) (ordered b (a - b)) in
+        omega arith
 
 -- ---- a step from any r above 0
 
@@ -37,7 +30,7 @@ products a b = either (dec_le a b)
 step : (n r q m : ℕ) → n < (q + 1) * r → r + q < 2 * m → n < m * m
 step n r q m a b =
     let c : (r + q + 1) * r ≤ 2 * m * r = mul-le-mul_right r (omega arith) in
-    omega (arith, products m r, add-mul r (q + 1) r, mul_assoc 2 m r, ap (λ (x : ℕ). x * r) (group r q))
+    omega (arith, products m r)
   where
     group : (r q : ℕ) → r + q + 1 ≡ r + (q + 1)
     group r q = omega arith
@@ -53,15 +46,3 @@ newton_above n r lo hi a b =
     let up : n < (g + 1) * (g + 1) = step n r q (g + 1) (quotient n r P) (omega arith) in
     let Q : q < 2 ^ 29 = (div-lt_iff_lt-mul P).1 (lt_of_lt_of_le hi (mul-le-mul_left (2 ^ 29) a)) in
     record { not_passed = up; lead = whole_reaches n g (2 ^ 26) up lo; near = omega arith }
-
--- ---- one down, where the square is above n
-
-pub one_down : (n r : ℕ) → n < r * r → (0 < r) × (n < (r - 1 + 1) * (r - 1 + 1))
-one_down n zero h = absurd (no n h)
-  where
-    no : (n : ℕ) → n < 0 → ⊥
-    no n h = omega arith
-one_down n (suc r) h = (zero-lt-suc r, subst (λ (x : ℕ). n < x * x) (again r) h)
-  where
-    again : (r : ℕ) → suc r ≡ suc r - 1 + 1
-    again r = omega arith

@@ -12,10 +12,10 @@ use lib.Count.{count_leading_zeros, leading_top}
 use lib.Ieee.{Float, nan, inf, binary64, low, odd, of_fields, of_bits}
 use lib.Ieee.Bits.{is_false, cond_no, of_bits-fits}
 use lib.Ieee.Exact.{HasValue, odd_sign}
+use lib.Ieee.Positive.{first_pos}
 use Rattle.floats.specs.Root.{amount, radicand, among}
 use Rattle.floats.specs.inner.RootSteps.{Normal}
 use Rattle.floats.proofs.root.Amounts.{amount_of, among_of}
-use Rattle.floats.proofs.root.Numbers.{first_above_zero}
 
 of_bits_is : (b : ℕ) → of_bits binary64 b ≡ of_fields binary64 (leb 0x8000_0000_0000_0000 b) (b % 0x8000_0000_0000_0000 / 0x10_0000_0000_0000) (b % 0x10_0000_0000_0000)
 unfolding of_bits
@@ -44,38 +44,21 @@ under_ones t x h = cond_no (eqb (suc x) 2047) (cond (eqb t 0) (inf false) nan) (
 
 pub subnormal : (b : ℕ) → b < 0x10_0000_0000_0000 → HasValue (of_bits binary64 b) false (b * 2 ^ 0) (2 ^ low binary64)
 subnormal b h =
-    subst (λ (x : Float). HasValue x false (b * 2 ^ 0) (2 ^ low binary64))
-    (sym (unsigned b (small b h) ∙ ap (λ (x : ℕ). of_fields binary64 false x (b % 0x10_0000_0000_0000)) (none b h) ∙ ap (λ (x : ℕ). of_fields binary64 false 0 x) (mod-eq_of_lt h) ∙ at_zero b))
-    (odd_sign 53 false b 0 1074)
-  where
-    small : (b : ℕ) → b < 0x10_0000_0000_0000 → b < 0x8000_0000_0000_0000
-    small b h = omega arith
-
-    none : (b : ℕ) → b < 0x10_0000_0000_0000 → b / 0x10_0000_0000_0000 ≡ 0
-    none b h = omega arith
+    let field : b / 0x10_0000_0000_0000 ≡ 0 = omega arith in
+    let rest : b % 0x10_0000_0000_0000 ≡ b = omega arith in
+    rw (unsigned b (omega arith), field, rest, at_zero b) (odd_sign 53 false b 0 1074)
 
 -- x is the exponent's field less one, and m has the leading digit
-pub normal : (b m x : ℕ) → b ≡ x * 0x10_0000_0000_0000 + m → 0x10_0000_0000_0000 ≤ m → m < 0x20_0000_0000_0000 → x < 2046 → HasValue (of_bits binary64 b) false (m * 2 ^ x) (2 ^ low binary64)
+pub normal : (b m x : ℕ) → b ≡ x * 0x10_0000_0000_0000 + m → 0x10_0000_0000_0000 ≤ m → m < 0x20_0000_0000_0000 → x < 2046
+    → HasValue (of_bits binary64 b) false (m * 2 ^ x) (2 ^ low binary64)
 normal b m x e lo hi X =
     subst (λ (y : Float). HasValue y false (m * 2 ^ x) (2 ^ low binary64))
     (sym
-    (unsigned b (small b m x e hi X)
-    ∙ ap (λ (y : ℕ). of_fields binary64 false y (b % 0x10_0000_0000_0000)) (field b m x e lo hi)
-    ∙ under_ones (b % 0x10_0000_0000_0000) x (below x X)
-    ∙ ap (λ (y : ℕ). odd 53 false y x 1074) (lead b m x e lo hi)))
+    (unsigned b (omega arith)
+    ∙ ap (λ (y : ℕ). of_fields binary64 false y (b % 0x10_0000_0000_0000)) (omega arith)
+    ∙ under_ones (b % 0x10_0000_0000_0000) x (omega arith)
+    ∙ ap (λ (y : ℕ). odd 53 false y x 1074) (omega arith)))
     (odd_sign 53 false m x 1074)
-  where
-    small : (b m x : ℕ) → b ≡ x * 0x10_0000_0000_0000 + m → m < 0x20_0000_0000_0000 → x < 2046 → b < 0x8000_0000_0000_0000
-    small b m x e hi X = omega arith
-
-    field : (b m x : ℕ) → b ≡ x * 0x10_0000_0000_0000 + m → 0x10_0000_0000_0000 ≤ m → m < 0x20_0000_0000_0000 → b / 0x10_0000_0000_0000 ≡ suc x
-    field b m x e lo hi = omega arith
-
-    below : (x : ℕ) → x < 2046 → suc x < 2047
-    below x X = omega arith
-
-    lead : (b m x : ℕ) → b ≡ x * 0x10_0000_0000_0000 + m → 0x10_0000_0000_0000 ≤ m → m < 0x20_0000_0000_0000 → 0x10_0000_0000_0000 + b % 0x10_0000_0000_0000 ≡ m
-    lead b m x e lo hi = omega arith
 
 -- ---- the square of the exact root
 
@@ -88,7 +71,8 @@ radicand_subnormal b z h l =
     join : (z : ℕ) → z ≤ 1074 → z + (1074 - z) ≡ 1074
     join z l = omega arith
 
-radicand_normal : (b m x : ℕ) → b ≡ x * 0x10_0000_0000_0000 + m → 0x10_0000_0000_0000 ≤ m → m < 0x20_0000_0000_0000 → x < 2046 → m * 2 ^ (x + 1074) ≡ radicand binary64 (of_bits binary64 b)
+radicand_normal : (b m x : ℕ) → b ≡ x * 0x10_0000_0000_0000 + m → 0x10_0000_0000_0000 ≤ m → m < 0x20_0000_0000_0000 → x < 2046
+    → m * 2 ^ (x + 1074) ≡ radicand binary64 (of_bits binary64 b)
 radicand_normal b m x e lo hi X =
     ap (λ (y : ℕ). m * y) (pow-add 2 x 1074)
     ∙ sym (mul_assoc m (2 ^ x) (2 ^ 1074))
@@ -114,26 +98,23 @@ lead_of b P e =
       low_bound = t.2;
       high_bound = t.3;
       same = s;
-      few = lt_of_not-le (λ (g : 52 ≤ t.0). not-le_of_lt (small b e) (le_trans (pow_mono g) t.2));
+      few = lt_of_not-le (λ (g : 52 ≤ t.0). not-le_of_lt (omega arith) (le_trans (pow_mono g) t.2));
     }
-  where
-    small : (b : ℕ) → b / 0x10_0000_0000_0000 ≡ 0 → b < 2 ^ 52
-    small b e = omega arith
 
 pub subnormal_digits : (b t l : ℕ) → Lead b t l → Normal b (t * 2 ^ (l - 11) % 2 ^ 64) (1074 - (l - 11))
 subnormal_digits b t l h =
     let j = h.j in
     let z = l - 11 in
-    let e : j + z ≡ 52 = omega (arith, h.zeros, h.few) in
+    let e : j + z ≡ 52 = omega arith in
     let f : suc j + z ≡ 53 = omega arith in
     let x : t * 2 ^ z % 2 ^ 64 ≡ b * 2 ^ z = ap (λ (y : ℕ). y * 2 ^ z % 2 ^ 64) h.same ∙ shl_exact (suc j) z 64 h.high_bound (omega arith) in
-    let hi : b * 2 ^ z < 2 ^ 53 = subst (λ (y : ℕ). b * 2 ^ z < 2 ^ y) f (shl_lt (suc j) z h.high_bound) in
+    let hi : b * 2 ^ z < 2 ^ 53 = rw f at (shl_lt (suc j) z h.high_bound) in
     let lo : 2 ^ 52 ≤ b * 2 ^ z = le_trans (le_of_eq (ap (λ (y : ℕ). 2 ^ y) (sym e) ∙ pow-add 2 j z)) (mul-le-mul_right (2 ^ z) h.low_bound) in
     let small : b < 2 ^ 52 = lt_of_lt_of_le h.high_bound (pow_mono h.few) in
-    subst (λ (y : ℕ). Normal b y (1074 - z)) (sym x)
-    (record { lead = lo; full = hi; low = omega arith; high = omega arith; value = radicand_subnormal b z small (omega arith) })
+    rw x (record { lead = lo; full = hi; low = omega arith; high = omega arith; value = radicand_subnormal b z small (omega arith) })
 
-pub normal_digits : (b : ℕ) → b < 0x7ff0_0000_0000_0000 → (b / 0x10_0000_0000_0000 ≡ 0 → ⊥) → Normal b (b % 0x10_0000_0000_0000 + 0x10_0000_0000_0000) (b / 0x10_0000_0000_0000 + 1073)
+pub normal_digits : (b : ℕ) → b < 0x7ff0_0000_0000_0000 → (b / 0x10_0000_0000_0000 ≡ 0 → ⊥)
+    → Normal b (b % 0x10_0000_0000_0000 + 0x10_0000_0000_0000) (b / 0x10_0000_0000_0000 + 1073)
 normal_digits b h n =
     let m = b % 0x10_0000_0000_0000 + 0x10_0000_0000_0000 in
     let x = b / 0x10_0000_0000_0000 - 1 in
@@ -168,8 +149,8 @@ positive b m p B N =
     let v = has_value b B in
     record {
       held = among_of binary64 (of_bits binary64 b) v.0 (of_bits-fits binary64 b) v.1;
-      above = first_above_zero (amount binary64 (of_bits binary64 b)) (2 ^ low binary64)
-          (subst (λ (y : ℕ). 0 < y) N.value (mul-pos (lt_of_lt_of_le (zero-lt-suc 0) (le_trans (pow_pos 52) N.lead)) (pow_pos p)));
+      above = first_pos (amount binary64 (of_bits binary64 b)) (2 ^ low binary64)
+          (rw (← N.value) (mul-pos (lt_of_lt_of_le (zero-lt-suc 0) (le_trans (pow_pos 52) N.lead)) (pow_pos p)));
     }
 
 pub positive_pattern : (b : ℕ) → 0 < b → b < 0x7ff0_0000_0000_0000 → Positive b
@@ -178,12 +159,9 @@ positive_pattern b P B = go (dec_le 1 (b / 0x10_0000_0000_0000))
     some : (q : ℕ) → 1 ≤ q → q ≡ 0 → ⊥
     some q h e = omega arith
 
-    none : (q : ℕ) → (1 ≤ q → ⊥) → q ≡ 0
-    none q h = omega arith
-
     go : Dec (1 ≤ b / 0x10_0000_0000_0000) → Positive b
     go (yes l) = positive b (b % 0x10_0000_0000_0000 + 0x10_0000_0000_0000) (b / 0x10_0000_0000_0000 + 1073) B (normal_digits b B (some (b / 0x10_0000_0000_0000) l))
     go (no n) =
         let t = b % 0x10_0000_0000_0000 in
         let l = count_leading_zeros 64 t in
-        positive b (t * 2 ^ (l - 11) % 2 ^ 64) (1074 - (l - 11)) B (subnormal_digits b t l (lead_of b P (none (b / 0x10_0000_0000_0000) n)))
+        positive b (t * 2 ^ (l - 11) % 2 ^ 64) (1074 - (l - 11)) B (subnormal_digits b t l (lead_of b P (omega arith)))

@@ -12,7 +12,7 @@ use mathlib.Core.Logic.{◌⊎◌, inl, inr}
 use mathlib.Core.Bool.{false}
 use Prim.Native.Nat.{ℕ, zero, suc, ◌+◌, ◌-◌, ◌*◌, ◌/◌, ◌%◌, ◌^◌, ◌≤◌, ◌<◌, min}
 use native.Mathlib.Nat.{le_trans, le_of_eq, le_of_lt, le_antisymm, le-add_right, lt_of_lt_of_le, lt_of_le_of_lt, lt_of_not-le, lt_irrefl, zero-lt-suc}
-use native.Mathlib.Nat.{mul_comm, mul_assoc, mul_left_comm, one-mul, suc-mul, add-mul, mul-pos, mul-le-mul_left, mul-le-mul_right}
+use native.Mathlib.Nat.{mul_assoc, mul_left_comm, add-mul, mul-pos, mul-le-mul_left, mul-le-mul_right}
 use native.Mathlib.Nat.{lt_of_mul-lt-mul_right, mul-lt-mul_of_pos_right, pow-succ', le-div_iff_mul-le, div-lt_iff_lt-mul, eq-or-lt_of_le}
 use native.Mathlib.Omega.{arith}
 use native.Mathlib.Decide.{dec_le}
@@ -25,7 +25,7 @@ use lib.Ieee.Fits.{two, reach, round_is, round-fits}
 use lib.Ieee.Exact.{HasValue, units_val}
 use lib.Ieee.Nearest.{closest, closest_same, div_same}
 use Rattle.floats.specs.Root.{amount, radicand, among, Nearest, HalfUnit, Apart, Parts, rounded}
-use Rattle.floats.proofs.root.Squares.{square_suc, square_mul, square_mono, square_less, less_of_squares, at_most}
+use Rattle.floats.proofs.root.Squares.{square_mul, square_mono, square_less, less_of_squares, at_most}
 use Rattle.floats.proofs.root.Numbers.{half_away, next_multiple, no_tie, multiple, size_exact, size_over}
 use Rattle.floats.proofs.root.Amounts.{amount_of, amount_digits, radicand_digits, digits_of, among_of, fits_of, own_amount, same_value, amount_lt}
 
@@ -40,51 +40,37 @@ dropped : (p s : ℕ) → 2 ^ p ≤ s → Dropped p s
 dropped p s h =
     let z = size s in
     let l : p < z = size_over p s h in
-    record { c = z - suc p; reaches = size_reaches s (p + (z - suc p)) (inside p z l); under = subst (λ (x : ℕ). s < 2 ^ x) (sym (whole p z l)) (size-lt s) }
-  where
-    inside : (p z : ℕ) → p < z → p + (z - suc p) < z
-    inside p z l = omega arith
-
-    whole : (p z : ℕ) → p < z → p + suc (z - suc p) ≡ z
-    whole p z l = omega arith
+    record { c = z - suc p; reaches = size_reaches s (p + (z - suc p)) (omega arith); under = subst (λ (x : ℕ). s < 2 ^ x) (sym (omega arith)) (size-lt s) }
 
 -- ---- `round` of a / 2 * 2 ^ h smallest values, where a / 2 has prec + c + 1 digits before the point: a multiple of 2 ^ (c + 1 + h) of them
 
 abbrev kept : ℕ → ℕ → ℕ
 kept a c = closest a (2 * 2 ^ suc c)
 
-pub round_scaled : (f : Format) (a c h : ℕ) → 2 * 2 ^ (prec f + c) ≤ a → a < 2 * 2 ^ (prec f + suc c) → round f false (a * 2 ^ h) (2 * 2 ^ low f) ≡ units f false (kept a c) (suc c + h)
+pub round_scaled : (f : Format) (a c h : ℕ) → 2 * 2 ^ (prec f + c) ≤ a → a < 2 * 2 ^ (prec f + suc c)
+    → round f false (a * 2 ^ h) (2 * 2 ^ low f) ≡ units f false (kept a c) (suc c + h)
 round_scaled f a c h lo hi =
     let p = prec f in
     let l = 2 ^ low f in
     let n = a * 2 ^ h * l in
     let d = 2 * l in
     let D : 0 < d = mul-pos (zero-lt-suc 1) (pow_pos (low f)) in
-    let e : n * 2 ≡ a * 2 ^ h * d = mul_assoc (a * 2 ^ h) l 2 ∙ ap (λ (x : ℕ). a * 2 ^ h * x) (mul_comm l 2) in
+    let e : n * 2 ≡ a * 2 ^ h * d = omega arith in
     let q : n / d ≡ a * 2 ^ h / 2 = div_same n d (a * 2 ^ h) 2 D (zero-lt-suc 1) e in
-    let lo' : 2 ^ (p + c + h) * 2 ≤ a * 2 ^ h = le_trans
-    (le_of_eq (mul_comm (2 ^ (p + c + h)) 2 ∙ ap (λ (x : ℕ). 2 * x) (pow-add 2 (p + c) h) ∙ sym (mul_assoc 2 (2 ^ (p + c)) (2 ^ h))))
-    (mul-le-mul_right (2 ^ h) lo) in
-    let hi' : a * 2 ^ h < 2 ^ suc (p + c + h) * 2 =
-    lt_of_lt_of_le (mul-lt-mul_of_pos_right hi (pow_pos h))
-    (le_of_eq (mul_assoc 2 (2 ^ (p + suc c)) (2 ^ h) ∙ ap (λ (x : ℕ). 2 * x) (sym (pow-add 2 (p + suc c) h)) ∙ mul_comm 2 (2 ^ (p + suc c + h)) ∙ ap (λ (x : ℕ). 2 ^ x * 2) (same p c h))) in
+    let lo' : 2 ^ (p + c + h) * 2 ≤ a * 2 ^ h = omega (arith, pow-add 2 (p + c) h, mul-le-mul_right (2 ^ h) lo) in
+    let top : suc (p + c + h) ≡ p + suc c + h = omega arith in
+    let hi' : a * 2 ^ h < 2 ^ suc (p + c + h) * 2 = rw (top, pow-add 2 (p + suc c) h) (omega (arith, mul-lt-mul_of_pos_right hi (pow_pos h))) in
     let z : size (n / d) ≡ suc (p + c + h) =
     ap size q ∙ size_exact (p + c + h) (a * 2 ^ h / 2) ((le-div_iff_mul-le {k = 2} (zero-lt-suc 1)).1 lo') ((div-lt_iff_lt-mul {k = 2} (zero-lt-suc 1)).1 hi') in
-    let k : size (n / d) - p ≡ suc c + h = ap (λ (x : ℕ). x - p) z ∙ rest p c h in
+    let k : size (n / d) - p ≡ suc c + h = rw z (omega arith) in
     round_is f false (a * 2 ^ h) d
     ∙ ap (λ (x : ℕ). units f false (closest n (d * 2 ^ x)) x) k
     ∙ ap (λ (x : ℕ). units f false x (suc c + h))
     (closest_same n (d * 2 ^ (suc c + h)) a (2 * 2 ^ suc c) (mul-pos D (pow_pos (suc c + h))) (mul-pos (zero-lt-suc 1) (pow_pos (suc c)))
     (cross a (2 ^ h) l (2 ^ suc c) (2 ^ (suc c + h)) (pow-add 2 (suc c) h)))
   where
-    same : (p c h : ℕ) → p + suc c + h ≡ suc (p + c + h)
-    same p c h = omega arith
-
-    rest : (p c h : ℕ) → suc (p + c + h) - p ≡ suc c + h
-    rest p c h = omega arith
-
     cross : (a e l w v : ℕ) → v ≡ w * e → a * e * l * (2 * w) ≡ a * (2 * l * v)
-    cross a e l w v q = rw q (simp (mul_assoc, mul_comm, mul_left_comm) refl)
+    cross a e l w v q = rw q (omega arith)
 
 -- ---- the numbers. The whole root is s, what stands for the rest b, and s has c + 1 digits more than p. D is 2 ^ c, E is 2 ^ h, g is 2 ^ (p - 1), and q is what is kept.
 
@@ -98,11 +84,10 @@ record Kept (g D s b q : ℕ) : Type 0 where
 kept_of : (g D s b q : ℕ) → 0 < D → b ≤ 1 → 2 * (g * D) ≤ s → s < 4 * (g * D)
     → 2 * (q * (4 * D)) ≤ 2 * (2 * s + b) + 4 * D → 2 * (2 * s + b) ≤ 2 * (q * (4 * D)) + 4 * D → Kept g D s b q
 kept_of g D s b q P B lo hi x y =
-    let e : q * (4 * D) ≡ 4 * (q * D) = mul_left_comm q 4 D in
     let u : 2 * (q * D) ≤ s + D = omega arith in
     let v : s + b ≤ 2 * (q * D) + D = omega arith in
-    let m : g * D < (q + 1) * D = subst (λ (z : ℕ). g * D < z) (sym (add-mul q 1 D ∙ ap (λ (z : ℕ). q * D + z) (one-mul D))) (omega arith) in
-    let n : q * D < (2 * g + 1) * D = subst (λ (z : ℕ). q * D < z) (sym (add-mul (2 * g) 1 D ∙ ap (λ (z : ℕ). 2 * g * D + z) (one-mul D) ∙ ap (λ (z : ℕ). z + D) (mul_assoc 2 g D))) (omega arith) in
+    let m : g * D < (q + 1) * D = omega arith in
+    let n : q * D < (2 * g + 1) * D = omega arith in
     record { not_above = u; not_below = v; least = lo; at_least = at_most g q (lt_of_mul-lt-mul_right D m); no_more = at_most q (2 * g) (lt_of_mul-lt-mul_right D n) }
 
 -- W is the unit in the last place, in which the rounded root is q * W, and N is the square of the exact root. The exact root is at most half a unit away.
@@ -115,11 +100,8 @@ record Around (g q W N : ℕ) : Type 0 where
 
 -- s * s + r is at most the square of s, or of s + 1 where there is a rest
 with_rest : (s r : ℕ) → r ≤ 2 * s → s * s + r ≤ (s + min r 1) * (s + min r 1)
-with_rest s zero h = le_of_eq (trim (s * s) ∙ ap (λ (x : ℕ). x * x) (sym (trim s)))
-  where
-    trim : (x : ℕ) → x + 0 ≡ x
-    trim x = omega arith
-with_rest s (suc r) h = subst (λ (x : ℕ). s * s + suc r ≤ (s + x) * (s + x)) (sym (one r)) (omega (arith, square_suc s))
+with_rest s zero h = omega arith
+with_rest s (suc r) h = rw (one r) (omega arith)
   where
     one : (r : ℕ) → min (suc r) 1 ≡ 1
     one r = omega arith
@@ -137,7 +119,7 @@ around_of g D E s r q N G k R e =
     let sq : S * S ≤ N = le_trans (le_of_eq (square_mul s E)) (le_trans (mul-le-mul_right (E * E) (le-add_right (s * s) r)) (le_of_eq e)) in
     let sq' : N ≤ (s + b) * E * ((s + b) * E) = le_trans (le_of_eq (sym e)) (le_trans (mul-le-mul_right (E * E) (with_rest s r R)) (le_of_eq (sym (square_mul (s + b) E)))) in
     let m1 : (2 * q - 1) * W ≤ 2 * S = one_less q W S (D * E) (lt_of_lt_of_le G k.at_least) refl above in
-    let m2 : 2 * ((s + b) * E) ≤ (2 * q + 1) * W = one_more q W ((s + b) * E) (D * E) refl below in
+    let m2 : 2 * ((s + b) * E) ≤ (2 * q + 1) * W = omega arith in
     record {
       lower = le_trans (square_mono ((2 * q - 1) * W) (2 * S) m1) (le_trans (le_of_eq (square_mul 2 S)) (mul-le-mul_left 4 sq));
       upper = le_trans (mul-le-mul_left 4 sq') (le_trans (le_of_eq (sym (square_mul 2 ((s + b) * E)))) (square_mono (2 * ((s + b) * E)) ((2 * q + 1) * W) m2));
@@ -151,25 +133,16 @@ around_of g D E s r q N G k R e =
 
     one_less : (q W S u : ℕ) → 0 < q → W ≡ 2 * u → q * W ≤ S + u → (2 * q - 1) * W ≤ 2 * S
     one_less (suc q) W S u G e h =
-        let a : (2 * suc q - 1) * W ≡ (2 * q + 1) * W = ap (λ (x : ℕ). x * W) (odd_one q) in
-        omega (arith, add-mul (2 * q) 1 W, one-mul W, mul_assoc 2 q W, suc-mul q W)
-      where
-        odd_one : (q : ℕ) → 2 * suc q - 1 ≡ 2 * q + 1
-        odd_one q = omega arith
+        let a : (2 * suc q - 1) * W ≡ (2 * q + 1) * W = ap (λ (x : ℕ). x * W) (omega arith) in
+        omega arith
     one_less zero W S u G e h = absurd (lt_irrefl 0 G)
-
-    one_more : (q W T u : ℕ) → W ≡ 2 * u → T ≤ q * W + u → 2 * T ≤ (2 * q + 1) * W
-    one_more q W T u e h = omega (arith, add-mul (2 * q) 1 W, one-mul W, mul_assoc 2 q W)
 
 -- ---- a tie is impossible: four times a number of few digits and a power of two is not the square of an odd number of more digits and a power of two
 
 wide : (g m c : ℕ) → 2 ≤ g → m < 2 * g → 2 * g ≤ c + 1 → m < c * c
 wide g m c G l h =
-    let three : 3 * c ≤ c * c = mul-le-mul_right c (at_least g c G h) in
+    let three : 3 * c ≤ c * c = mul-le-mul_right c (omega arith) in
     omega arith
-  where
-    at_least : (g c : ℕ) → 2 ≤ g → 2 * g ≤ c + 1 → 3 ≤ c
-    at_least g c G h = omega arith
 
 -- the exact root is less than half a unit away
 record Clear (q W N : ℕ) : Type 0 where
@@ -180,30 +153,19 @@ record Clear (q W N : ℕ) : Type 0 where
 untied : (g c m j k N : ℕ) → 2 ≤ g → m < 2 * g → 2 * g ≤ c + 1 → c % 2 ≡ 1 → m * 2 ^ j ≡ N → c * 2 ^ k * (c * 2 ^ k) ≡ 4 * N → ⊥
 untied g c m j k N G l h o e t =
     no_tie c m (k + k) (2 + j) o (wide g m c G l h)
-    (ap (λ (x : ℕ). c * c * x) (pow-add 2 k k) ∙ sym (square_mul c (2 ^ k)) ∙ t ∙ ap (λ (x : ℕ). 4 * x) (sym e) ∙ mul_left_comm 4 m (2 ^ j) ∙ ap (λ (x : ℕ). m * x) (sym (pow-add 2 2 j)))
+    (rw (pow-add 2 k k, pow-add 2 2 j) (omega arith))
 
 clear : (g q m j k N : ℕ) → 2 ≤ g → m < 2 * g → m * 2 ^ j ≡ N → Around g q (2 ^ k) N → Clear q (2 ^ k) N
 clear g q m j k N G l e a =
     record {
-      lower = lt_of_le-ne a.lower (λ t. untied g (2 * q - 1) m j k N G l (lo g q a.at_least) (lo_odd g q G a.at_least) e t);
-      upper = lt_of_le-ne a.upper (λ t. untied g (2 * q + 1) m j k N G l (hi g q a.at_least) (hi_odd q) e (sym t));
+      lower = lt_of_le-ne a.lower (λ t. untied g (2 * q - 1) m j k N G l (omega arith) (omega arith) e t);
+      upper = lt_of_le-ne a.upper (λ t. untied g (2 * q + 1) m j k N G l (omega arith) (omega arith) e (sym t));
     }
-  where
-    lo : (g q : ℕ) → g ≤ q → 2 * g ≤ 2 * q - 1 + 1
-    lo g q h = omega arith
-
-    lo_odd : (g q : ℕ) → 2 ≤ g → g ≤ q → (2 * q - 1) % 2 ≡ 1
-    lo_odd g q G h = omega arith
-
-    hi : (g q : ℕ) → g ≤ q → 2 * g ≤ 2 * q + 1 + 1
-    hi g q h = omega arith
-
-    hi_odd : (q : ℕ) → (2 * q + 1) % 2 ≡ 1
-    hi_odd q = omega arith
 
 -- ---- every other value of the format is further away. Y is its amount, m * 2 ^ j.
 
-under_it : (g q k N Y m j : ℕ) → 2 ≤ g → Around g q (2 ^ k) N → Clear q (2 ^ k) N → m < 2 * g → Y ≡ m * 2 ^ j → Y < q * 2 ^ k → (Y + q * 2 ^ k) * (Y + q * 2 ^ k) < 4 * N
+under_it : (g q k N Y m j : ℕ) → 2 ≤ g → Around g q (2 ^ k) N → Clear q (2 ^ k) N → m < 2 * g → Y ≡ m * 2 ^ j → Y < q * 2 ^ k
+    → (Y + q * 2 ^ k) * (Y + q * 2 ^ k) < 4 * N
 under_it g q k N Y m j G a c l e h = large (dec_le (g * W) Y)
   where
     W : ℕ
@@ -212,48 +174,40 @@ under_it g q k N Y m j G a c l e h = large (dec_le (g * W) Y)
     one_less : (q W : ℕ) → 0 < q → (2 * q - 1) * W + W ≡ 2 * (q * W)
     one_less q W h =
         let a : (2 * q - 1 + 1) * W ≡ (2 * q - 1) * W + 1 * W = add-mul (2 * q - 1) 1 W in
-        let b : (2 * q - 1 + 1) * W ≡ 2 * (q * W) = ap (λ (x : ℕ). x * W) (full q h) ∙ mul_assoc 2 q W in
-        omega (arith, one-mul W)
-      where
-        full : (q : ℕ) → 0 < q → 2 * q - 1 + 1 ≡ 2 * q
-        full q h = omega arith
-
-    positive : (g q : ℕ) → 2 ≤ g → g ≤ q → 0 < q
-    positive g q G h = omega arith
+        let b : (2 * q - 1 + 1) * W ≡ 2 * (q * W) = ap (λ (x : ℕ). x * W) (omega arith) ∙ mul_assoc 2 q W in
+        omega arith
 
     -- a whole unit below
     unit_below : Y + 2 ^ k ≤ q * 2 ^ k → (Y + q * 2 ^ k) * (Y + q * 2 ^ k) < 4 * N
     unit_below d =
-        lt_of_le_of_lt (square_mono (Y + q * 2 ^ k) ((2 * q - 1) * 2 ^ k) (omega (arith, one_less q (2 ^ k) (positive g q G a.at_least)))) c.lower
+        lt_of_le_of_lt (square_mono (Y + q * 2 ^ k) ((2 * q - 1) * 2 ^ k) (omega (arith, one_less q (2 ^ k) (omega arith)))) c.lower
 
     small : (g ≡ q) ⊎ (g < q) → Y < g * 2 ^ k → (Y + q * 2 ^ k) * (Y + q * 2 ^ k) < 4 * N
     small (inl e) y =
-        let f : q * 2 ^ k * (q * 2 ^ k) ≤ N = subst (λ (x : ℕ). x * 2 ^ k * (x * 2 ^ k) ≤ N) e a.first in
+        let f : q * 2 ^ k * (q * 2 ^ k) ≤ N = rw (← e) a.first in
         lt_of_lt_of_le (square_less (Y + q * 2 ^ k) (2 * (q * 2 ^ k)) (omega arith)) (le_trans (le_of_eq (square_mul 2 (q * 2 ^ k))) (mul-le-mul_left 4 f))
     small (inr s) y = unit_below (omega (arith, next_multiple g q (2 ^ k) s))
 
     large : Dec (g * W ≤ Y) → (Y + q * 2 ^ k) * (Y + q * 2 ^ k) < 4 * N
     large (yes y) =
-        let t = multiple g m j k l (subst (λ (x : ℕ). g * 2 ^ k ≤ x) e y) in
+        let t = multiple g m j k l (rw (← e) y) in
         let s : Y ≡ t.0 * 2 ^ k = e ∙ t.1 in
-        unit_below (subst (λ (x : ℕ). x + 2 ^ k ≤ q * 2 ^ k) (sym s) (next_multiple t.0 q (2 ^ k) (lt_of_mul-lt-mul_right (2 ^ k) (subst (λ (x : ℕ). x < q * 2 ^ k) s h))))
+        unit_below (rw s (next_multiple t.0 q (2 ^ k) (lt_of_mul-lt-mul_right (2 ^ k) (rw s at h))))
     large (no y) = small (eq-or-lt_of_le a.at_least) (lt_of_not-le y)
 
-over_it : (g q k N Y m j : ℕ) → 2 ≤ g → Around g q (2 ^ k) N → Clear q (2 ^ k) N → m < 2 * g → Y ≡ m * 2 ^ j → q * 2 ^ k < Y → 4 * N < (q * 2 ^ k + Y) * (q * 2 ^ k + Y)
+over_it : (g q k N Y m j : ℕ) → 2 ≤ g → Around g q (2 ^ k) N → Clear q (2 ^ k) N → m < 2 * g → Y ≡ m * 2 ^ j → q * 2 ^ k < Y
+    → 4 * N < (q * 2 ^ k + Y) * (q * 2 ^ k + Y)
 over_it g q k N Y m j G a c l e h =
     let big : g * 2 ^ k ≤ Y = le_trans (mul-le-mul_right (2 ^ k) a.at_least) (le_of_lt h) in
-    let t = multiple g m j k l (subst (λ (x : ℕ). g * 2 ^ k ≤ x) e big) in
+    let t = multiple g m j k l (rw (← e) big) in
     let s : Y ≡ t.0 * 2 ^ k = e ∙ t.1 in
-    let n : q * 2 ^ k + 2 ^ k ≤ t.0 * 2 ^ k = next_multiple q t.0 (2 ^ k) (lt_of_mul-lt-mul_right (2 ^ k) (subst (λ (x : ℕ). q * 2 ^ k < x) s h)) in
-    lt_of_lt_of_le c.upper (square_mono ((2 * q + 1) * 2 ^ k) (q * 2 ^ k + Y) (omega (arith, add-mul (2 * q) 1 (2 ^ k), one-mul (2 ^ k), mul_assoc 2 q (2 ^ k))))
+    let n : q * 2 ^ k + 2 ^ k ≤ t.0 * 2 ^ k = next_multiple q t.0 (2 ^ k) (lt_of_mul-lt-mul_right (2 ^ k) (rw (← s) h)) in
+    lt_of_lt_of_le c.upper (square_mono ((2 * q + 1) * 2 ^ k) (q * 2 ^ k + Y) (omega arith))
 
 -- ---- the theorems
 
 twice_half : (p : ℕ) → 2 ≤ p → 2 ^ p ≡ 2 * 2 ^ (p - 1)
-twice_half p h = ap (λ (x : ℕ). 2 ^ x) (pred p h) ∙ pow-succ' 2 (p - 1)
-  where
-    pred : (p : ℕ) → 2 ≤ p → p ≡ suc (p - 1)
-    pred p h = omega arith
+twice_half p h = ap (λ (x : ℕ). 2 ^ x) (omega arith) ∙ pow-succ' 2 (p - 1)
 
 two_at_least : (p : ℕ) → 2 ≤ p → 2 ≤ 2 ^ (p - 1)
 two_at_least p h = pow_mono (one p h)
@@ -297,43 +251,29 @@ result f x a X P =
     let c = d.c in
     let D = 2 ^ c in
     let P1 : 2 ^ (p + c) ≡ 2 * (g * D) = pow-add 2 p c ∙ ap (λ (y : ℕ). y * D) (twice_half p (two f)) ∙ mul_assoc 2 g D in
-    let P2 : 2 ^ (p + suc c) ≡ 4 * (g * D) = ap (λ (y : ℕ). 2 ^ y) (shift p c) ∙ pow-succ' 2 (p + c) ∙ ap (λ (y : ℕ). 2 * y) P1 ∙ sym (mul_assoc 2 2 (g * D)) in
-    let lo : 2 * (g * D) ≤ s = subst (λ (y : ℕ). y ≤ s) P1 d.reaches in
-    let hi : s < 4 * (g * D) = subst (λ (y : ℕ). s < y) P2 d.under in
-    let B : b ≤ 1 = at_most_one r in
+    let P2 : 2 ^ (p + suc c) ≡ 4 * (g * D) = ap (λ (y : ℕ). 2 ^ y) (omega arith) ∙ pow-succ' 2 (p + c) ∙ ap (λ (y : ℕ). 2 * y) P1 ∙ sym (mul_assoc 2 2 (g * D)) in
+    let lo : 2 * (g * D) ≤ s = rw (← P1) d.reaches in
+    let hi : s < 4 * (g * D) = rw (← P2) d.under in
+    let B : b ≤ 1 = omega arith in
     let A = 2 * s + b in
     let q = kept A c in
     let k = suc c + h in
     let D4 : 2 * 2 ^ suc c ≡ 4 * D = ap (λ (y : ℕ). 2 * y) (pow-succ' 2 c) ∙ sym (mul_assoc 2 2 D) in
     let away = half_away A (2 * 2 ^ suc c) (mul-pos (zero-lt-suc 1) (pow_pos (suc c))) in
     let K : Kept g D s b q =
-    kept_of g D s b q (pow_pos c) B lo hi (subst (λ (y : ℕ). 2 * (q * y) ≤ 2 * A + y) D4 away.0) (subst (λ (y : ℕ). 2 * A ≤ 2 * (q * y) + y) D4 away.1) in
+    kept_of g D s b q (pow_pos c) B lo hi (rw (← D4) away.0) (rw (← D4) away.1) in
     let W : 2 * (D * E) ≡ 2 ^ k = sym (pow-add 2 (suc c) h ∙ ap (λ (y : ℕ). y * E) (pow-succ' 2 c) ∙ mul_assoc 2 D E) in
-    let ar : Around g q (2 * (D * E)) N = around_of g D E s r q N (pred_le G) K P.whole_part (ap (λ (y : ℕ). (s * s + r) * y) (sym (pow-add 2 h h)) ∙ P.value) in
-    let is : rounded f a ≡ units f false q k = round_scaled f A c h (subst (λ (y : ℕ). 2 * y ≤ A) (sym P1) (omega arith)) (subst (λ (y : ℕ). A < 2 * y) (sym P2) (omega arith)) in
+    let ar : Around g q (2 * (D * E)) N = around_of g D E s r q N (omega arith) K P.whole_part (ap (λ (y : ℕ). (s * s + r) * y) (sym (pow-add 2 h h)) ∙ P.value) in
+    let is : rounded f a ≡ units f false q k =
+    round_scaled f A c h (rw P1 (omega arith)) (rw P2 (omega arith)) in
     let small : s * E < 2 ^ (low f + emax f) = fine f s r h (amount f x) (amount_lt f x X) P.value in
-    let qD : q * D ≤ s = omega (arith, K.not_above, mul-le-mul_right D G) in
+    let qD : q * D ≤ s = omega (arith, mul-le-mul_right D G) in
     let over : q * 2 ^ k < 2 ^ (low f + suc (emax f)) =
     lt_of_le_of_lt (le_of_eq (ap (λ (y : ℕ). q * y) (sym W) ∙ mul_left_comm q 2 (D * E) ∙ ap (λ (y : ℕ). 2 * y) (sym (mul_assoc q D E))))
     (lt_of_le_of_lt (mul-le-mul_left 2 (mul-le-mul_right E qD))
-    (subst (λ (y : ℕ). 2 * (s * E) < y) (sym (ap (λ (y : ℕ). 2 ^ y) (last (low f) (emax f)) ∙ pow-succ' 2 (low f + emax f)))
-    (twice_less (s * E) (2 ^ (low f + emax f)) small))) in
-    record { q = q; k = k; around = subst (λ (y : ℕ). Around g q y N) W ar; value = subst (λ (v : Float). HasValue v false (q * 2 ^ k) (2 ^ low f)) (sym is) (units_val f false q k over) }
-  where
-    shift : (p c : ℕ) → p + suc c ≡ suc (p + c)
-    shift p c = omega arith
-
-    at_most_one : (r : ℕ) → min r 1 ≤ 1
-    at_most_one r = omega arith
-
-    pred_le : {g : ℕ} → 2 ≤ g → 1 ≤ g
-    pred_le h = omega arith
-
-    last : (l e : ℕ) → l + suc e ≡ suc (l + e)
-    last l e = omega arith
-
-    twice_less : (a b : ℕ) → a < b → 2 * a < 2 * b
-    twice_less a b h = omega arith
+    (subst (λ (y : ℕ). 2 * (s * E) < y) (sym (ap (λ (y : ℕ). 2 ^ y) (omega arith) ∙ pow-succ' 2 (low f + emax f)))
+    (omega arith))) in
+    record { q = q; k = k; around = rw (← W) ar; value = rw is (units_val f false q k over) }
 
 pub rounded_fits : (f : Format) (a : Apart) → T (fits f (rounded f a))
 unfolding rounded
@@ -344,7 +284,7 @@ cleared : (f : Format) (x v : Float) → T (among f x) → (R : Result f (radica
 cleared f x v X R =
     let d = digits_of f x X in
     clear (2 ^ (prec f - 1)) R.q d.digits (d.power + low f) R.k (radicand f x) (two_at_least (prec f) (two f))
-    (subst (λ (y : ℕ). d.digits < y) (twice_half (prec f) (two f)) d.few) (radicand_digits f x d) R.around
+    (rw (← (twice_half (prec f) (two f))) d.few) (radicand_digits f x d) R.around
 
 half_unit_of : (f : Format) (x v : Float) → T (among f x) → Result f (radicand f x) v → HalfUnit f x v
 half_unit_of f x v X R =
@@ -373,12 +313,10 @@ nearest_of f x v X F R =
       held = among_of f v (q * 2 ^ k) F R.value;
       over_lower = λ y Y l.
           let t = digits_of f y Y in
-          subst (λ (w : ℕ). (amount f y + w) * (amount f y + w) < 4 * N) (sym z)
-          (under_it g q k N (amount f y) t.digits t.power G R.around c (subst (λ (w : ℕ). t.digits < w) P t.few) (amount_digits f y t) (subst (λ (w : ℕ). amount f y < w) z l));
+          rw z (under_it g q k N (amount f y) t.digits t.power G R.around c (rw P at t.few) (amount_digits f y t) (rw z at l));
       under_higher = λ y Y l.
           let t = digits_of f y Y in
-          subst (λ (w : ℕ). 4 * N < (w + amount f y) * (w + amount f y)) (sym z)
-          (over_it g q k N (amount f y) t.digits t.power G R.around c (subst (λ (w : ℕ). t.digits < w) P t.few) (amount_digits f y t) (subst (λ (w : ℕ). w < amount f y) z l));
+          rw z (over_it g q k N (amount f y) t.digits t.power G R.around c (rw P at t.few) (amount_digits f y t) (rw z at l));
     }
 
 -- Whatever the exponent, and however the root was taken apart, one rounding gives the nearest value.
@@ -395,19 +333,16 @@ only f x r t a b = go (dec_le (amount f r) (amount f t)) (dec_le (amount f t) (a
   where
     same : amount f r ≡ amount f t → r ≡ t
     same e = same_value f r t false (amount f r) (fits_of f r a.held) (fits_of f t b.held) (own_amount f r a.held)
-        (subst (λ (n : ℕ). HasValue t false n (2 ^ low f)) (sym e) (own_amount f t b.held))
+        (rw e (own_amount f t b.held))
 
     against : (m n k : ℕ) → m * m < k → k < n * n → m ≡ n → ⊥
-    against m n k p q e = lt_irrefl (n * n) (subst (λ (z : ℕ). z * z < n * n) e (lt_of_lt_of_le p (le_of_lt q)))
-
-    differ : (m n : ℕ) → (m ≤ n → ⊥) → n < m
-    differ m n h = omega arith
+    against m n k p q e = lt_irrefl (n * n) (rw e at (lt_of_lt_of_le p (le_of_lt q)))
 
     go : Dec (amount f r ≤ amount f t) → Dec (amount f t ≤ amount f r) → r ≡ t
     go (yes p) (yes q) = same (le_antisymm p q)
     go (no p) q =
-        let l : amount f t < amount f r = differ (amount f r) (amount f t) p in
+        let l : amount f t < amount f r = omega arith in
         absurd (against (amount f t + amount f r) (amount f t + amount f r) (4 * radicand f x) (a.over_lower t b.held l) (b.under_higher r a.held l) refl)
     go (yes p) (no q) =
-        let l : amount f r < amount f t = differ (amount f t) (amount f r) q in
+        let l : amount f r < amount f t = omega arith in
         absurd (against (amount f r + amount f t) (amount f r + amount f t) (4 * radicand f x) (b.over_lower r a.held l) (a.under_higher t b.held l) refl)

@@ -1,8 +1,8 @@
 -- Squares, and whole parts of roots: `whole_root` of the definition is the whole part of the root (`whole_root_is`), and there is only one (`whole_unique`). Assumes nothing.
-use mathlib.Core.Path.{◌≡◌, refl, ap, ◌∙◌, subst}
+use mathlib.Core.Path.{◌≡◌, ap, ◌∙◌}
 use mathlib.Core.Bool.{Bool, true, false, not, cond}
 use Prim.Native.Nat.{ℕ, zero, suc, ◌+◌, ◌-◌, ◌*◌, ◌/◌, ◌^◌, ◌≤◌, ◌<◌}
-use native.Mathlib.Nat.{le_trans, lt_of_le_of_lt, lt_of_not-le, not-le_of_lt, mul_comm, mul_assoc, mul_left_comm, add_assoc, mul-add, add-mul, mul-one, two-mul, mul-le-mul_left, mul-le-mul_right}
+use native.Mathlib.Nat.{lt_of_le_of_lt, lt_of_not-le, not-le_of_lt, mul-le-mul}
 use native.Mathlib.Omega.{arith}
 use lib.Dec.{T, leb, leb→le, nleb→lt}
 use lib.Pow.{pow-add}
@@ -11,22 +11,16 @@ use Rattle.floats.specs.inner.RootSteps.{Whole, Splits}
 
 -- ---- squares
 
-pub square_add : (a b : ℕ) → (a + b) * (a + b) ≡ a * a + 2 * (a * b) + b * b
-square_add a b = rw two-mul (simp (mul-add, add-mul, mul_comm, add_assoc) refl)
-
-pub square_suc : (a : ℕ) → (a + 1) * (a + 1) ≡ a * a + 2 * a + 1
-square_suc a = square_add a 1 ∙ ap (λ (x : ℕ). a * a + 2 * x + 1) (mul-one a)
-
 pub square_mul : (a b : ℕ) → (a * b) * (a * b) ≡ (a * a) * (b * b)
-square_mul a b = simp (mul_assoc, mul_left_comm) refl
+square_mul a b = omega arith
 
 pub square_mono : (a b : ℕ) → a ≤ b → a * a ≤ b * b
-square_mono a b h = le_trans (mul-le-mul_left a h) (mul-le-mul_right b h)
+square_mono a b h = mul-le-mul h h
 
 pub square_less : (a b : ℕ) → a < b → a * a < b * b
 square_less a b h =
     let e : (a + 1) * (a + 1) ≤ b * b = square_mono (a + 1) b (omega arith) in
-    omega (arith, square_suc a)
+    omega arith
 
 pub less_of_squares : (a b : ℕ) → a * a < b * b → a < b
 less_of_squares a b h = lt_of_not-le (λ (g : b ≤ a). not-le_of_lt h (square_mono b a g))
@@ -47,23 +41,19 @@ whole_unique n s t a b =
     omega arith
 
 pub whole_of_splits : (n s r : ℕ) → Splits n s r → Whole n s
-whole_of_splits n s r w = record { reached = omega (arith, w.sum); not_passed = omega (arith, w.sum, w.small, square_suc s) }
+whole_of_splits n s r w = record { reached = omega arith; not_passed = omega arith }
 
 pub splits_of_whole : (n s : ℕ) → Whole n s → Splits n s (n - s * s)
-splits_of_whole n s w = record { sum = omega (arith, w.reached); small = omega (arith, w.not_passed, square_suc s) }
+splits_of_whole n s w = record { sum = omega arith; small = omega arith }
 
 -- ---- `whole_root`: from the root of n / 4 to the root of n, a digit more
 
-digit : (n q : ℕ) → Whole (n / 4) q → (b : Bool) → (T b → (2 * q + 1) * (2 * q + 1) ≤ n) → (T (not b) → n < (2 * q + 1) * (2 * q + 1)) → Whole n (cond b (2 * q + 1) (2 * q))
+digit : (n q : ℕ) → Whole (n / 4) q → (b : Bool)
+    → (T b → (2 * q + 1) * (2 * q + 1) ≤ n) → (T (not b) → n < (2 * q + 1) * (2 * q + 1)) → Whole n (cond b (2 * q + 1) (2 * q))
 digit n q h true y z =
-    let w : (2 * q + 1 + 1) * (2 * q + 1 + 1) ≡ 4 * ((q + 1) * (q + 1)) = ap (λ (x : ℕ). x * x) (twice q) ∙ square_mul 2 (q + 1) in
-    record { reached = y tt; not_passed = omega (arith, w, h.not_passed) }
-  where
-    twice : (q : ℕ) → 2 * q + 1 + 1 ≡ 2 * (q + 1)
-    twice q = omega arith
+    record { reached = y tt; not_passed = omega arith }
 digit n q h false y z =
-    let w : 2 * q * (2 * q) ≡ 4 * (q * q) = square_mul 2 q in
-    record { reached = omega (arith, w, h.reached); not_passed = z tt }
+    record { reached = omega arith; not_passed = z tt }
 
 four_times : (d : ℕ) → 2 ^ (suc d + suc d) ≡ 4 * 2 ^ (d + d)
 four_times d =
@@ -76,7 +66,7 @@ whole_root_is zero n h = record { reached = omega arith; not_passed = omega arit
 whole_root_is (suc d) n h =
     let q = whole_root d (n / 4) in
     let c = (2 * q + 1) * (2 * q + 1) in
-    digit n q (whole_root_is d (n / 4) (quarter n (2 ^ (d + d)) (subst (λ (x : ℕ). n < x) (four_times d) h))) (leb c n) (leb→le c n) (nleb→lt c n)
+    digit n q (whole_root_is d (n / 4) (quarter n (2 ^ (d + d)) (rw (← (four_times d)) h))) (leb c n) (leb→le c n) (nleb→lt c n)
   where
     quarter : (n p : ℕ) → n < 4 * p → n / 4 < p
     quarter n p h = omega arith

@@ -1,19 +1,20 @@
 -- Taking the exact root apart: `apart` does it rightly (`taken_apart`), and there is only one way with a whole part of just one digit more than the format keeps (`apart_is`). So the code's
 -- proof need not know what a root is: whatever it computes, if the parts add up and the digits are right, they are those of `apart`. Assumes nothing.
-use mathlib.Core.Path.{◌≡◌, refl, sym, ap, ◌∙◌, subst}
+use mathlib.Core.Path.{◌≡◌, refl, sym, ap, ◌∙◌}
 use Prim.Native.Nat.{ℕ, suc, ◌+◌, ◌-◌, ◌*◌, ◌/◌, ◌^◌, ◌≤◌, ◌<◌}
 use native.Mathlib.Nat.{le_antisymm, le-add_left, le_of_suc-le-suc, le_trans, le_of_eq, lt_of_not-le, lt_of_lt_of_le, lt_of_le_of_lt}
-use native.Mathlib.Nat.{eq_of_mul-eq-mul_right, mul_comm, mul_assoc, one-mul, mul-le-mul_left, mul-le-mul_right, mul-div_cancel, le-div_iff_mul-le}
+use native.Mathlib.Nat.{eq_of_mul-eq-mul_right, mul_assoc, one-mul, mul-le-mul_left, mul-le-mul_right, mul-div_cancel, le-div_iff_mul-le}
 use native.Mathlib.Nat.{div-lt_iff_lt-mul}
 use native.Mathlib.Omega.{arith}
 use lib.Dec.{T, lit≤}
 use lib.Pow.{pow-add, pow_pos, pow_mono, shl_lt}
 use lib.Ieee.{Float, Format, binary32, binary64, prec, low, size}
 use lib.Ieee.Digits.{size-lt, size_reaches, size-le, back}
+use lib.Ieee.Positive.{first_pos}
 use Rattle.floats.specs.Root.{amount, radicand, among, whole_root, Parts, parted, apart}
 use Rattle.floats.specs.inner.RootSteps.{Whole, Splits}
 use Rattle.floats.proofs.root.Squares.{whole_root_is, whole_reaches, whole_unique, whole_of_splits, splits_of_whole, less_of_squares, square_mono}
-use Rattle.floats.proofs.root.Numbers.{first_above_zero, size_over}
+use Rattle.floats.proofs.root.Numbers.{size_over}
 use Rattle.floats.proofs.root.Amounts.{digits_of, amount_digits, radicand_digits}
 
 -- ---- an even number of zeros is taken off a number n = m * 2 ^ j, where m has at most p digits and j is 2 * p at least: what is left has 2 * p + 1 digits or one more
@@ -26,7 +27,7 @@ record Shortened (p n h : ℕ) : Type 0 where
 shortened : (p n m j h : ℕ) → m < 2 ^ p → 0 < m → m * 2 ^ j ≡ n → 2 * p ≤ j → h ≡ (size n - (2 * p + 1)) / 2 → Shortened p n h
 shortened p n m j h few some e far eh =
     let longer : j < size n = size_over j n (le_trans (le_of_eq (sym (one-mul (2 ^ j)))) (le_trans (mul-le-mul_right (2 ^ j) some) (le_of_eq e))) in
-    let shorter : size n ≤ p + j = size-le n (p + j) (subst (λ (x : ℕ). x < 2 ^ (p + j)) e (shl_lt p j few)) in
+    let shorter : size n ≤ p + j = size-le n (p + j) (rw (← e) (shl_lt p j few)) in
     let zeros : h + h ≤ j = omega arith in
     let inside : p + p + (h + h) < size n = omega arith in
     let reach : size n ≤ suc p + suc p + (h + h) = omega arith in
@@ -46,7 +47,7 @@ roomy binary64 = lit≤ tt
 radicand_shortened : (f : Format) (x : Float) → T (among f x) → 0 < amount f x → Shortened (prec f) (radicand f x) ((size (radicand f x) - (2 * prec f + 1)) / 2)
 radicand_shortened f x X P =
     let d = digits_of f x X in
-    let some : 0 < d.digits = first_above_zero d.digits (2 ^ d.power) (subst (λ (y : ℕ). 0 < y) (amount_digits f x d) P) in
+    let some : 0 < d.digits = first_pos d.digits (2 ^ d.power) (rw (← (amount_digits f x d)) P) in
     shortened (prec f) (radicand f x) d.digits (d.power + low f) ((size (radicand f x) - (2 * prec f + 1)) / 2) d.few some
     (radicand_digits f x d) (le_trans (roomy f) (le-add_left (low f) d.power)) refl
 
@@ -76,23 +77,13 @@ taken_apart f x X P =
 no_less : (h k a b L : ℕ) → L ≤ b → a < 4 * L → a * 2 ^ (h + h) ≡ b * 2 ^ (k + k) → k ≤ h
 no_less h k a b L lo hi e = le_of_suc-le-suc (lt_of_not-le against)
   where
-    join : (h k : ℕ) → suc h ≤ k → 2 + (k - suc h + (k - suc h)) + (h + h) ≡ k + k
-    join h k l = omega arith
-
-    four : (c : ℕ) → 1 ≤ c → 4 ≤ 4 * c
-    four c h = omega arith
-
-    clash : (a b L : ℕ) → 4 * b ≤ a → L ≤ b → a < 4 * L → ⊥
-    clash a b L m lo hi = omega arith
-
     against : suc h ≤ k → ⊥
     against l =
         let d = k - suc h in
-        let p : 2 ^ (k + k) ≡ 4 * 2 ^ (d + d) * 2 ^ (h + h) = ap (λ (y : ℕ). 2 ^ y) (sym (join h k l)) ∙ pow-add 2 (2 + (d + d)) (h + h) ∙ ap (λ (y : ℕ). y * 2 ^ (h + h)) (pow-add 2 2 (d + d)) in
-        let q : a ≡ b * (4 * 2 ^ (d + d)) = eq_of_mul-eq-mul_right (2 ^ (h + h)) (pow_pos (h + h)) a (b * (4 * 2 ^ (d + d)))
-        (e ∙ ap (λ (y : ℕ). b * y) p ∙ sym (mul_assoc b (4 * 2 ^ (d + d)) (2 ^ (h + h)))) in
-        let m : 4 * b ≤ a = le_trans (le_of_eq (mul_comm 4 b)) (le_trans (mul-le-mul_left b (four (2 ^ (d + d)) (pow_pos (d + d)))) (le_of_eq (sym q))) in
-        clash a b L m lo hi
+        let parts : k + k ≡ 2 + (d + d) + (h + h) = omega arith in
+        let p = rw (parts, pow-add 2 (2 + (d + d)) (h + h), pow-add 2 2 (d + d)) at e in
+        let q : a ≡ b * (4 * 2 ^ (d + d)) = eq_of_mul-eq-mul_right (2 ^ (h + h)) (pow_pos (h + h)) a (b * (4 * 2 ^ (d + d))) (omega (arith, p)) in
+        omega (arith, mul-le-mul_left b (pow_pos (d + d)))
 
 -- what a root of p + 1 digits is the root of
 range : (p n s r : ℕ) → Splits n s r → 2 ^ p ≤ s → s < 2 ^ suc p → (2 ^ (p + p) ≤ n) × (n < 4 * 2 ^ (p + p))
@@ -105,7 +96,8 @@ range p n s r w lo hi =
           (le_of_eq (sym (pow-add 2 (suc p) (suc p)) ∙ ap (λ (y : ℕ). 2 ^ y) sums ∙ pow-add 2 2 (p + p)))),
     )
 
-one_way : (p h s r k t u : ℕ) → (s * s + r) * 2 ^ (h + h) ≡ (t * t + u) * 2 ^ (k + k) → r ≤ 2 * s → u ≤ 2 * t → 2 ^ p ≤ s → 2 ^ p ≤ t → s < 2 ^ suc p → t < 2 ^ suc p → (h ≡ k) × (s ≡ t) × (r ≡ u)
+one_way : (p h s r k t u : ℕ) → (s * s + r) * 2 ^ (h + h) ≡ (t * t + u) * 2 ^ (k + k) → r ≤ 2 * s → u ≤ 2 * t
+    → 2 ^ p ≤ s → 2 ^ p ≤ t → s < 2 ^ suc p → t < 2 ^ suc p → (h ≡ k) × (s ≡ t) × (r ≡ u)
 one_way p h s r k t u e R U ls lt hs ht =
     let a = s * s + r in
     let b = t * t + u in
@@ -115,11 +107,8 @@ one_way p h s r k t u e R U ls lt hs ht =
     let rb = range p b t u sb lt ht in
     let hk : h ≡ k = le_antisymm (no_less k h b a (2 ^ (p + p)) ra.0 rb.1 (sym e)) (no_less h k a b (2 ^ (p + p)) rb.0 ra.1 e) in
     let ab : a ≡ b = eq_of_mul-eq-mul_right (2 ^ (k + k)) (pow_pos (k + k)) a b (ap (λ (y : ℕ). a * 2 ^ (y + y)) (sym hk) ∙ e) in
-    let st : s ≡ t = whole_unique a s t (whole_of_splits a s r sa) (subst (λ (y : ℕ). Whole y t) (sym ab) (whole_of_splits b t u sb)) in
-    (hk, st, cancel s t r u st ab)
-  where
-    cancel : (s t r u : ℕ) → s ≡ t → s * s + r ≡ t * t + u → r ≡ u
-    cancel s t r u e f = omega (arith, ap (λ (x : ℕ). x * x) e)
+    let st : s ≡ t = whole_unique a s t (whole_of_splits a s r sa) (rw ab (whole_of_splits b t u sb)) in
+    (hk, st, (omega (arith, ap (λ (x : ℕ). x * x) st)))
 
 pub apart_is : (f : Format) (x : Float) (h s r : ℕ) → T (among f x) → 0 < amount f x → (s * s + r) * 2 ^ (h + h) ≡ radicand f x → r ≤ 2 * s
     → 2 ^ prec f ≤ s → s < 2 ^ suc (prec f) → parted h s r ≡ apart f x

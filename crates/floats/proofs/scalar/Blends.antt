@@ -64,7 +64,7 @@ above_zero false m e a c p C h t = absurd t
 above_zero true zero e a c p C h t = absurd p
 above_zero true (suc m) e zero c p C h t =
     let q : 0 < suc m * up e * c = mul-pos (mul-pos (omega arith) (up_pos e)) C in
-    absurd (omega (arith, zero-mul (down e)))
+    absurd (omega arith)
 above_zero true (suc m) e (suc a) c p C h t = omega arith
 
 add_zero_right : (f : Format) (s : Bool) (m : ℕ) (e : ℤ) (t : Bool) → T (fits f (fin s m e)) → T (ordinary (fin s m e))

@@ -242,7 +242,7 @@ bilinear_own : (i j : Bool) {a b c d : Float} → Value a → Value b → Value 
     → blend (end j) (blend (end i) a b) (blend (end i) c d) ≡ pick j (pick i a b) (pick i c d)
 bilinear_own i false va vb vc vd o =
     let h = picked_own i va vb o in
-    picked_own false (blend_value i va vb) (blend_value i vc vd) (subst (λ (x : Float). T (ordinary x)) (sym h) o) ∙ h
+    picked_own false (blend_value i va vb) (blend_value i vc vd) (rw h o) ∙ h
 bilinear_own i true va vb vc vd o =
     let h = picked_own i vc vd o in
     picked_own true (blend_value i va vb) (blend_value i vc vd) (subst (λ (x : Float). T (ordinary x)) (sym h) o) ∙ h
@@ -287,7 +287,7 @@ zero_if_level f (fin z (suc m) e) s t h =
     let r = beq z s || eqb a 0 in
     let v : a ≡ b = eqb→eq a b (and_l (eqb a b) r (true_T (eqb a b && r) h)) in
     let p : 0 < a = mul-pos (mul-pos (omega arith) (up_pos e)) (omega arith) in
-    absurd (omega (arith, zero-mul (down e)))
+    absurd (omega arith)
 
 add_zeros : (s t : Bool) → add binary64 (fin s 0 (pos 0)) (fin t 0 (pos 0)) ≡ fin (s && t) 0 (pos 0)
 unfolding add

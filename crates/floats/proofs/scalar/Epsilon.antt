@@ -2,26 +2,22 @@
 -- below -E where b is (below_again); what is below -2E is below (b - E) where b is not below -E (far_below), and below -E (two_eps_below).
 -- Assumes nothing.
 use mathlib.Core.Path.{◌≡◌, refl}
-use mathlib.Core.Bool.{Bool, true, false, not, ◌&&◌, ◌||◌, cond}
-use mathlib.Core.Logic.{inl, inr}
+use mathlib.Core.Bool.{Bool, true, false, not, cond}
 use Prim.Native.Nat.{ℕ, zero, suc, ◌+◌, ◌-◌, ◌*◌, ◌^◌, ◌≤◌, ◌<◌}
-use native.Mathlib.Nat.{le_of_eq, mul-le-mul_right, mul-lt-mul_of_pos_right, lt_of_mul-lt-mul_right, mul-pos}
+use native.Mathlib.Nat.{mul-le-mul_right, mul-pos}
 use native.Mathlib.Omega.{arith}
-use lib.Dec.{T, ltb, eqb, ltb→lt, lt→ltb, nltb→le, eqb→eq}
+use lib.Dec.{T, ltb, lt→ltb, nltb→le}
 use lib.IntN.{ℤ}
 use lib.Pow.{pow_pos}
 use lib.Ieee.{Float, fin, inf, nan, add, sub, lt, le, eq, neg, sum, binary64, is_nan, round, units, odd, up, down, low, prec, emax, of_bits}
-use lib.Ieee.Fits.{and_l, down_pos, round_is}
+use lib.Ieee.Fits.{down_pos, round_is}
 use lib.Ieee.Order.{round_mono}
-use lib.Ieee.Positive.{first_pos}
+use Rattle.std.proofs.lemmas.Float
 use Rattle.floats.specs.Scalar.{e_12, two_e_12}
-use Rattle.base.proofs.BoolLaws.{by_truth, or_split}
+use Rattle.base.proofs.BoolLaws.{by_truth, or_left, eqb_comm}
 
 pub real_of_lt : (c d : Float) → T (lt c d) → T (not (is_nan c))
-unfolding lt is_nan
-real_of_lt nan d t = absurd t
-real_of_lt (inf s) d t = tt
-real_of_lt (fin s m e) d t = tt
+real_of_lt c d t = Float.le_left c d (Float.le_of_lt c d t)
 
 -- ---- not negative, by its sign
 abbrev plain : Float → Bool
@@ -64,37 +60,23 @@ round_neg : (a b : ℕ) → round binary64 true a b ≡ neg (round binary64 fals
 round_neg a b = rw (round_is, round_is) (units_neg _ _)
 
 -- ---- the order turned round
-le_cross : (a b : ℕ) → T (ltb a b || (eqb a b && true)) → a ≤ b
-le_cross a b t = elim (or_split (ltb a b) (eqb a b && true) t) [ inl u ↦ (let h = ltb→lt a b u in omega arith) | inr u ↦ le_of_eq (eqb→eq a b (and_l (eqb a b) true u)) ]
-
--- x / p ≤ y / q < z / r
-through : (x y z p q r : ℕ) → 0 < p → x * q ≤ y * p → y * r < z * q → x * r < z * p
-through x y z p q r P h k = lt_of_mul-lt-mul_right q (omega (arith, mul-le-mul_right r h, mul-lt-mul_of_pos_right k P))
+neg_le : (x y : Float) → T (plain x) → T (plain y) → T (le x y) → T (le (neg y) (neg x))
+unfolding le lt eq neg
+neg_le nan y p q h = absurd p
+neg_le (inf true) y p q h = absurd p
+neg_le (inf false) nan p q h = absurd q
+neg_le (inf false) (inf true) p q h = absurd q
+neg_le (inf false) (inf false) p q h = tt
+neg_le (inf false) (fin t n d) p q h = absurd h
+neg_le (fin true m e) y p q h = absurd p
+neg_le (fin false m e) nan p q h = absurd q
+neg_le (fin false m e) (inf true) p q h = absurd q
+neg_le (fin false m e) (inf false) p q h = tt
+neg_le (fin false m e) (fin true n d) p q h = absurd q
+neg_le (fin false m e) (fin false n d) p q h = rw (eqb_comm (n * up d * down e) (m * up e * down d)) h
 
 turn : (x y c : Float) → T (plain x) → T (plain y) → T (le x y) → T (lt c (neg y)) → T (lt c (neg x))
-unfolding le lt eq neg
-turn nan y c p q h k = absurd p
-turn (inf true) y c p q h k = absurd p
-turn (inf false) nan c p q h k = absurd q
-turn (inf false) (inf true) c p q h k = absurd q
-turn (inf false) (inf false) c p q h k = k
-turn (inf false) (fin s n d) c p q h k = absurd h
-turn (fin true m e) y c p q h k = absurd p
-turn (fin false m e) nan c p q h k = absurd q
-turn (fin false m e) (inf true) c p q h k = absurd q
-turn (fin false m e) (inf false) nan p q h k = absurd k
-turn (fin false m e) (inf false) (inf true) p q h k = absurd k
-turn (fin false m e) (inf false) (inf false) p q h k = absurd k
-turn (fin false m e) (inf false) (fin t l o) p q h k = absurd k
-turn (fin false m e) (fin true n d) c p q h k = absurd q
-turn (fin false m e) (fin false n d) nan p q h k = absurd k
-turn (fin false m e) (fin false n d) (inf true) p q h k = tt
-turn (fin false m e) (fin false n d) (inf false) p q h k = absurd k
-turn (fin false m e) (fin false n d) (fin false l o) p q h k = absurd k
-turn (fin false m e) (fin false n d) (fin true l o) p q h k =
-    lt→ltb (m * up e * down o) (l * up o * down e)
-    (through (m * up e) (n * up d) (l * up o) (down e) (down d) (down o) (down_pos e)
-    (le_cross (m * up e * down d) (n * up d * down e) h) (ltb→lt (n * up d * down o) (l * up o * down d) k))
+turn x y c p q h k = Float.lt_of_lt_of_le c (neg y) (neg x) k (neg_le x y p q h)
 
 eps_round : e_12 ≡ round binary64 false 0x119799812DEA11 (2 ^ 92)
 unfolding round of_bits
@@ -159,21 +141,17 @@ under_two_e_12 : (c : Float) (a : ℕ) (e : ℤ) → a * 2 ^ 91 ≤ 0x119799812D
 unfolding of_bits
 under_two_e_12 c a e h k = turn (round binary64 false a (down e * 2 ^ 92)) two_e_12 c (round_plain a (down e * 2 ^ 92)) tt (two_eps_most a e h) k
 
+plain_above : (y : Float) → T (plain y) → T (le (neg two_e_12) y)
+unfolding le lt neg of_bits
+plain_above nan p = absurd p
+plain_above (inf true) p = absurd p
+plain_above (inf false) p = tt
+plain_above (fin true n d) p = absurd p
+plain_above (fin false n d) p =
+    or_left _ _ (lt→ltb 0 (0x119799812DEA11 * down d + n * up d * 2 ^ 91) (omega (arith, mul-pos {m = 0x119799812DEA11} (omega arith) (down_pos d))))
+
 under_plain : (c y : Float) → T (plain y) → T (lt c (neg two_e_12)) → T (lt c y)
-unfolding lt neg of_bits
-under_plain nan y p k = absurd k
-under_plain (inf true) nan p k = absurd p
-under_plain (inf true) (inf s) p k = p
-under_plain (inf true) (fin s n d) p k = tt
-under_plain (inf false) y p k = absurd k
-under_plain (fin false m e) y p k = absurd k
-under_plain (fin true m e) nan p k = absurd p
-under_plain (fin true m e) (inf s) p k = p
-under_plain (fin true m e) (fin true n d) p k = absurd p
-under_plain (fin true m e) (fin false n d) p k =
-    let h : 0 < m * up e * 2 ^ 91 = (let u = ltb→lt (0x119799812DEA11 * down e) (m * up e * 2 ^ 91) k in omega arith) in
-    let l = mul-pos (first_pos (m * up e) (2 ^ 91) h) (down_pos d) in
-    lt→ltb 0 (m * up e * down d + n * up d * down e) (omega arith)
+under_plain c y p k = Float.lt_of_lt_of_le c (neg two_e_12) y k (plain_above y p)
 
 pub far_below : (b c : Float) → T (not (is_nan b)) → T (not (lt b (neg e_12))) → T (lt c (neg two_e_12)) → T (lt c (sub binary64 b e_12))
 unfolding lt neg is_nan of_bits

@@ -3,10 +3,10 @@
 -- The idea. Every value of a format is a whole number of its smallest values, with a sign, and so is every exact sum. `round` takes such a number n to
 -- the nearest multiple q * 2 ^ k of 2 ^ k, where k is how many digits n has too many, so that half of 2 ^ k is all that is lost (`rounds`); and what
 -- comes out has at least as many digits as n, so that 2 ^ k is at most the unit in its last place.
-use mathlib.Core.Path.{◌≡◌, refl, sym, ap, ◌∙◌, subst}
+use mathlib.Core.Path.{◌≡◌, refl, sym, ap, ◌∙◌}
 use mathlib.Core.Bool.{Bool, true, false, cond}
 use Prim.Native.Nat.{ℕ, suc, ◌+◌, ◌-◌, ◌*◌, ◌^◌, ◌≤◌, ◌<◌}
-use native.Mathlib.Nat.{le_trans, le_of_eq, le_of_lt, mul-pos, mul_assoc, mul_right_comm, add-mul, one-mul, mul-le-mul_right, lt_of_mul-lt-mul_right, le_of_mul-le-mul_right, mul-div_cancel}
+use native.Mathlib.Nat.{le_trans, le_of_eq, le_of_lt, mul-pos, mul_assoc, mul_right_comm, add-mul, mul-le-mul_right, lt_of_mul-lt-mul_right, le_of_mul-le-mul_right, mul-div_cancel}
 use native.Mathlib.Omega.{arith}
 use borrow.Author.Tests.{ltb-true, ltb-false}
 use lib.Dec.{T, ltb, ltb→lt}
@@ -19,6 +19,8 @@ use lib.Ieee.Exact.{HasValue, units_val}
 use lib.Ieee.Nearest.{closest, closest_same}
 use lib.Ieee.Scale.{round_same, finite}
 use Rattle.floats.specs.Root.{amount, among}
+use Rattle.floats.specs.Scalar.{is_finite}
+use Rattle.floats.proofs.scalar.Finite.{difference_first}
 use Rattle.floats.proofs.root.Numbers.{half_away, size_over}
 use Rattle.floats.proofs.root.Amounts.{amount_of, own_amount}
 
@@ -77,7 +79,6 @@ digits_stay p n q k h g =
     let w = 2 ^ k in
     let W : 0 < w = pow_pos k in
     let split : 2 ^ (p + k) ≡ 2 ^ p * w = pow-add 2 p k in
-    let next : (q + 1) * w ≡ q * w + w = add-mul q 1 w ∙ ap (λ (z : ℕ). q * w + z) (one-mul w) in
     let less : 2 ^ p * w < (q + 1) * w = omega arith in
     let few : 2 ^ p < q + 1 = lt_of_mul-lt-mul_right w less in
     le_trans (le_of_eq split) (mul-le-mul_right w (omega arith))
@@ -100,16 +101,16 @@ rounds f s n t =
     let q = closest n (2 ^ k) in
     let near = half_away n (2 ^ k) (pow_pos k) in
     let in-units = round_units f s n in
-    let value = units_val f s q k (units_below f s q k (subst (λ (z : Float). T (finite z)) in-units t)) in
+    let value = units_val f s q k (units_below f s q k (rw (← in-units) t)) in
     let its_unit : unit f (units f s q k) ≡ 2 ^ (size (q * 2 ^ k) - prec f) = ap (λ (z : ℕ). 2 ^ (size z - prec f)) (amount_of f (units f s q k) s (q * 2 ^ k) value) in
     let covers = unit_covers (prec f) n q k (omega (arith, two f)) refl near.1 in
-    subst (λ (z : Float). Rounds f s n z) (sym in-units) (record { r = q * 2 ^ k; value = value; not_above = omega arith; not_below = omega arith })
+    rw in-units (record { r = q * 2 ^ k; value = value; not_above = omega arith; not_below = omega arith })
 
 -- any fraction that is n smallest values
 rounds_to : (f : Format) (s : Bool) (a c n : ℕ) → 0 < c → a * 2 ^ low f ≡ n * c → T (finite (round f s a c)) → Rounds f s n (round f s a c)
 rounds_to f s a c n C h t =
     let same = round_same f s a c n (2 ^ low f) C (pow_pos (low f)) h in
-    subst (λ (z : Float). Rounds f s n z) (sym same) (rounds f s n (subst (λ (z : Float). T (finite z)) same t))
+    rw same (rounds f s n (rw (← same) t))
 
 -- ---- its sign
 
@@ -131,12 +132,12 @@ signed f s r (fin t m e) v = (rw (amount_of f (fin t m e) s r v, v.0), rw (amoun
 over : {f : Format} {n : ℕ} {z : Float} → Rounds f false n z → Over f n z
 over {f = f} {z = z} h =
     let g = signed f false h.r z h.value in
-    record { none = g.1; not_above = omega (arith, g.0); not_below = omega (arith, g.0) }
+    record { none = g.1; not_above = omega arith; not_below = omega arith }
 
 beneath : {f : Format} {n : ℕ} {z : Float} → Rounds f true n z → Beneath f n z
 beneath {f = f} {z = z} h =
     let g = signed f true h.r z h.value in
-    record { none = g.0; not_above = omega (arith, g.1); not_below = omega (arith, g.1) }
+    record { none = g.0; not_above = omega arith; not_below = omega arith }
 
 -- ---- a sum
 
@@ -145,12 +146,9 @@ differ : (a b A B l c : ℕ) → 0 < c → a * l ≡ A * c → b * l ≡ B * c �
 differ a b A B l c C p q h =
     let L : A * c ≤ B * c = le_trans (le_of_eq (sym p)) (le_trans (mul-le-mul_right l h) (le_of_eq q)) in
     let le : A ≤ B = le_of_mul-le-mul_right L C in
-    let x : a * l + (b - a) * l ≡ b * l = sym (add-mul a (b - a) l) ∙ ap (λ (z : ℕ). z * l) (whole a b h) in
-    let y : A * c + (B - A) * c ≡ B * c = sym (add-mul A (B - A) c) ∙ ap (λ (z : ℕ). z * c) (whole A B le) in
+    let x : a * l + (b - a) * l ≡ b * l = sym (add-mul a (b - a) l) ∙ ap (λ (z : ℕ). z * l) (omega arith) in
+    let y : A * c + (B - A) * c ≡ B * c = sym (add-mul A (B - A) c) ∙ ap (λ (z : ℕ). z * c) (omega arith) in
     (le, omega arith)
-  where
-    whole : (a b : ℕ) → a ≤ b → a + (b - a) ≡ b
-    whole a b h = omega arith
 
 -- a / c with the sign s is A smallest values, b / c with the sign t is B of them, and z is their sum, rounded
 record Near (f : Format) (s : Bool) (A : ℕ) (t : Bool) (B : ℕ) (z : Float) : Type 0 where
@@ -159,7 +157,7 @@ record Near (f : Format) (s : Bool) (A : ℕ) (t : Bool) (B : ℕ) (z : Float) :
 
 module _ (f : Format) (a b c A B : ℕ) (C : 0 < c) (p : a * 2 ^ low f ≡ A * c) (q : b * 2 ^ low f ≡ B * c) where
   both : (a + b) * 2 ^ low f ≡ (A + B) * c
-  both = rw (add-mul a b (2 ^ low f), add-mul A B c, p, q)
+  both = omega arith
 
   sum_near : (s t : Bool) → T (finite (sum f s a t b c)) → Near f s A t B (sum f s a t b c)
   unfolding sum
@@ -172,11 +170,11 @@ module _ (f : Format) (a b c A B : ℕ) (C : 0 < c) (p : a * 2 ^ low f ≡ A * c
       go true less more h =
           let d = differ a b A B (2 ^ low f) c C p q (le_of_lt (less refl)) in
           let g = beneath (rounds_to f true (b - a) c (B - A) C d.1 h) in
-          record { not_above = omega (arith, d.0); not_below = omega (arith, d.0) }
+          record { not_above = omega arith; not_below = omega arith }
       go false less more h =
           let d = differ b a B A (2 ^ low f) c C q p (more refl) in
           let g = over (rounds_to f false (a - b) c (A - B) C d.1 h) in
-          record { not_above = omega (arith, d.0); not_below = omega (arith, d.0) }
+          record { not_above = omega arith; not_below = omega arith }
   sum_near true false h = go (ltb a b) (ltb-true a b) (ltb-false a b) (ltb b a) (ltb-false b a) h
     where
       go : (w : Bool) → (w ≡ true → a < b) → (w ≡ false → b ≤ a) → (v : Bool) → (v ≡ false → a ≤ b)
@@ -184,16 +182,16 @@ module _ (f : Format) (a b c A B : ℕ) (C : 0 < c) (p : a * 2 ^ low f ≡ A * c
       go true less more v same h =
           let d = differ a b A B (2 ^ low f) c C p q (le_of_lt (less refl)) in
           let g = over (rounds_to f false (b - a) c (B - A) C d.1 h) in
-          record { not_above = omega (arith, d.0); not_below = omega (arith, d.0) }
+          record { not_above = omega arith; not_below = omega arith }
       go false less more true same h =
           let d = differ b a B A (2 ^ low f) c C q p (more refl) in
           let g = beneath (rounds_to f true (a - b) c (A - B) C d.1 h) in
-          record { not_above = omega (arith, d.0); not_below = omega (arith, d.0) }
+          record { not_above = omega arith; not_below = omega arith }
       go false less more false same h =
           let d = differ b a B A (2 ^ low f) c C q p (more refl) in
           let e = differ a b A B (2 ^ low f) c C p q (same refl) in
           let g = over (rounds_to f false (a - b) c (A - B) C d.1 h) in
-          record { not_above = omega (arith, d.0, e.0); not_below = omega (arith, d.0, e.0) }
+          record { not_above = omega arith; not_below = omega arith }
 
 -- ---- of two values
 
@@ -255,17 +253,15 @@ sub_is : (f : Format) (x y : Float) → sub f x y ≡ add f x (neg y)
 unfolding sub
 sub_is f x y = refl
 
+finite_is : (x : Float) → is_finite x ≡ finite x
+unfolding is_finite
+finite_is nan = refl
+finite_is (inf s) = refl
+finite_is (fin s m e) = refl
+
 -- an infinity stays one
 finite_before : (f : Format) (x y : Float) → T (finite (sub f x y)) → T (finite x)
-unfolding sub
-finite_before f nan y h = absurd h
-finite_before f (inf s) nan h = absurd h
-finite_before f (inf false) (inf false) h = absurd h
-finite_before f (inf false) (inf true) h = absurd h
-finite_before f (inf true) (inf false) h = absurd h
-finite_before f (inf true) (inf true) h = absurd h
-finite_before f (inf s) (fin t n d) h = absurd h
-finite_before f (fin s m e) y h = tt
+finite_before f x y h = rw finite_is at (difference_first f x y (rw finite_is h))
 
 pub sub_within : (f : Format) (x y w : Float) → T (fits f x) → T (fits f y) → T (fits f w) → T (finite (sub f (add f x y) w))
     → CombinedWithin f x y w (sub f (add f x y) w) (unit f (add f x y) + unit f (sub f (add f x y) w))
@@ -276,7 +272,8 @@ sub_within f x y w p q g h =
     let second = add_within f s (neg w) (add-fits f x y) (neg-fits f w g) (rw e at h) in
     rw e (through first second (neg_above f w) (neg_under f w))
   where
-    through : {s v r : Float} {d e : ℕ} → SumWithin f x y s d → SumWithin f s v r e → above f v ≡ under f w → under f v ≡ above f w → CombinedWithin f x y w r (d + e)
+    through : {s v r : Float} {d e : ℕ} → SumWithin f x y s d → SumWithin f s v r e → above f v ≡ under f w → under f v ≡ above f w
+        → CombinedWithin f x y w r (d + e)
     through a b i j = record { not_above = omega arith; not_below = omega arith }
 
 -- one that was added is taken off again

@@ -3,4 +3,4 @@ use Rattle.juplatsk.proofs.Laws.{grid_exported}
 use Rattle.juplatsk.proofs.juplatsk_coons_curves.Goals as goal
 
 pub returns : goal.returns
-returns c = grid_exported c.coons_curves-made.result c.store_grid.ensures c.coons_curves-made.ensures
+returns c = grid_exported c.coons_curves-made.result c.store_number.ensures c.coons_curves-made.ensures

@@ -2,7 +2,7 @@
 use mathlib.Core.Path.{ap, ◌∙◌}
 use Rattle.counts.specs.Cost.{by}
 use Rattle.counts.specs.Solver.{expansions, round}
-use Rattle.counts.specs.declared.search_limit.SearchLimit.{SearchLimit}
+use Rattle.std.specs.Prelude.{Option, ℕ}
 use Rattle.juplatsk.proofs.Laws.{round_exported}
 use Rattle.juplatsk.proofs.juplatsk_round.Goals as goal
 
@@ -11,4 +11,4 @@ returns c =
     let s = c.args in
     let made = c.round-made in
     round_exported made.result c.store_round.ensures
-    (made.ensures ∙ ap (λ (limit : SearchLimit). round s.regions.now (by s.ideals.now) s.counts.now (expansions limit)) c.search_limit-limit.ensures)
+    (made.ensures ∙ ap (λ (limit : Option ℕ). round s.regions.now (by s.ideals.now) s.counts.now (expansions limit)) c.search_limit-limit.ensures)

@@ -2,7 +2,7 @@
 use mathlib.Core.Path.{ap, ◌∙◌}
 use Rattle.counts.specs.Cost.{within}
 use Rattle.counts.specs.Solver.{expansions, round}
-use Rattle.counts.specs.declared.search_limit.SearchLimit.{SearchLimit}
+use Rattle.std.specs.Prelude.{Option, ℕ}
 use Rattle.juplatsk.proofs.Laws.{round_exported}
 use Rattle.juplatsk.proofs.juplatsk_round_within.Goals as goal
 
@@ -11,5 +11,5 @@ returns c =
     let s = c.args in
     let made = c.round_within-made in
     round_exported made.result c.store_round.ensures
-    (made.ensures ∙ ap (λ (limit : SearchLimit). round s.regions.now (within s.least.now s.most.now) s.counts.now (expansions limit))
+    (made.ensures ∙ ap (λ (limit : Option ℕ). round s.regions.now (within s.least.now s.most.now) s.counts.now (expansions limit))
     c.search_limit-limit.ensures)

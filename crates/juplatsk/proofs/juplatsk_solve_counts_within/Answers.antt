@@ -2,7 +2,7 @@
 use mathlib.Core.Path.{ap, ◌∙◌}
 use Rattle.counts.specs.Cost.{within}
 use Rattle.counts.specs.Solver.{expansions, solve}
-use Rattle.counts.specs.declared.search_limit.SearchLimit.{SearchLimit}
+use Rattle.std.specs.Prelude.{Option, ℕ}
 use Rattle.juplatsk.proofs.Laws.{solve_exported}
 use Rattle.juplatsk.proofs.juplatsk_solve_counts_within.Goals as goal
 
@@ -10,6 +10,6 @@ pub returns : goal.returns
 returns c =
     let s = c.args in
     let made = c.solve_counts_within-solved in
-    solve_exported made.result c.store_solve.ensures
-    (made.ensures ∙ ap (λ (limit : SearchLimit). solve s.regions.now (within s.least.now s.most.now) s.counts.now (expansions limit))
+    solve_exported made.result c.store_number.ensures
+    (made.ensures ∙ ap (λ (limit : Option ℕ). solve s.regions.now (within s.least.now s.most.now) s.counts.now (expansions limit))
     c.search_limit-limit.ensures)

@@ -7,23 +7,26 @@ use native.Mathlib.Omega.{arith}
 use lib.ListN.{length, get_or, take, drop}
 use lib.Seq.{drop-cons, drop-drop, take-add}
 use lib.Dec.{leb, ltb, eqb}
-use lib.Ieee.{Float, nan, eq, ne}
-use borrow.Author.Tests.{lt-ltb, le-ltb, le-leb, lt-leb, eq-eqb, ne_eqb, eqb-true, not-true, not-false}
+use lib.Ieee.{Float, nan, eq}
+use borrow.Author.Tests.{lt-ltb, le-ltb, le-leb, lt-leb, eq-eqb, ne_eqb, eqb-true, leb-true}
 use Rattle.base.specs.Refusal.{refused, is_passed, refuse_if}
 use Rattle.base.specs.Tests.{if_passed}
 use Rattle.base.specs.Answers.{Answer, good, turned_away}
 use Rattle.curves.specs.Curve.{point_count}
-use Rattle.mesh.specs.Loop.{Pieces, corners, quarters, closes, points_used, size_test, in_fours, from_loop, piece, max_loop}
+use Rattle.mesh.specs.declared.boundary.Pieces.{Pieces}
+use Rattle.mesh.specs.declared.boundary.Pieces.TheVariants.{Corners, Quarters}
+use Rattle.mesh.specs.inner.Curves.{PiecesIn}
+use Rattle.mesh.specs.Loop.{closes, points_used, size_test, in_fours, from_loop, piece, max_loop}
 
 -- ---- 12
 
 module _ (used : ℕ) where
   fours_by : (a b c : Bool) → eqb used 4 ≡ a → leb 8 used ≡ b → eqb (used % 4) 0 ≡ c
-      → cond a (good corners) (cond (b && c) (good (quarters (used / 4))) (turned_away (refused 12 0 0))) ≡ in_fours used
+      → cond a (good Corners) (cond (b && c) (good (Quarters (used / 4))) (turned_away (refused 12 0 0))) ≡ in_fours used
   unfolding in_fours
   fours_by a b c e f g = simp (e, f, g)
 
-  pub four_points : used ≡ 4 → good corners ≡ in_fours used
+  pub four_points : used ≡ 4 → good Corners ≡ in_fours used
   four_points h = fours_by true (leb 8 used) (eqb (used % 4) 0) (eq-eqb used 4 h) refl refl
 
   module _ (n : used ≡ 4 → ⊥) where
@@ -33,7 +36,7 @@ module _ (used : ℕ) where
     pub not_in_fours : 8 ≤ used → (used % 4 ≡ 0 → ⊥) → turned_away (refused 12 0 0) ≡ in_fours used
     not_in_fours h z = fours_by false true false (ne_eqb used 4 n) (le-leb 8 used h) (ne_eqb (used % 4) 0 z)
 
-    pub quartered : 8 ≤ used → used % 4 ≡ 0 → good (quarters (used / 4)) ≡ in_fours used
+    pub quartered : 8 ≤ used → used % 4 ≡ 0 → good (Quarters (used / 4)) ≡ in_fours used
     quartered h z = fours_by false true true (ne_eqb used 4 n) (le-leb 8 used h) (eq-eqb (used % 4) 0 z)
 
 module _ (points : List Float) where
@@ -42,20 +45,8 @@ module _ (points : List Float) where
   abbrev last : ℕ
   last = point_count points - 1
 
-  -- the values at two places are equal, or they differ
   same : ℕ → ℕ → Bool
   same i j = eq (get_or points i nan) (get_or points j nan)
-
-  abbrev differ : ℕ → ℕ → Bool
-  differ i j = ne (get_or points i nan) (get_or points j nan)
-
-  not_same : (i j : ℕ) → differ i j ≡ true → same i j ≡ false
-  unfolding same ne
-  not_same i j e = not-true _ e
-
-  not_different : (i j : ℕ) → differ i j ≡ false → same i j ≡ true
-  unfolding same ne
-  not_different i j e = not-false _ e
 
   used_by : (a b c : Bool) → leb 5 (point_count points) ≡ a → same 0 (2 * last) ≡ b → same 1 (2 * last + 1) ≡ c → cond (a && (b && c)) last (point_count points) ≡ points_used points
   unfolding same points_used closes
@@ -65,14 +56,19 @@ module _ (points : List Float) where
   under_five h = used_by false _ _ (lt-leb 5 (point_count points) h) refl refl
 
   module _ (h : 5 ≤ point_count points) where
-    pub other_x : differ 0 (2 * last) ≡ true → point_count points ≡ points_used points
-    other_x e = used_by true false _ (le-leb 5 (point_count points) h) (not_same _ _ e) refl
+    pub other_x : eq (get_or points 0 nan) (get_or points (2 * last) nan) ≡ false → point_count points ≡ points_used points
+    unfolding same
+    other_x e = used_by true false _ (le-leb 5 (point_count points) h) e refl
 
-    pub other_y : differ 0 (2 * last) ≡ false → differ 1 (2 * last + 1) ≡ true → point_count points ≡ points_used points
-    other_y e f = used_by true true false (le-leb 5 (point_count points) h) (not_different _ _ e) (not_same _ _ f)
+    pub other_y : eq (get_or points 0 nan) (get_or points (2 * last) nan) ≡ true → eq (get_or points 1 nan) (get_or points (2 * last + 1) nan) ≡ false
+        → point_count points ≡ points_used points
+    unfolding same
+    other_y e f = used_by true true false (le-leb 5 (point_count points) h) e f
 
-    pub closing_point : differ 0 (2 * last) ≡ false → differ 1 (2 * last + 1) ≡ false → last ≡ points_used points
-    closing_point e f = used_by true true true (le-leb 5 (point_count points) h) (not_different _ _ e) (not_different _ _ f)
+    pub closing_point : eq (get_or points 0 nan) (get_or points (2 * last) nan) ≡ true → eq (get_or points 1 nan) (get_or points (2 * last + 1) nan) ≡ true
+        → last ≡ points_used points
+    unfolding same
+    closing_point e f = used_by true true true (le-leb 5 (point_count points) h) e f
 
   -- ---- 1, then 12
 
@@ -92,20 +88,22 @@ module _ (points : List Float) where
 
 -- ---- the room of the pieces
 
--- that many points hold them
+-- that many points hold them, and there are some
 abbrev pub Holds : ℕ → Answer Pieces → Type 0
-Holds count (good corners) = 4 ≤ count
-Holds count (good (quarters n)) = 4 * n ≤ count
+Holds count (good Corners) = 4 ≤ count
+Holds count (good (Quarters n)) = (1 ≤ n) × (4 * n ≤ count)
 Holds count (turned_away v) = Unit
 
 fours_held : (used count : ℕ) → used ≤ count → Holds count (in_fours used)
 unfolding in_fours
-fours_held used count h = go (eqb used 4) (leb 8 used && eqb (used % 4) 0) refl
+fours_held used count h = go (eqb used 4) (leb 8 used) (eqb (used % 4) 0) refl refl
   where
-    go : (a b : Bool) → eqb used 4 ≡ a → Holds count (cond a (good corners) (cond b (good (quarters (used / 4))) (turned_away (refused 12 0 0))))
-    go true b e = let q = eqb-true used 4 e in omega (arith, q, h)
-    go false true e = omega (arith, h)
-    go false false e = tt
+    go : (a b c : Bool) → eqb used 4 ≡ a → leb 8 used ≡ b
+        → Holds count (cond a (good Corners) (cond (b && c) (good (Quarters (used / 4))) (turned_away (refused 12 0 0))))
+    go true b c e f = let q = eqb-true used 4 e in omega (arith, q, h)
+    go false true true e f = let q = leb-true 8 used f in (omega (arith, q), omega (arith, h))
+    go false true false e f = tt
+    go false false c e f = tt
 
 used_at_most : (points : List Float) → points_used points ≤ point_count points
 unfolding points_used
@@ -136,7 +134,7 @@ quarter_begins (suc (suc (suc (suc k)))) n h = absurd (omega arith)
 pub quarter_fits : (points : List Float) (n k : ℕ) → k < 4 → 4 * n ≤ point_count points → 2 * (k * n) + 2 * n ≤ length points
 quarter_fits points n k h f = let q = quarter_begins k n h in omega (arith, q, f)
 
-pub quarter_lent : (points : List Float) (n k : ℕ) → take (2 * (k * n) + 2 * n - 2 * (k * n)) (drop (2 * (k * n)) points) ≡ piece (quarters n) points k
+pub quarter_lent : (points : List Float) (n k : ℕ) → take (2 * (k * n) + 2 * n - 2 * (k * n)) (drop (2 * (k * n)) points) ≡ piece (Quarters n) points k
 unfolding piece
 quarter_lent points n k =
     let start : ℕ = 2 * (k * n) in
@@ -150,21 +148,33 @@ point_read : (points : List Float) (i : ℕ) → suc i < length points → take 
 point_read points i h = ap (take 2) (drop-cons points i nan (omega (arith, h))) ∙ ap (λ (r : List Float). get_or points i nan ∷ take 1 r) (drop-cons points (suc i) nan h)
 
 module _ (points : List Float) where
-  pub side_0 : take 4 points ≡ piece corners points 0
+  pub side_0 : take 4 points ≡ piece Corners points 0
   unfolding piece
   side_0 = take-add 2 2 points
 
-  pub side_1 : take 4 (drop 2 points) ≡ piece corners points 1
+  pub side_1 : take 4 (drop 2 points) ≡ piece Corners points 1
   unfolding piece
   side_1 = take-add 2 2 (drop 2 points) ∙ ap (λ (r : List Float). take 2 (drop 2 points) ++ take 2 r) (drop-drop 2 2 points)
 
-  pub side_2 : take 4 (drop 4 points) ≡ piece corners points 2
+  pub side_2 : take 4 (drop 4 points) ≡ piece Corners points 2
   unfolding piece
   side_2 = take-add 2 2 (drop 4 points) ∙ ap (λ (r : List Float). take 2 (drop 4 points) ++ take 2 r) (drop-drop 2 4 points)
 
-  pub side_3 : 8 ≤ length points → get_or points 6 nan ∷ get_or points 7 nan ∷ get_or points 0 nan ∷ get_or points 1 nan ∷ [] ≡ piece corners points 3
+  pub side_3 : 8 ≤ length points → get_or points 6 nan ∷ get_or points 7 nan ∷ get_or points 0 nan ∷ get_or points 1 nan ∷ [] ≡ piece Corners points 3
   unfolding piece
   side_3 h =
       sym
       (ap (λ (r : List Float). r ++ take 2 points) (point_read points 6 (omega (arith, h)))
       ∙ ap (λ (r : List Float). get_or points 6 nan ∷ get_or points 7 nan ∷ r) (point_read points 0 (omega (arith, h))))
+
+-- ---- pieces that are held
+
+pub eight_values : (points : List Float) (p : Pieces) → Holds (point_count points) (good p) → 8 ≤ length points
+eight_values points Corners h = omega (arith, h)
+eight_values points (Quarters n) h = let few = h.0 in let held = h.1 in omega (arith, few, held)
+
+-- they are there, and so is the side that closes four corners
+pub pieces_in : (points : List Float) (p : Pieces) → Holds (point_count points) (good p)
+    → PiecesIn p points (get_or points 6 nan ∷ get_or points 7 nan ∷ get_or points 0 nan ∷ get_or points 1 nan ∷ [])
+pieces_in points Corners h = (omega (arith, h), side_3 points (omega (arith, h)))
+pieces_in points (Quarters n) h = h.1

@@ -12,19 +12,18 @@ use borrow.Author.Tests.{lt-ltb, le-ltb, le-leb, lt-leb, leb-true, leb-false}
 use Rattle.base.specs.declared.verdict.Verdict.{Verdict}
 use Rattle.base.specs.Refusal.{passed, refused, verdict_of, is_passed, refuse_if}
 use Rattle.base.specs.Tests.{if_passed}
-use Rattle.base.specs.Answers.{Answer, turned_away}
+use Rattle.base.specs.Answers.{Answer, good, turned_away}
 use Rattle.base.specs.declared.refusal.Refusal.{Refusal}
 use Rattle.base.proofs.BoolLaws.{T_false, nor_right}
 use Rattle.base.proofs.TestLaws.{refusal_number}
 use Rattle.base.specs.Buffers.{splice}
 use Rattle.curves.specs.Curve.{point_count}
 use Rattle.curves.specs.Coons.{Outcome, outcome_of, refusal, coons_quads, coons_nodes, coons_nodes_beside}
-use Rattle.curves.specs.declared.answer.GridAnswer.{GridAnswer}
-use Rattle.curves.specs.declared.answer.GridAnswer.TheVariants as grid_answer
+use Rattle.std.specs.Prelude.{Result, Ok, Err}
 use Rattle.curves.proofs.coons.Laws.{cells_of_nodes, leaving, nodes_alone, short_nodes}
 use Rattle.curves.proofs.Clear.{short_stopped}
-use Rattle.mesh.specs.declared.boundary.LoopAnswer.{LoopAnswer}
-use Rattle.mesh.specs.Loop.{Pieces, loop_of, from_loop}
+use Rattle.mesh.specs.declared.boundary.Pieces.{Pieces}
+use Rattle.mesh.specs.Loop.{from_loop, piece}
 use Rattle.mesh.specs.Mesh.{mesh_of, needed_cells, mesh_cells, no_cells, zeroes, cells_left, mesh_tile_curves}
 use Rattle.mesh.specs.Tile.{cell_limits_test, tile_loop, by_curves, coons_checked, mesh_tile}
 use Rattle.mesh.proofs.boundary.Laws.{Holds, loop_held}
@@ -66,7 +65,7 @@ module _ (bottom right top left : List Float) (n m : ℕ) (points : List Float) 
   left_by v p z d g = simp (d, g)
 
   -- without room for the indices: what a grid answered that had no room for its points either
-  pub no_room : (b : Bool) (r : GridAnswer) (lent none : List Float) → b ≡ leb (needed_cells n m) (length cells) → b ≡ false → lent ≡ [] → outcome_of r none ≡ grid lent
+  pub no_room : (b : Bool) (r : Result ℕ Refusal) (lent none : List Float) → b ≡ leb (needed_cells n m) (length cells) → b ≡ false → lent ≡ [] → outcome_of r none ≡ grid lent
       → mesh_of r points cells ≡ mesh_tile_curves bottom right top left n m points cells
   unfolding mesh_of outcome_of
   no_room b r lent none e f h o =
@@ -78,41 +77,41 @@ module _ (bottom right top left : List Float) (n m : ℕ) (points : List Float) 
       ∙ ap (λ (l : List ℕ). record { grid = told true; cells = l }) (left_by v false false stopped.not_passed unzeroed)
       ∙ tile_by true (lt-ltb (length cells) (needed_cells n m) few)
     where
-      answer : (r : GridAnswer) → outcome_of r points ≡ leaving points (outcome_of r none)
-      answer (grid_answer.Made quads) = refl
-      answer (grid_answer.Refused cause) = refl
+      answer : (r : Result ℕ Refusal) → outcome_of r points ≡ leaving points (outcome_of r none)
+      answer (Ok quads) = refl
+      answer (Err cause) = refl
 
   -- with room for them: what the grid answered, and the points that it left
-  module _ (b : Bool) (made : GridAnswer) (after : List Float) (e : b ≡ leb (needed_cells n m) (length cells)) (f : b ≡ true) (o : outcome_of made after ≡ grid points) where
+  module _ (b : Bool) (made : Result ℕ Refusal) (after : List Float) (e : b ≡ leb (needed_cells n m) (length cells)) (f : b ≡ true) (o : outcome_of made after ≡ grid points) where
     pub room : needed_cells n m ≤ length cells
     room = leb-true (needed_cells n m) (length cells) (sym e ∙ f)
 
-    answered : (r : GridAnswer) (rest : List ℕ) → made ≡ r → rest ≡ cells_left (outcome_of r after).verdict n m cells → mesh_of r after rest ≡ mesh_tile_curves bottom right top left n m points cells
+    answered : (r : Result ℕ Refusal) (rest : List ℕ) → made ≡ r → rest ≡ cells_left (outcome_of r after).verdict n m cells → mesh_of r after rest ≡ mesh_tile_curves bottom right top left n m points cells
     unfolding mesh_of
     answered r rest q w =
         ap (λ (l : List ℕ). record { grid = outcome_of r after; cells = l }) w
-        ∙ ap (λ (x : Outcome). record { grid = x; cells = cells_left x.verdict n m cells }) (ap (λ (x : GridAnswer). outcome_of x after) (sym q) ∙ o ∙ nodes_alone bottom right top left points n m)
+        ∙ ap (λ (x : Outcome). record { grid = x; cells = cells_left x.verdict n m cells }) (ap (λ (x : Result ℕ Refusal). outcome_of x after) (sym q) ∙ o ∙ nodes_alone bottom right top left points n m)
         ∙ tile_by false (le-ltb (length cells) (needed_cells n m) room)
 
-    pub made_cells : (quads : ℕ) (rest : List ℕ) → made ≡ grid_answer.Made quads → rest ≡ splice cells 0 (mesh_cells n m)
-        → mesh_of (grid_answer.Made quads) after rest ≡ mesh_tile_curves bottom right top left n m points cells
+    pub made_cells : (quads : ℕ) (rest : List ℕ) → made ≡ Ok quads → rest ≡ splice cells 0 (mesh_cells n m)
+        → mesh_of (Ok quads) after rest ≡ mesh_tile_curves bottom right top left n m points cells
     unfolding outcome_of
-    made_cells quads rest q w = answered (grid_answer.Made quads) rest q (w ∙ left_by passed true false refl refl)
+    made_cells quads rest q w = answered (Ok quads) rest q (w ∙ left_by passed true false refl refl)
 
-    module _ (cause : Refusal) (z : Bool) (q : made ≡ grid_answer.Refused cause) (d : z ≡ zeroes (verdict_of cause)) where
+    module _ (cause : Refusal) (z : Bool) (q : made ≡ Err cause) (d : z ≡ zeroes (verdict_of cause)) where
       pub zeroed_cells : (rest : List ℕ) → z ≡ true → rest ≡ splice cells 0 (no_cells (needed_cells n m))
-          → mesh_of (grid_answer.Refused cause) after rest ≡ mesh_tile_curves bottom right top left n m points cells
+          → mesh_of (Err cause) after rest ≡ mesh_tile_curves bottom right top left n m points cells
       unfolding outcome_of
-      zeroed_cells rest h w = answered (grid_answer.Refused cause) rest q (w ∙ left_by (verdict_of cause) false true (refusal_number cause) (sym d ∙ h))
+      zeroed_cells rest h w = answered (Err cause) rest q (w ∙ left_by (verdict_of cause) false true (refusal_number cause) (sym d ∙ h))
 
-      pub same_cells : z ≡ false → mesh_of (grid_answer.Refused cause) after cells ≡ mesh_tile_curves bottom right top left n m points cells
+      pub same_cells : z ≡ false → mesh_of (Err cause) after cells ≡ mesh_tile_curves bottom right top left n m points cells
       unfolding outcome_of
-      same_cells h = answered (grid_answer.Refused cause) cells q (left_by (verdict_of cause) false false (refusal_number cause) (sym d ∙ h))
+      same_cells h = answered (Err cause) cells q (left_by (verdict_of cause) false false (refusal_number cause) (sym d ∙ h))
 
     -- a grid that was made has numbers of cells that are let by
-    pub few_cells : (quads : ℕ) → made ≡ grid_answer.Made quads → (n ≤ max_cells) × (m ≤ max_cells)
+    pub few_cells : (quads : ℕ) → made ≡ Ok quads → (n ≤ max_cells) × (m ≤ max_cells)
     unfolding outcome_of
-    few_cells quads q = cells_of_nodes bottom right top left n m points (ap (λ (x : Outcome). x.verdict) (ap (λ (x : GridAnswer). outcome_of x after) (sym q) ∙ o))
+    few_cells quads q = cells_of_nodes bottom right top left n m points (ap (λ (x : Outcome). x.verdict) (ap (λ (x : Result ℕ Refusal). outcome_of x after) (sym q) ∙ o))
 
 -- ---- the loop of a tile
 
@@ -139,28 +138,39 @@ module _ (boundary : List Float) (n m : ℕ) where
       go true = loop_held boundary
       go false = tt
 
-  -- of an answer that is told
-  module _ {r : LoopAnswer} (told : loop_of r ≡ tile_loop boundary n m) where
-    pub held : {s : LoopAnswer} → r ≡ s → Holds (point_count boundary) (loop_of s)
-    held e = subst (Holds (point_count boundary)) (sym told ∙ ap loop_of e) tile_held
+  -- the pieces of a loop that is not refused, and what follows them
+  module _ {p : Pieces} (told : good p ≡ tile_loop boundary n m) where
+    pub held : Holds (point_count boundary) (good p)
+    held = subst (Holds (point_count boundary)) (sym told) tile_held
 
-    pub quads_by : {s : LoopAnswer} → r ≡ s → (out : List Float)
-        → by_curves (loop_of s) boundary (λ (b r t l : List Float). coons_quads b r t l n m out) (refusal out) ≡ coons_checked boundary n m out
+    pub quads_by : (out : List Float) → coons_quads (piece p boundary 0) (piece p boundary 1) (piece p boundary 2) (piece p boundary 3) n m out ≡ coons_checked boundary n m out
     unfolding coons_checked
-    quads_by e out =
-        ap (λ (a : Answer Pieces). by_curves a boundary (λ (b r t l : List Float). coons_quads b r t l n m out) (refusal out)) (ap loop_of (sym e) ∙ told)
+    quads_by out = ap (λ (a : Answer Pieces). by_curves a boundary (λ (b r t l : List Float). coons_quads b r t l n m out) (refusal out)) told
 
-    pub mesh_by : {s : LoopAnswer} → r ≡ s → (points : List Float) (cells : List ℕ)
-        → by_curves (loop_of s) boundary (λ (b r t l : List Float). mesh_tile_curves b r t l n m points cells)
-        (λ (v : Verdict). record { grid = refusal points v; cells = cells })
-        ≡ mesh_tile boundary n m points cells
+    pub mesh_by : (points : List Float) (cells : List ℕ)
+        → mesh_tile_curves (piece p boundary 0) (piece p boundary 1) (piece p boundary 2) (piece p boundary 3) n m points cells ≡ mesh_tile boundary n m points cells
     unfolding mesh_tile
-    mesh_by e points cells =
+    mesh_by points cells =
         ap
         (λ (a : Answer Pieces).
         by_curves a boundary (λ (b r t l : List Float). mesh_tile_curves b r t l n m points cells)
         (λ (v : Verdict). record { grid = refusal points v; cells = cells }))
-        (ap loop_of (sym e) ∙ told)
+        told
+
+  -- and its refusal
+  module _ {v : Verdict} (told : turned_away v ≡ tile_loop boundary n m) where
+    pub quads_refused : (out : List Float) → refusal out v ≡ coons_checked boundary n m out
+    unfolding coons_checked
+    quads_refused out = ap (λ (a : Answer Pieces). by_curves a boundary (λ (b r t l : List Float). coons_quads b r t l n m out) (refusal out)) told
+
+    pub mesh_refused : (points : List Float) (cells : List ℕ) → record { grid = refusal points v; cells = cells } ≡ mesh_tile boundary n m points cells
+    unfolding mesh_tile
+    mesh_refused points cells =
+        ap
+        (λ (a : Answer Pieces).
+        by_curves a boundary (λ (b r t l : List Float). mesh_tile_curves b r t l n m points cells)
+        (λ (w : Verdict). record { grid = refusal points w; cells = cells }))
+        told
 
 -- ---- four curves in place of four
 

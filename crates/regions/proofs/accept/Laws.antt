@@ -7,12 +7,12 @@ use native.Mathlib.Numerals.{add-one}
 use native.Mathlib.Nat.{add-zero, zero-mul, one-mul, suc-mul}
 use native.Mathlib.Omega.{arith}
 use borrow.Author.Tests.{not-false}
-use lib.ListN.{length, get_or, take, drop, length-drop, drop_of_length-le}
+use lib.ListN.{length, get_or, take, drop, length-take, length-drop, drop_of_length-le}
 use lib.Dec.{T, leb, ltb, eqb, leb→le}
 use lib.Seq.{take-suc, take_all, get_or-drop, drop-drop}
 use lib.Ieee.Fits.{and_i, and_l, and_r}
 use Rattle.base.specs.Lists.{member}
-use Rattle.regions.specs.Region.{side_size, record_size, region_count, from_region}
+use Rattle.regions.specs.Region.{side, side_size, record_size, region_count, from_region}
 use Rattle.base.specs.Refusal.{passed, refused, is_passed, then_test, refuse_if}
 use Rattle.regions.specs.Accept.{sides_fit, records_whole, limits_test, shared_edge, side_test, pair_test, region_test, pairs_test, max_regions, max_edges, records_test}
 use Rattle.base.proofs.BoolLaws.{true_T}
@@ -130,6 +130,13 @@ side_few p m l t (suc zero) h = leb→le _ p (first_fits p m l t).fits_1
 side_few p m l t (suc (suc zero)) h = leb→le _ p (first_fits p m l t).fits_2
 side_few p m l t (suc (suc (suc zero))) h = leb→le _ p (first_fits p m l t).fits_3
 side_few p m l t (suc (suc (suc (suc k)))) h = absurd (omega arith)
+
+-- so none of its sides is longer
+pub side_short : (p : ℕ) (l : List ℕ) → T (sides_fit p 1 l) → (k : ℕ) → k < 4 → length (side p l k) ≤ p
+side_short p l t k h =
+    let few = side_few p 0 l t k h in
+    let e = length-take (get_or l (k * side_size p) 0) (drop (suc (k * side_size p)) l) in
+    omega (arith, few, e)
 
 -- ---- whole records
 module _ (p : ℕ) (l : List ℕ) (t : T (records_whole p l)) where

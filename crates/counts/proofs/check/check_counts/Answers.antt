@@ -1,31 +1,23 @@
--- `counts::check::check_counts` meets its contract. The loop's invariant: what is left of the test, from entry e on, is the whole test.
--- Assumes nothing.
-use mathlib.Core.Path.{sym, ◌∙◌}
-use borrow.Author.Tests.{le-leb, lt-leb}
-use lib.ListN.{get_or}
-use Rattle.base.specs.Refusal.{outcome, verdict_of}
-use Rattle.counts.specs.Values.{count_ok, max_count}
-use Rattle.counts.proofs.check.Laws.{bad_next, bad_here, bad_none}
+-- `counts::check::check_counts` meets its contract: what `position` finds is the first count that is too large. Assumes nothing.
+use Rattle.std.proofs.Common.{◌≡◌, ◌∙◌, sym, ap, ltb, rules}
+use Rattle.std.proofs.lemmas.Iterator.{YieldsList-from_slice}
+use Rattle.std.proofs.lemmas.Iterator.Search.{position_from_yields_List}
+use borrow.Author.Tests.{tests}
+use Rattle.base.specs.Refusal.{verdict_of}
+use Rattle.counts.specs.Values.{count_ok, max_count, counts_test}
+use Rattle.counts.proofs.check.Laws.{refused_at, first_bad_is, over_is}
 use Rattle.counts.proofs.check.check_counts.Goals as goal
+use Rattle.counts.proofs.check.check_counts.Goals.{After-position}
 
-pub returns-then-counts-e-gt-MAX_COUNT : goal.returns-then-counts-e-gt-MAX_COUNT
-unfolding outcome verdict_of
-returns-then-counts-e-gt-MAX_COUNT c =
+found : (c : After-position) → refused_at 9 c.position.result ≡ counts_test c.args.counts.now
+found c =
     let xs = c.args.counts.now in
-    let i = c.loop-e.e in
-    sym (c.loop-e.invariant ∙ bad_here count_ok 9 xs 0 i c.loop-e-test.true
-    (lt-leb (get_or xs i 0) max_count c.if-counts-e-gt-MAX_COUNT.true))
+    first_bad_is (ltb max_count) count_ok (over_is max_count) 9 xs
+    (position_from_yields_List (ltb max_count) _ _ _ c.position.ensures.ran (YieldsList-from_slice xs cc) (λ x b q k. search (rules, tests)))
 
-pub loop-e-preserved : goal.loop-e-preserved
-loop-e-preserved c =
-    let xs = c.args.counts.now in
-    let i = c.loop-e.e in
-    c.loop-e.invariant
-    ∙ bad_next count_ok 9 xs 0 i c.loop-e-test.true (le-leb (get_or xs i 0) max_count c.if-counts-e-gt-MAX_COUNT.false)
+pub returns-in-Some : goal.returns-in-Some
+unfolding verdict_of
+returns-in-Some c = ap (refused_at 9) (sym c.in-Some.is) ∙ found (goal.at.returns-in-Some c).After-position
 
 pub returns : goal.returns
-unfolding outcome
-returns c =
-    let xs = c.args.counts.now in
-    let i = c.loop-e.e in
-    sym (c.loop-e.invariant ∙ bad_none count_ok 9 xs 0 i c.loop-e-test.false)
+returns c = ap (refused_at 9) (sym c.in_default.is) ∙ found (goal.at.returns c).After-position

@@ -63,6 +63,6 @@ loop-limit-preserved c =
     let f = c.find_augmentation-found.ensures in
     let found = move_found t so_far.ready.priced f c.wide_len-len.ensures in
     let moved = c.make_move.ensures in
-    let ready = stays_ready found (ranges_local c.args.least.now c.args.most.now) t (still_labelled so_far c.requires.labelled)
+    let ready = stays_ready found (ranges_local c.args.ranges.least.now c.args.ranges.most.now) t (still_labelled so_far c.requires.labelled)
     (record { priced = so_far.ready.priced; remembered = f.remembered }) c.if-len-eq0.false moved.made moved.refreshed in
     solve_goes_on so_far found t c.if-len-eq0.false c.if-moves-eq-MAX_AUGMENTATIONS.false moved.made f.buffers ready

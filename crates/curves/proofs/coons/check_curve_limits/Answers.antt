@@ -1,27 +1,30 @@
--- `coons::check_curve_limits` meets its contract: the first test that refuses is the whole chain. Assumes nothing.
-use Rattle.base.proofs.TestLaws.{chain_ends}
+-- `coons::check_curve_limits` meets its contract. Assumes nothing.
+use Rattle.std.proofs.Common.{◌∙◌}
+use Rattle.base.proofs.TestLaws.{exit_stops, chain_goes_on}
 use Rattle.curves.specs.Coons.{curves_limit}
-use Rattle.curves.proofs.Chains.{passing}
 use Rattle.curves.proofs.coons.check_curve_limits.Goals as goal
 
-pub returns-in-Refused : goal.returns-in-Refused
+pub returns-in_err-check_curve_limit : goal.returns-in_err-check_curve_limit
 unfolding curves_limit
-returns-in-Refused c = chain_ends _ c.in-Refused.is c.check_curve_limit-of_bottom.ensures
+returns-in_err-check_curve_limit c = exit_stops _ _ _ c.from_residual.ensures.1 c.in_err-check_curve_limit.ensures
 
-pub returns-in-Refused-of_right : goal.returns-in-Refused-of_right
+pub returns-in_err-check_curve_limit-2 : goal.returns-in_err-check_curve_limit-2
 unfolding curves_limit
-returns-in-Refused-of_right c = passing c.in_default.is c.check_curve_limit-of_bottom.ensures (chain_ends _ c.in-Refused-of_right.is c.check_curve_limit-of_right.ensures)
+returns-in_err-check_curve_limit-2 c =
+    exit_stops _ _ _ c.from_residual-in_err-check_curve_limit-2.ensures.1 c.in_err-check_curve_limit-2.ensures
+    ∙ chain_goes_on c.in_ok-check_curve_limit.ensures
 
-pub returns-in-Refused-of_top : goal.returns-in-Refused-of_top
+pub returns-in_err-check_curve_limit-3 : goal.returns-in_err-check_curve_limit-3
 unfolding curves_limit
-returns-in-Refused-of_top c =
-    passing c.in_default.is c.check_curve_limit-of_bottom.ensures
-    (passing c.in_default-of_right.is c.check_curve_limit-of_right.ensures
-    (chain_ends _ c.in-Refused-of_top.is c.check_curve_limit-of_top.ensures))
+returns-in_err-check_curve_limit-3 c =
+    exit_stops _ _ _ c.from_residual-in_err-check_curve_limit-3.ensures.1 c.in_err-check_curve_limit-3.ensures
+    ∙ chain_goes_on c.in_ok-check_curve_limit-2.ensures
+    ∙ chain_goes_on c.in_ok-check_curve_limit.ensures
 
 pub returns : goal.returns
 unfolding curves_limit
 returns c =
-    passing c.in_default.is c.check_curve_limit-of_bottom.ensures
-    (passing c.in_default-of_right.is c.check_curve_limit-of_right.ensures
-    (passing c.in_default-of_top.is c.check_curve_limit-of_top.ensures c.check_curve_limit.ensures))
+    c.check_curve_limit-4.ensures
+    ∙ chain_goes_on c.in_ok-check_curve_limit-3.ensures
+    ∙ chain_goes_on c.in_ok-check_curve_limit-2.ensures
+    ∙ chain_goes_on c.in_ok-check_curve_limit.ensures

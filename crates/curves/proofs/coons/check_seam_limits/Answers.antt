@@ -1,27 +1,30 @@
--- `coons::check_seam_limits` meets its contract: the first test that refuses is the whole chain. Assumes nothing.
-use Rattle.base.proofs.TestLaws.{chain_ends}
+-- `coons::check_seam_limits` meets its contract. Assumes nothing.
+use Rattle.std.proofs.Common.{◌∙◌}
+use Rattle.base.proofs.TestLaws.{exit_stops, chain_goes_on}
 use Rattle.curves.specs.Coons.{seams_limit}
-use Rattle.curves.proofs.Chains.{passing}
 use Rattle.curves.proofs.coons.check_seam_limits.Goals as goal
 
-pub returns-in-Refused : goal.returns-in-Refused
+pub returns-in_err-check_seam_limit : goal.returns-in_err-check_seam_limit
 unfolding seams_limit
-returns-in-Refused c = chain_ends _ c.in-Refused.is c.check_seam_limit-of_bottom.ensures
+returns-in_err-check_seam_limit c = exit_stops _ _ _ c.from_residual.ensures.1 c.in_err-check_seam_limit.ensures
 
-pub returns-in-Refused-of_top : goal.returns-in-Refused-of_top
+pub returns-in_err-check_seam_limit-2 : goal.returns-in_err-check_seam_limit-2
 unfolding seams_limit
-returns-in-Refused-of_top c = passing c.in_default.is c.check_seam_limit-of_bottom.ensures (chain_ends _ c.in-Refused-of_top.is c.check_seam_limit-of_top.ensures)
+returns-in_err-check_seam_limit-2 c =
+    exit_stops _ _ _ c.from_residual-in_err-check_seam_limit-2.ensures.1 c.in_err-check_seam_limit-2.ensures
+    ∙ chain_goes_on c.in_ok-check_seam_limit.ensures
 
-pub returns-in-Refused-of_left : goal.returns-in-Refused-of_left
+pub returns-in_err-check_seam_limit-3 : goal.returns-in_err-check_seam_limit-3
 unfolding seams_limit
-returns-in-Refused-of_left c =
-    passing c.in_default.is c.check_seam_limit-of_bottom.ensures
-    (passing c.in_default-of_top.is c.check_seam_limit-of_top.ensures
-    (chain_ends _ c.in-Refused-of_left.is c.check_seam_limit-of_left.ensures))
+returns-in_err-check_seam_limit-3 c =
+    exit_stops _ _ _ c.from_residual-in_err-check_seam_limit-3.ensures.1 c.in_err-check_seam_limit-3.ensures
+    ∙ chain_goes_on c.in_ok-check_seam_limit-2.ensures
+    ∙ chain_goes_on c.in_ok-check_seam_limit.ensures
 
 pub returns : goal.returns
 unfolding seams_limit
 returns c =
-    passing c.in_default.is c.check_seam_limit-of_bottom.ensures
-    (passing c.in_default-of_top.is c.check_seam_limit-of_top.ensures
-    (passing c.in_default-of_left.is c.check_seam_limit-of_left.ensures c.check_seam_limit.ensures))
+    c.check_seam_limit-4.ensures
+    ∙ chain_goes_on c.in_ok-check_seam_limit-3.ensures
+    ∙ chain_goes_on c.in_ok-check_seam_limit-2.ensures
+    ∙ chain_goes_on c.in_ok-check_seam_limit.ensures

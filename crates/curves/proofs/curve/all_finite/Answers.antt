@@ -1,13 +1,10 @@
--- `curve::all_finite` meets its contract. Before each turn the answer is that of the values from i on. Assumes nothing.
-use mathlib.Core.Path.{sym, ◌∙◌}
-use Rattle.curves.proofs.curve.Laws.{finite_next, finite_not, finite_end}
+-- `curve::all_finite` meets its contract. Assumes nothing.
+use Rattle.std.proofs.Common.{◌↔◌, rules}
+use Rattle.std.specs.Bool.{IsTrue}
+use Rattle.std.specs.List.{All}
+use Rattle.floats.specs.Scalar.{is_finite}
+use Rattle.curves.proofs.curve.Laws.{finite_if_all}
 use Rattle.curves.proofs.curve.all_finite.Goals as goal
 
-pub returns-then-not-finite : goal.returns-then-not-finite
-returns-then-not-finite c = sym (c.loop-i.invariant ∙ finite_not _ _ c.loop-i-test.true (sym c.is_finite-finite.ensures ∙ c.if-not-finite.true))
-
-pub loop-i-preserved : goal.loop-i-preserved
-loop-i-preserved c = c.loop-i.invariant ∙ finite_next _ _ c.loop-i-test.true (sym c.is_finite-finite.ensures ∙ c.if-not-finite.false)
-
 pub returns : goal.returns
-returns c = sym (c.loop-i.invariant ∙ finite_end _ _ c.loop-i-test.false)
+returns c = let each : IsTrue c.all.result ↔ All (λ x. IsTrue (is_finite x)) c.args.values.now = search rules in finite_if_all _ _ each

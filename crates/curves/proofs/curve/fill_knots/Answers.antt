@@ -1,52 +1,36 @@
--- `curve::fill_knots` meets its contract. Before each turn the knots of k points are written, `length` is the length run up to the point k, and p is
--- that point. Assumes nothing.
-use mathlib.Core.Path.{◌≡◌, refl, ap, ◌∙◌}
-use Prim.Native.Nat.{◌-◌, ◌/◌}
+-- `curve::fill_knots` meets its contract. Before each turn the knots of the points below k are there, and the last of them is `knot`. Assumes nothing.
+use mathlib.Core.Path.{◌≡◌, ap, ◌∙◌}
+use Prim.Native.Nat.{◌+◌, ◌-◌}
 use native.Mathlib.Omega.{arith}
-use lib.ListN.{length}
-use Rattle.curves.specs.Curve.{length_to}
-use Rattle.curves.proofs.curve.Laws.{length_more, no_knots, next_knot, knots_done}
+use lib.ListN.{length-set}
+use Rattle.curves.specs.Curve.{point_count, knot_of, no_knot, arc_curve}
+use Rattle.curves.proofs.Filling.{by_index, stored_more}
+use Rattle.curves.proofs.curve.Laws.{first_knot, knot_further}
 use Rattle.curves.proofs.curve.fill_knots.Goals as goal
 
 pub loop-k-init : goal.loop-k-init
-unfolding length_to
 loop-k-init c =
+    let first = first_knot c.args.points.now c.point_at-first.ensures in
     record {
-      below = omega arith;
-      at_is = omega arith;
-      given = c.requires;
-      same_length = refl;
-      here = c.point_at-p.ensures;
-      run_is = refl;
-      knots-to = no_knots;
+      last_is = first;
+      room = rw length-set c.requires.room;
+      there = stored_more (knot_of c.args.points.now) c.args.knots.now no_knot (omega arith) (λ k h. absurd (omega arith)) first;
     }
 
 pub loop-k-preserved : goal.loop-k-preserved
 loop-k-preserved c =
-    let stored = c.store_knot in
     let l = c.loop-k in
     let inv = l.invariant in
-    let points = c.args.points.now in
-    let same = stored.auto.knots in
+    let next = knot_further c.args.points.now l.k inv.last_is (omega arith) c.point_at.ensures c.next-knot.ensures in
+    let last : l.k ≡ l.k + 1 - 1 = omega arith in
     record {
-      below = omega arith;
-      at_is = omega (arith, inv.at_is);
-      given = record { some = inv.given.some; room = omega (arith, same, inv.given.room) };
-      same_length = same ∙ inv.same_length;
-      here = c.point_at-q.ensures;
-      run_is = length_more points l.k inv.run_is inv.here c.point_at-q.ensures c.distance-length.ensures;
-      knots-to = next_knot inv.knots-to inv.at_is (omega arith) inv.here inv.run_is stored.ensures;
+      last_is = next ∙ ap (knot_of c.args.points.now) last;
+      room = rw length-set inv.room;
+      there = stored_more (knot_of c.args.points.now) l.knots no_knot (omega (arith, inv.room, c.loop-k-test.true)) inv.there next;
     }
 
-pub shape_of-knots : goal.shape_of-knots
-shape_of-knots c = c.store_knot-2.auto.knots ∙ c.loop-k.invariant.same_length
-
-pub returns : goal.returns
-returns c =
-    let l = c.loop-k in
-    let points = c.args.points.now in
-    let e : l.k ≡ length points / 2 - 1 = omega arith in
-    record {
-      value = l.invariant.run_is ∙ ap (length_to points) e;
-      knots_after = knots_done (next_knot l.invariant.knots-to l.invariant.at_is (omega arith) l.invariant.here l.invariant.run_is c.store_knot-2.ensures) (omega arith);
-    }
+pub returns-clause-knots_after : goal.returns-clause-knots_after
+unfolding arc_curve
+returns-clause-knots_after c =
+    let inv = c.loop-k.invariant in
+    by_index (knot_of c.args.points.now) (point_count c.args.points.now) c.loop-k.knots no_knot inv.room (λ i h. inv.there i (omega arith))

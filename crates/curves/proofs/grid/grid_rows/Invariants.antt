@@ -1,34 +1,23 @@
-use mathlib.Core.Path.{◌≡◌}
-use mathlib.Core.List.{List}
-use Prim.Native.Nat.{ℕ, ◌+◌, ◌-◌, ◌*◌}
-use lib.ListN.{length}
+use Rattle.std.proofs.Common.{◌≡◌, List, ℕ, length}
 use lib.Ieee.{Float}
-use Rattle.base.specs.declared.refusal.Check.{Check}
-use Rattle.curves.specs.Grid.{Seams, seams, n_u, n_v, grid_of}
-use Rattle.curves.specs.inner.Curves.{part, curves_in}
-use Rattle.curves.specs.inner.Grids.{RowsGiven}
-use Rattle.curves.specs.declared.boundary.Patch.{Patch}
+use Rattle.base.specs.declared.verdict.Verdict.{Verdict}
+use Rattle.base.specs.Refusal.{outcome}
+use Rattle.curves.specs.Boundary.{BoundaryCurves}
+use Rattle.curves.specs.Grid.{Seams, n_u, n_v, grid_of}
+use Rattle.curves.specs.inner.Curves.{curves_of}
+use Rattle.curves.specs.inner.Grids.{lent_seams}
+use Rattle.curves.specs.declared.point.Point.{Point}
 use Rattle.curves.specs.declared.rows.Layout.{Layout}
-use Rattle.curves.proofs.grid.TwoRows.{TwoPlaces}
 use Rattle.curves.proofs.grid.Filled.{RowsTo}
 use Rattle.curves.proofs.grid.grid_rows.Given as goal
 
--- how many values a row takes
-abbrev pub row-width : Seams → ℕ
-row-width s = 2 * (n_u s + 1)
-
-pub record Turn (knots : List Float) (p : Patch) (s : Seams) (layout : Layout) (columns rows₀ out₀ rows out : List Float) (cells : Check) (low high at j : ℕ)
+pub record Turn (c : BoundaryCurves) (s : Seams) (layout : Layout) (out₀ : List Float) (low high : List Point) (out : List Float) (cells : Verdict) (at j : ℕ)
     : Type 0 where
-  pub given : RowsGiven knots p s layout columns rows out
-  pub same_rows : length rows ≡ length rows₀
+  pub low_row : length low ≡ length s.bottom
+  pub high_row : length high ≡ length s.bottom
   pub same_out : length out ≡ length out₀
-  pub places : TwoPlaces (row-width s) low high rows
-  pub laid : RowsTo layout (grid_of (curves_in knots p.starts) s) (n_u s) (n_v s) out₀ j at (part rows low (low + row-width s)) out cells
+  pub laid : RowsTo layout (grid_of c s) (n_u s) (n_v s) out₀ j at low out cells
 
 abbrev pub invariant-loop-j : goal.invariant-loop-j
 invariant-loop-j l =
-    Turn l.knots l.patch (seams l.bottom_u l.top_u l.left_v l.right_v) l.layout l.columns l.initial.rows l.initial.out l.rows l.out l.cells l.low l.high l.at l.j
-
-abbrev pub decreases-loop-j : goal.decreases-loop-j
-decreases-loop-j l =
-    l.m + 1 - l.j
+    Turn (curves_of l.patch) (lent_seams l.seams) l.layout l.initial.out l.low l.high l.out (outcome l.cells) l.at l.j

@@ -1,38 +1,22 @@
--- `grid::map_points` meets its contract. Before each turn the points before i stand in the place of their pairs. Assumes nothing.
-use mathlib.Core.Path.{refl}
+-- `grid::map_points` meets its contract. Before each turn the points below the index stand in the place of their pairs, and the other pairs are left.
+-- Assumes nothing.
+use mathlib.Core.Path.{ap, ◌∙◌}
 use native.Mathlib.Omega.{arith}
 use lib.ListN.{length-set}
-use Rattle.base.proofs.BufferLaws.{splice_none}
-use Rattle.curves.proofs.grid.Laws.{next_mapped, mapped_done}
+use Rattle.std.proofs.Common.{◌≢◌, get_or-set_other}
+use Rattle.curves.specs.Patch.{coons_point}
+use Rattle.curves.specs.inner.Curves.{curves_of}
+use Rattle.curves.specs.declared.point.Point.{Point}
+use Rattle.curves.proofs.Filling.{stored_more}
 use Rattle.curves.proofs.grid.map_points.Goals as goal
 
-pub loop-i-init : goal.loop-i-init
-loop-i-init c =
+pub loop-p-preserved : goal.loop-p-preserved
+loop-p-preserved c =
+    let l = c.loop-p in
+    let curves = curves_of c.args.patch.now in
+    let pair = l.invariant.left l.p-index (omega arith) in
     record {
-      within = omega arith;
-      k-is = omega arith;
-      given = c.requires;
-      same_length = refl;
-      mapped = record { written = splice_none c.args.row.now 0 };
+      each = rw length-set l.invariant.each;
+      holds = stored_more _ l.row _ (omega (arith, c.loop-p-test.true, l.invariant.each)) l.invariant.holds (c.coons_point.ensures ∙ ap (λ (p : Point). coons_point curves p.x p.y) pair);
+      left = λ k h. let other : k ≢ l.p-index = omega arith in rw get_or-set_other (l.invariant.left k (omega arith));
     }
-
-pub bounds-row-k-in-loop-i-3 : goal.bounds-row-k-in-loop-i-3
-bounds-row-k-in-loop-i-3 c = simp length-set (omega arith)
-
-pub loop-i-preserved : goal.loop-i-preserved
-loop-i-preserved c =
-    let l = c.loop-i in
-    let g = l.invariant.given in
-    record {
-      within = omega arith;
-      k-is = omega (arith, l.invariant.k-is);
-      given = record { patch = g.patch; cells = g.cells; room = simp length-set g.room };
-      same_length = simp length-set l.invariant.same_length;
-      mapped = next_mapped l.invariant.mapped l.invariant.k-is (omega arith) c.coons_point-p.ensures;
-    }
-
-pub shape_of-row : goal.shape_of-row
-shape_of-row c = c.loop-i.invariant.same_length
-
-pub returns : goal.returns
-returns c = mapped_done _ c.loop-i.invariant.mapped (omega arith)

@@ -1,9 +1,18 @@
 -- `lay::check_all_edges` meets its contract. Assumes nothing.
-use Rattle.curves.proofs.Chains.{chained}
+use Rattle.std.proofs.Common.{◌∙◌}
+use Rattle.base.proofs.TestLaws.{exit_stops, chain_goes_on}
 use Rattle.curves.proofs.lay.check_all_edges.Goals as goal
 
-pub returns : goal.returns
-returns c =
-    chained c.and.ensures c.check_edges-of_bottom.ensures
-    (chained c.and-from_right.ensures c.check_edges-of_right.ensures
-    (chained c.and-from_top.ensures c.check_edges-of_top.ensures c.check_edges-of_left.ensures))
+pub returns-in_err-check_edges : goal.returns-in_err-check_edges
+returns-in_err-check_edges c = exit_stops _ _ _ c.from_residual.ensures.1 c.in_err-check_edges.ensures
+
+pub returns-in_err-check_edges-2 : goal.returns-in_err-check_edges-2
+returns-in_err-check_edges-2 c =
+    exit_stops _ _ _ c.from_residual-in_err-check_edges-2.ensures.1 c.in_err-check_edges-2.ensures
+    ∙ chain_goes_on c.in_ok-check_edges.ensures
+
+pub returns-in_err-check_edges-3 : goal.returns-in_err-check_edges-3
+returns-in_err-check_edges-3 c =
+    exit_stops _ _ _ c.from_residual-in_err-check_edges-3.ensures.1 c.in_err-check_edges-3.ensures
+    ∙ chain_goes_on c.in_ok-check_edges-2.ensures
+    ∙ chain_goes_on c.in_ok-check_edges.ensures

@@ -1,42 +1,29 @@
--- `lay::check_edges` meets its contract. Before each turn the test of all edges is that of the edges from i on. Assumes nothing.
-use mathlib.Core.Path.{◌∙◌}
-use mathlib.Core.Bool.{true, false}
-use mathlib.Core.List.{List}
-use Prim.Native.Nat.{ℕ}
-use native.Mathlib.Omega.{arith}
+-- `lay::check_edges` meets its contract. Assumes nothing.
+use Rattle.std.proofs.Common.{◌≡◌, ◌∙◌, sym, refl, true, false, List, [], ◌∷◌, ℕ, Bool, rules, tests}
 use lib.Dec.{ltb}
-use lib.ListN.{get_or}
-use borrow.Author.Tests.{lt-ltb, le-ltb}
-use Rattle.base.specs.Refusal.{outcome, verdict_of}
-use Rattle.base.proofs.Turns.{all_here, all_next, all_end}
+use Rattle.std.specs.List.{list_all}
+use Rattle.std.proofs.lemmas.Iterator.{YieldsList-from_slice}
+use Rattle.std.proofs.lemmas.Iterator.Search.{all_from_yields_List}
+use Rattle.base.specs.Lists.{all}
+use Rattle.base.specs.Refusal.{verdict_of}
 use Rattle.curves.proofs.lay.Laws.{edges_by}
 use Rattle.curves.proofs.lay.check_edges.Goals as goal
-use Rattle.curves.proofs.lay.check_edges.Goals.{At-loop-i}
+use Rattle.curves.proofs.lay.check_edges.Goals.{After-all}
 
-abbrev edges : At-loop-i → List ℕ
-edges c = c.side-edges.result.now
+-- std's words for the same test
+list_all_is : {A : Type 0} (p : A → Bool) (l : List A) → list_all p l ≡ all p l
+list_all_is p [] = refl
+list_all_is p (x ∷ l) = rw (list_all_is p l)
 
-pub overflow_cast-e : goal.overflow_cast-e
-overflow_cast-e c = omega (arith, c.type_inv.edges c.loop-i.i)
+known : (c : After-all) → all (λ (e : ℕ). ltb e c.args.n) c.side.result.now ≡ c.all.result
+known c =
+    let edges = c.side.result.now in
+    sym (all_from_yields_List (λ (e : ℕ). ltb e c.args.n) _ _ _ c.all.ensures.ran (YieldsList-from_slice edges cc) (λ x b q k. search (rules, tests))
+    ∙ list_all_is (λ (e : ℕ). ltb e c.args.n) edges)
 
-pub returns-then-e-n : goal.returns-then-e-n
-unfolding outcome verdict_of
-returns-then-e-n c =
-    let a = c.args in
-    let i = c.loop-i.i in
-    let large = le-ltb (get_or (edges (goal.at.returns-then-e-n c).At-loop-i) i 0) a.n c.if-e-n.true in
-    edges_by a.region.now a.n a.k false c.side-edges.ensures
-    (c.loop-i.invariant ∙ all_here (edges (goal.at.returns-then-e-n c).At-loop-i) 0 i (λ (e : ℕ). ltb e a.n) c.loop-i-test.true large)
-
-pub loop-i-preserved : goal.loop-i-preserved
-loop-i-preserved c =
-    let n = c.args.n in
-    let i = c.loop-i.i in
-    c.loop-i.invariant ∙ all_next (edges (goal.at.loop-i-preserved c).At-loop-i) 0 i (λ (e : ℕ). ltb e n) c.loop-i-test.true (lt-ltb (get_or (edges (goal.at.loop-i-preserved c).At-loop-i) i 0) n c.if-e-n.false)
+pub returns-then-all : goal.returns-then-all
+returns-then-all c = let a = c.args in edges_by a.region.now a.n a.k true c.side.ensures (known (goal.at.returns-then-all c).After-all ∙ c.if-all.true)
 
 pub returns : goal.returns
-unfolding outcome
-returns c =
-    let a = c.args in
-    edges_by a.region.now a.n a.k true c.side-edges.ensures
-    (c.loop-i.invariant ∙ all_end (edges (goal.at.returns c).At-loop-i) 0 c.loop-i.i (λ (e : ℕ). ltb e a.n) c.loop-i-test.false)
+unfolding verdict_of
+returns c = let a = c.args in edges_by a.region.now a.n a.k false c.side.ensures (known (goal.at.returns c).After-all ∙ c.if-all.false)

@@ -3,4 +3,4 @@ use Rattle.curves.proofs.patch.Laws.{patched}
 use Rattle.curves.proofs.patch.coons_point.Goals as goal
 
 pub returns : goal.returns
-returns c = patched c.args.u c.args.v c.requires.curves c.column_at-column.ensures c.row_at-row.ensures c.patch_point.ensures
+returns c = rw (c.patch_point.ensures, c.column_at-column.ensures, c.row_at-row.ensures) (patched c.args.patch.now c.args.u c.args.v)

@@ -1,58 +1,23 @@
 -- `seam::side_seam` meets its contract. Before each turn so many values of the seam are written, and what is still to come is that of the
 -- edges from i on. Assumes nothing.
-use mathlib.Core.Path.{refl, ◌∙◌}
-use native.Mathlib.Omega.{arith}
-use lib.ListN.{length-set}
+use Rattle.std.proofs.Common.{◌≡◌, length, arith}
 use Rattle.curves.proofs.seam.Laws.{seam_begins, edge_fits, next_edge, last_fits, seam_done}
 use Rattle.curves.proofs.seam.side_seam.Goals as goal
 
 pub loop-i-init : goal.loop-i-init
-loop-i-init c = record { within = omega arith; given = c.requires; same_length = refl; seam = seam_begins }
+loop-i-init c = seam_begins
 
 pub edge_values-requires : goal.edge_values-requires
-edge_values-requires c =
-    let inv = c.loop-i.invariant in
-    omega (arith, edge_fits inv.seam c.loop-i-test.true, inv.given, c.loop-i-test.true)
-
-pub overflow_cast-written : goal.overflow_cast-written
-overflow_cast-written c =
-    let inv = c.loop-i.invariant in
-    omega (arith, edge_fits inv.seam c.loop-i-test.true, inv.given)
-
-pub overflow_add-written : goal.overflow_add-written
-overflow_add-written c =
-    let inv = c.loop-i.invariant in
-    omega (arith, edge_fits inv.seam c.loop-i-test.true, inv.given)
+edge_values-requires c = omega (arith, edge_fits c.loop-i.invariant c.loop-i-test.true, c.requires)
 
 pub loop-i-preserved : goal.loop-i-preserved
-loop-i-preserved c =
-    let written = c.edge_values in
-    let below = c.loop-i-test.true in
-    let inv = c.loop-i.invariant in
-    let g = inv.given in
-    let same = written.auto.out in
-    record {
-      within = omega arith;
-      given = record { breaks_more = g.breaks_more; room = omega (arith, same, g.room) };
-      same_length = same ∙ inv.same_length;
-      seam = next_edge inv.seam below (omega (arith, g.room, inv.same_length)) written.ensures;
-    }
+loop-i-preserved c = next_edge c.loop-i.invariant c.loop-i-test.true c.requires.room c.edge_values.ensures
 
 pub bounds-out-written : goal.bounds-out-written
-bounds-out-written c =
-    let inv = c.loop-i.invariant in
-    omega (arith, last_fits inv.seam c.loop-i-test.false, inv.given)
-
-pub overflow_add-result : goal.overflow_add-result
-overflow_add-result c =
-    let inv = c.loop-i.invariant in
-    omega (arith, last_fits inv.seam c.loop-i-test.false, inv.given)
-
-pub shape_of-out : goal.shape_of-out
-shape_of-out c = simp length-set c.loop-i.invariant.same_length
+bounds-out-written c = omega (arith, last_fits c.loop-i.invariant c.loop-i-test.false, c.requires)
 
 pub returns : goal.returns
 returns c =
     let over = c.loop-i-test.false in
-    let inv = c.loop-i.invariant in
-    record { value = last_fits inv.seam over; out_after = seam_done inv.seam over (omega (arith, inv.given.room, inv.same_length)) inv.same_length }
+    let e : c.loop-i.i ≡ length c.args.counts.now = omega arith in
+    record { value = last_fits c.loop-i.invariant over; out_after = rw e at (seam_done c.loop-i.invariant over c.requires.room c.loop-i.auto.out) }

@@ -1,8 +1,5 @@
 -- `cells::write_row` meets its contract. Before each turn i cells are written. Assumes nothing.
-use mathlib.Core.Path.{◌≡◌, refl, ap, ◌∙◌}
-use Prim.Native.Nat.{ℕ, ◌+◌, ◌*◌, ◌≤◌}
-use native.Mathlib.Omega.{arith}
-use lib.ListN.{length-set}
+use Rattle.std.proofs.Common.{◌≡◌, ◌∙◌, ap, refl, ℕ, ◌+◌, ◌*◌, ◌≤◌, arith}
 use Rattle.base.specs.Buffers.{concat_tabulate, splice}
 use Rattle.base.proofs.BufferLaws.{splice_none}
 use Rattle.mesh.specs.Mesh.{cell, row_cells}
@@ -18,7 +15,7 @@ pub overflow_mul-first : goal.overflow_mul-first
 overflow_mul-first c = omega (arith, first-few (goal.at.overflow_mul-first c).Start)
 
 pub loop-i-init : goal.loop-i-init
-loop-i-init c = record { not-past = omega arith; at_is = omega arith; as_long = refl; is = splice_none c.args.cells.now c.args.from }
+loop-i-init c = splice_none c.args.cells.now c.args.from
 
 pub overflow_add-low : goal.overflow_add-low
 overflow_add-low c = omega (arith, first-few (goal.at.overflow_add-low c).Start)
@@ -29,31 +26,11 @@ overflow_add-high c = omega (arith, first-few (goal.at.overflow_add-high c).Star
 pub overflow_add-cells : goal.overflow_add-cells
 overflow_add-cells c = omega (arith, first-few (goal.at.overflow_add-cells c).Start)
 
-pub bounds-cells-at-in-loop-i : goal.bounds-cells-at-in-loop-i
-bounds-cells-at-in-loop-i c = simp length-set (omega arith)
-
-pub overflow_add-cells-in-loop-i-2 : goal.overflow_add-cells-in-loop-i-2
-overflow_add-cells-in-loop-i-2 c = omega (arith, first-few (goal.at.overflow_add-cells-in-loop-i-2 c).Start)
-
-pub bounds-cells-at-in-loop-i-2 : goal.bounds-cells-at-in-loop-i-2
-bounds-cells-at-in-loop-i-2 c = simp length-set (omega arith)
-
-pub bounds-cells-at-in-loop-i-3 : goal.bounds-cells-at-in-loop-i-3
-bounds-cells-at-in-loop-i-3 c = simp length-set (omega arith)
-
 pub loop-i-preserved : goal.loop-i-preserved
 loop-i-preserved c =
     let l = c.loop-i in
     let a = c.args in
-    record {
-      not-past = omega arith;
-      at_is = omega arith;
-      as_long = simp length-set (omega arith);
-      is = cell_turn a.n a.j a.cells.now a.from l.cells l.i l.at l.invariant.is l.invariant.at_is l.invariant.as_long (omega arith);
-    }
-
-pub shape_of-cells : goal.shape_of-cells
-shape_of-cells c = c.loop-i.invariant.as_long
+    cell_turn a.n a.j a.cells.now a.from l.cells l.i (a.from + 4 * l.i) l.invariant refl (omega arith) (omega arith)
 
 pub returns : goal.returns
 unfolding row_cells
@@ -61,4 +38,4 @@ returns c =
     let l = c.loop-i in
     let a = c.args in
     let e : l.i ≡ a.n = omega arith in
-    l.invariant.is ∙ ap (λ (k : ℕ). splice a.cells.now a.from (concat_tabulate (cell a.n a.j) 0 k)) e
+    l.invariant ∙ ap (λ (k : ℕ). splice a.cells.now a.from (concat_tabulate (cell a.n a.j) 0 k)) e

@@ -1,80 +1,42 @@
--- `tile::coons_checked` meets its contract: the loop has corners or quarters, or it is refused. Assumes nothing.
-use mathlib.Core.Path.{sym, ◌∙◌}
-use mathlib.Core.List.{List}
-use Prim.Native.Nat.{◌*◌, ◌≤◌}
-use native.Mathlib.Omega.{arith}
-use lib.ListN.{length}
-use lib.Seq.{length-take-le}
+-- `tile::coons_checked` meets its contract: the loop falls into four curves, or it is refused. Assumes nothing.
+use Rattle.std.proofs.Common.{◌∙◌, List, ◌≤◌, length, arith}
 use lib.Ieee.{Float}
-use Rattle.curves.specs.Curve.{point_count}
+use Rattle.std.proofs.lemmas.Result.{err_from_is_err_and}
 use Rattle.curves.specs.Coons.{outcome_of, coons_quads}
-use Rattle.mesh.specs.Loop.{loop_of}
-use Rattle.mesh.proofs.boundary.Laws.{side_0, side_1, side_2, side_3}
-use Rattle.mesh.proofs.tile.Laws.{held, quads_by, in_four_curves}
+use Rattle.mesh.proofs.boundary.Laws.{eight_values, pieces_in}
+use Rattle.mesh.proofs.tile.Laws.{held, quads_by, quads_refused, in_four_curves}
 use Rattle.mesh.proofs.tile.coons_checked.Goals as goal
-use Rattle.mesh.proofs.tile.coons_checked.Goals.{In-Corners, In-Quarters}
+use Rattle.mesh.proofs.tile.coons_checked.Goals.{In_ok-pieces}
 
-enough : (c : In-Corners) → 8 ≤ length c.args.boundary.now
-unfolding loop_of
-enough c = let h = held _ _ _ c.tile_loop.ensures c.in-Corners.is in omega (arith, h)
-
-pub slice_bounds-coons_curves-end : goal.slice_bounds-coons_curves-end
-slice_bounds-coons_curves-end c = sym (length-take-le 4 c.args.boundary.now (omega (arith, enough (goal.at.slice_bounds-coons_curves-end c).In-Corners)))
-
-pub returns-in-Corners : goal.returns-in-Corners
-unfolding loop_of
-returns-in-Corners c =
+pub returns-in_err-pieces : goal.returns-in_err-pieces
+unfolding outcome_of
+returns-in_err-pieces c =
     let a = c.args in
-    let loop = a.boundary.now in
-    c.coons_curves.ensures
-    ∙ in_four_curves (λ (b r t l : List Float). coons_quads b r t l a.n_u a.n_v a.out.now) _ _ _ _ _ _ _ _
-    (side_0 loop) (side_1 loop) (side_2 loop) (side_3 loop (enough (goal.at.returns-in-Corners c).In-Corners))
-    ∙ quads_by _ _ _ c.tile_loop.ensures c.in-Corners.is a.out.now
+    let p = err_from_is_err_and c.from_residual.result c.from_residual.ensures.1 in
+    rw (p.1, p.2) (quads_refused a.boundary.now a.n_u a.n_v c.in_err-pieces.ensures a.out.now)
 
-within : (c : In-Quarters) → 4 * c.in-Quarters.n ≤ point_count c.args.boundary.now
-unfolding loop_of
-within c = held _ _ _ c.tile_loop.ensures c.in-Quarters.is
-
-pub returns-in-Quarters : goal.returns-in-Quarters
-unfolding loop_of
-returns-in-Quarters c =
-    let a = c.args in
-    c.coons_curves-in-Quarters.ensures
-    ∙ in_four_curves (λ (b r t l : List Float). coons_quads b r t l a.n_u a.n_v a.out.now) _ _ _ _ _ _ _ _
-    c.quarter-bottom.ensures c.quarter-right.ensures c.quarter-top.ensures
-    c.quarter-left.ensures
-    ∙ quads_by _ _ _ c.tile_loop.ensures c.in-Quarters.is a.out.now
-
-pub returns-in-Refused : goal.returns-in-Refused
-unfolding loop_of outcome_of
-returns-in-Refused c = quads_by _ _ _ c.tile_loop.ensures c.in-Refused.is c.args.out.now
+enough : (c : In_ok-pieces) → 8 ≤ length c.args.boundary.now
+enough c = eight_values c.args.boundary.now _ (held c.args.boundary.now c.args.n_u c.args.n_v c.in_ok-pieces.ensures)
 
 pub bounds-boundary-6 : goal.bounds-boundary-6
-bounds-boundary-6 c = omega (arith, enough (goal.at.bounds-boundary-6 c).In-Corners)
+bounds-boundary-6 c = omega (arith, enough (goal.at.bounds-boundary-6 c).In_ok-pieces)
 
 pub bounds-boundary-7 : goal.bounds-boundary-7
-bounds-boundary-7 c = omega (arith, enough (goal.at.bounds-boundary-7 c).In-Corners)
+bounds-boundary-7 c = omega (arith, enough (goal.at.bounds-boundary-7 c).In_ok-pieces)
 
 pub bounds-boundary-0 : goal.bounds-boundary-0
-bounds-boundary-0 c = omega (arith, enough (goal.at.bounds-boundary-0 c).In-Corners)
+bounds-boundary-0 c = omega (arith, enough (goal.at.bounds-boundary-0 c).In_ok-pieces)
 
 pub bounds-boundary-1 : goal.bounds-boundary-1
-bounds-boundary-1 c = omega (arith, enough (goal.at.bounds-boundary-1 c).In-Corners)
+bounds-boundary-1 c = omega (arith, enough (goal.at.bounds-boundary-1 c).In_ok-pieces)
 
-pub slice_bounds-coons_curves-end-in-Corners : goal.slice_bounds-coons_curves-end-in-Corners
-slice_bounds-coons_curves-end-in-Corners c = omega (arith, enough (goal.at.slice_bounds-coons_curves-end-in-Corners c).In-Corners)
+pub curves-requires : goal.curves-requires
+curves-requires c = pieces_in c.args.boundary.now _ (held c.args.boundary.now c.args.n_u c.args.n_v c.in_ok-pieces.ensures)
 
-pub slice_bounds-coons_curves-end-in-Corners-2 : goal.slice_bounds-coons_curves-end-in-Corners-2
-slice_bounds-coons_curves-end-in-Corners-2 c = omega (arith, enough (goal.at.slice_bounds-coons_curves-end-in-Corners-2 c).In-Corners)
-
-pub quarter-bottom-requires : goal.quarter-bottom-requires
-quarter-bottom-requires c = (omega arith, within (goal.at.quarter-bottom-requires c).In-Quarters)
-
-pub quarter-right-requires : goal.quarter-right-requires
-quarter-right-requires c = (omega arith, within (goal.at.quarter-right-requires c).In-Quarters)
-
-pub quarter-top-requires : goal.quarter-top-requires
-quarter-top-requires c = (omega arith, within (goal.at.quarter-top-requires c).In-Quarters)
-
-pub quarter-left-requires : goal.quarter-left-requires
-quarter-left-requires c = (omega arith, within (goal.at.quarter-left-requires c).In-Quarters)
+pub returns : goal.returns
+returns c =
+    let a = c.args in
+    let s = c.curves.ensures in
+    c.coons_curves.ensures
+    ∙ in_four_curves (λ (b r t l : List Float). coons_quads b r t l a.n_u a.n_v a.out.now) _ _ _ _ _ _ _ _ s.bottom_is s.right_is s.top_is s.left_is
+    ∙ quads_by a.boundary.now a.n_u a.n_v c.in_ok-pieces.ensures a.out.now

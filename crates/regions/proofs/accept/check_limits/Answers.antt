@@ -1,48 +1,43 @@
--- `regions::accept::check_limits` meets its contract. Each return is the definition at what the tests on the way say. Assumes nothing.
-use Prim.Native.Nat.{◌/◌, ◌%◌}
+-- `regions::accept::check_limits` meets its contract: what the four conditions say is what the definition's four tests say. Assumes nothing.
+use Rattle.std.proofs.Common.{◌/◌, ◌%◌, length}
 use borrow.Author.Tests.{le-leb, lt-leb, eq-eqb, ne_eqb}
-use lib.ListN.{length}
-use Rattle.base.specs.Refusal.{outcome, verdict_of}
+use Rattle.base.specs.Refusal.{verdict_of}
 use Rattle.regions.specs.Accept.{records_whole, limits_test, max_regions, max_edges}
 use Rattle.regions.specs.Region.{places, record_size}
 use Rattle.regions.proofs.accept.check_limits.Goals as goal
+use Rattle.regions.proofs.accept.check_limits.Goals.{
+  then-n-gt-MAX_EDGES-via-then-n-gt-MAX_EDGES as edges,
+  then-n-gt-MAX_EDGES-via-else-n-gt-MAX_EDGES+then-regions-ne0 as whole,
+  then-n-gt-MAX_EDGES-via-else-n-gt-MAX_EDGES+else-regions-ne0+then-regions-gt-MAX_REGIONS as number,
+  then-n-gt-MAX_EDGES-via-else-n-gt-MAX_EDGES+else-regions-ne0+else-regions-gt-MAX_REGIONS+then-not-sides_fit as sides,
+}
 
 pub returns-then-n-gt-MAX_EDGES : goal.returns-then-n-gt-MAX_EDGES
-unfolding outcome verdict_of limits_test records_whole
+unfolding verdict_of limits_test records_whole
 returns-then-n-gt-MAX_EDGES c =
     let l = c.args.regions.now in
     let n = c.args.n in
-    simp (lt-leb n max_edges c.if-n-gt-MAX_EDGES.true)
-
-pub returns-then-regions-ne0 : goal.returns-then-regions-ne0
-unfolding outcome verdict_of limits_test records_whole
-returns-then-regions-ne0 c =
-    let l = c.args.regions.now in
-    let n = c.args.n in
-    simp (le-leb n max_edges c.if-n-gt-MAX_EDGES.false, ne_eqb (length l % record_size places) 0 c.if-regions-ne0.true)
-
-pub returns-then-regions-gt-MAX_REGIONS : goal.returns-then-regions-gt-MAX_REGIONS
-unfolding outcome verdict_of limits_test records_whole
-returns-then-regions-gt-MAX_REGIONS c =
-    let l = c.args.regions.now in
-    let n = c.args.n in
-    simp (le-leb n max_edges c.if-n-gt-MAX_EDGES.false, eq-eqb (length l % record_size places) 0 c.if-regions-ne0.false, lt-leb (length l / record_size places) max_regions c.if-regions-gt-MAX_REGIONS.true)
-
-pub returns-then-sides_fit : goal.returns-then-sides_fit
-unfolding outcome verdict_of limits_test records_whole
-returns-then-sides_fit c =
-    let l = c.args.regions.now in
-    let n = c.args.n in
-    simp (
-      le-leb n max_edges c.if-n-gt-MAX_EDGES.false,
-      eq-eqb (length l % record_size places) 0 c.if-regions-ne0.false,
-      le-leb (length l / record_size places) max_regions c.if-regions-gt-MAX_REGIONS.false,
-      ← c.sides_fit.ensures,
-      c.if-sides_fit.true,
-    )
+    elim c.then-n-gt-MAX_EDGES.branch [
+      | edges w ↦ simp (lt-leb n max_edges w.if-n-gt-MAX_EDGES.true)
+      | whole w ↦ simp (le-leb n max_edges w.if-n-gt-MAX_EDGES.false, ne_eqb (length l % record_size places) 0 w.if-regions-ne0.true)
+      | number w ↦
+          simp (
+            le-leb n max_edges w.if-n-gt-MAX_EDGES.false,
+            eq-eqb (length l % record_size places) 0 w.if-regions-ne0.false,
+            lt-leb (length l / record_size places) max_regions w.if-regions-gt-MAX_REGIONS.true,
+          )
+      | sides w ↦
+          simp (
+            le-leb n max_edges w.if-n-gt-MAX_EDGES.false,
+            eq-eqb (length l % record_size places) 0 w.if-regions-ne0.false,
+            le-leb (length l / record_size places) max_regions w.if-regions-gt-MAX_REGIONS.false,
+            ← w.sides_fit.ensures,
+            w.if-not-sides_fit.true,
+          )
+    ]
 
 pub returns : goal.returns
-unfolding outcome verdict_of limits_test records_whole
+unfolding limits_test records_whole
 returns c =
     let l = c.args.regions.now in
     let n = c.args.n in
@@ -51,5 +46,5 @@ returns c =
       eq-eqb (length l % record_size places) 0 c.if-regions-ne0.false,
       le-leb (length l / record_size places) max_regions c.if-regions-gt-MAX_REGIONS.false,
       ← c.sides_fit.ensures,
-      c.if-sides_fit.false,
+      c.if-not-sides_fit.false,
     )

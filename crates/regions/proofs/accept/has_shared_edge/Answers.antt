@@ -1,28 +1,20 @@
--- `regions::accept::has_shared_edge` meets its contract. The loop's invariant: a shared edge stands in a just if one stands there from i on. Assumes nothing.
-use mathlib.Core.Path.{sym, ◌∙◌}
-use Prim.Native.Nat.{ℕ}
+-- `regions::accept::has_shared_edge` meets its contract. The loop's invariant: a shared edge stands in a just if one stands there from here on. Assumes nothing.
+use Rattle.std.proofs.Common.{◌∙◌, sym, ℕ}
 use Rattle.base.specs.Lists.{member}
-use Rattle.base.proofs.Turns.{any_here, any_next, any_end}
+use Rattle.base.proofs.Turns.{any_here, any_next, any_end, contains_is}
 use Rattle.regions.proofs.accept.has_shared_edge.Goals as goal
 
 pub returns-then-contains : goal.returns-then-contains
 returns-then-contains c =
-    let a = c.args.a.now in
     let b = c.args.b.now in
-    let i = c.loop-i.i in
-    sym (c.loop-i.invariant ∙ any_here a 0 i (λ (e : ℕ). member e b) c.loop-i-test.true (sym c.contains.ensures ∙ c.if-contains.true))
+    sym (c.loop-e.invariant ∙ any_here c.args.a.now 0 c.loop-e.e-index (λ (e : ℕ). member e b) c.loop-e-test.true
+    (sym (contains_is _ b) ∙ sym c.contains.ensures.value ∙ c.if-contains.true))
 
-pub loop-i-preserved : goal.loop-i-preserved
-loop-i-preserved c =
-    let a = c.args.a.now in
+pub loop-e-preserved : goal.loop-e-preserved
+loop-e-preserved c =
     let b = c.args.b.now in
-    let i = c.loop-i.i in
-    c.loop-i.invariant
-    ∙ any_next a 0 i (λ (e : ℕ). member e b) c.loop-i-test.true (sym c.contains.ensures ∙ c.if-contains.false)
+    c.loop-e.invariant ∙ any_next c.args.a.now 0 c.loop-e.e-index (λ (e : ℕ). member e b) c.loop-e-test.true
+    (sym (contains_is _ b) ∙ sym c.contains.ensures.value ∙ c.if-contains.false)
 
 pub returns : goal.returns
-returns c =
-    let a = c.args.a.now in
-    let b = c.args.b.now in
-    let i = c.loop-i.i in
-    sym (c.loop-i.invariant ∙ any_end a 0 i (λ (e : ℕ). member e b) c.loop-i-test.false)
+returns c = sym (c.loop-e.invariant ∙ any_end c.args.a.now 0 c.loop-e.e-index (λ (e : ℕ). member e c.args.b.now) c.loop-e-test.false)

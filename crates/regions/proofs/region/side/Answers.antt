@@ -32,14 +32,11 @@ whole_side l k =
 pub returns-then-at-records : goal.returns-then-at-records
 returns-then-at-records c = no-side c.args.records.now c.args.k c.if-at-records.true
 
-pub overflow_cast-n : goal.overflow_cast-n
-overflow_cast-n c = omega (arith, c.type_inv.records (c.args.k * side_size places))
-
 pub overflow_add-end : goal.overflow_add-end
-overflow_add-end c = omega (arith, c.type_inv.records (c.args.k * side_size places))
+overflow_add-end c = omega (arith, c.from-n.ensures, c.type_inv.records (c.args.k * side_size places))
 
 pub returns-then-end-records : goal.returns-then-end-records
-returns-then-end-records c = cut-side c.args.records.now c.args.k c.if-end-records.true
+returns-then-end-records c = cut-side c.args.records.now c.args.k (rw c.from-n.ensures at c.if-end-records.true)
 
 pub returns : goal.returns
-returns c = whole_side c.args.records.now c.args.k
+returns c = rw c.from-n.ensures (whole_side c.args.records.now c.args.k)

@@ -1,2 +1,0 @@
--- The laws of the table of columns. Assumes nothing.
-pub mod Laws

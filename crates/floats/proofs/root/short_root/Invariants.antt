@@ -1,8 +1,0 @@
-use Prim.Native.Nat.{◌+◌, ◌*◌, ◌<◌, ◌≤◌, ◌^◌}
-use Rattle.floats.proofs.root.short_root.Given as goal
-
-abbrev pub invariant-loop-r : goal.invariant-loop-r
-invariant-loop-r l = (l.n < (l.r + 1) * (l.r + 1)) × (l.r ≤ 2 ^ 29)
-
-abbrev pub decreases-loop-r : goal.decreases-loop-r
-decreases-loop-r l = l.r

@@ -1,2 +1,0 @@
--- The laws of the crate. Assumes nothing.
-pub mod Filling

@@ -1,2 +1,0 @@
--- The definitions of the crate. Assumes nothing.
-pub mod Counting
