@@ -8,7 +8,8 @@ use Rattle.base.specs.declared.verdict.Verdict.{Verdict}
 use Rattle.base.specs.Refusal.{passed, refused, verdict_of, outcome, is_passed, then_test, refuse_if}
 use Rattle.base.specs.declared.refusal.Refusal.{Refusal}
 use Rattle.base.specs.declared.refusal.Refusal.TheVariants as because
-use Rattle.std.specs.Prelude.{Result, IsErrAnd}
+use Rattle.std.specs.Prelude.{Result, Ok, Err, IsErrAnd}
+use Rattle.std.specs.Result.{result_and}
 use Rattle.std.proofs.lemmas.Result.{err_from_is_err_and}
 use Rattle.base.proofs.BoolLaws.{by_truth, not_T_false, true_T, T_true}
 use native.Mathlib.Nat.{add-zero, zero-add, add-suc, suc-add}
@@ -86,6 +87,11 @@ chain_stops r w e = rw (was_refused r e, e)
 -- a test that is passed leaves the rest of the chain
 pub chain_goes_on : {v w : Verdict} → passed ≡ v → w ≡ then_test v w
 chain_goes_on e = rw (was_passed e)
+
+-- Of two outcomes that are both made, the first that refuses: what `Result::and` answers.
+pub and_told : {A B : Type 0} (x : Result A Refusal) (y : Result B Refusal) → outcome (result_and x y) ≡ then_test (outcome x) (outcome y)
+and_told (Ok a) y = refl
+and_told (Err r) y = rw refusal_number
 
 -- What the exit of a `?` answers: the error that came.
 pub exit_is : {A : Type 0} (o : Result A Refusal) (r : Refusal) → IsErrAnd o (λ (e : Refusal). e ≡ r) → outcome o ≡ verdict_of r

@@ -5,7 +5,7 @@ ghost use Rattle.std.specs.Coded.{Coded-set};
 ghost use Rattle.base.specs.Refusal.{outcome};
 ghost use Rattle.curves.specs.Boundary.{boundary, curve_ends, boundary_ends, lowest, highest, tolerance, corner_test, winding_test, ends_test};
 
-use crate::curve::{Curve, Knot, new_curve};
+use crate::curve::{Curve, Knot, curve_at, new_curve};
 use crate::point::Point;
 use crate::quad::Quad;
 use crate::sides::Sides;
@@ -100,13 +100,13 @@ fn check_ends(e: Sides<Ends>) -> Result<(), Refusal>
     check_winding(corners)
 }
 
-#[tactic(auto, unfolding(crate::specs::Boundary::curve_ends))]
-fn curve_ends(curve: Curve) -> Ends
+// Where the curve of a side begins and ends. It has a segment, so that it is not refused.
+fn curve_ends(curve: Curve, side: u32) -> Ends
     ensures { result ≡ curve_ends curve.entry.knots.now }
 {
     Ends {
-        start: curve.near(0.0, 0).point,
-        end: curve.near(1.0, 0).point,
+        start: curve_at(curve.knots, side, 0.0).unwrap(),
+        end: curve_at(curve.knots, side, 1.0).unwrap(),
     }
 }
 
@@ -115,10 +115,10 @@ fn boundary_ends(c: Sides<Curve>) -> Sides<Ends>
         result ≡ boundary_ends (boundary e.bottom.knots.now e.right.knots.now e.top.knots.now e.left.knots.now) }
 {
     Sides {
-        bottom: curve_ends(c.bottom),
-        right: curve_ends(c.right),
-        top: curve_ends(c.top),
-        left: curve_ends(c.left),
+        bottom: curve_ends(c.bottom, 0),
+        right: curve_ends(c.right, 1),
+        top: curve_ends(c.top, 2),
+        left: curve_ends(c.left, 3),
     }
 }
 

@@ -1,12 +1,13 @@
 // A boundary curve: a polyline, sampled by the length run along it. Its points are lent as x, y in turn, at most 1,024 of them. A curve that is
 // made of them is its knots, each a point with the length run so far. Its ends are the first and the last point that were lent, bit for bit.
 ghost use Rattle.std.specs.Prelude.{◌≡◌, true, ◌+◌, ◌-◌, ◌*◌, ◌<◌, ◌≤◌, length, IfOk};
+ghost use Rattle.base.specs.Answers.{answered};
 ghost use Rattle.base.specs.Refusal.{outcome};
 ghost use Rattle.curves.specs.Point.{point};
 ghost use Rattle.curves.specs.Curve.{point_count, point_at, distance, total_length, arc_curve, knot_count, stored_point};
-ghost use Rattle.curves.specs.Curve.{toward, span, fraction, blend, segment, segment_at, target_of, curve_at};
+ghost use Rattle.curves.specs.Curve.{toward, span, fraction, blend, segment, segment_at, target_of, curve_at, at_answer};
 ghost use Rattle.curves.specs.Curve.{all_finite, curve_test};
-ghost use Rattle.curves.specs.inner.Segments.{next_knot, Rising, InSegment, SoundLength};
+ghost use Rattle.curves.specs.inner.Segments.{next_knot, Rising, Hinted, InSegment, SoundLength};
 
 use crate::point::Point;
 use base::refusal::Refusal;
@@ -103,116 +104,137 @@ pub(crate) struct Located {
 // A curve that has passed its tests: it has a segment, and no length is above the next.
 #[derive(Clone, Copy)]
 pub(crate) struct Curve<'a> {
-    knots: &'a [Knot],
+    pub(crate) knots: &'a [Knot],
     ghost two: { 2 ≤ knot_count knots.now },
     ghost rising: { Rising knots.now },
 }
 
 impl<'a> Curve<'a> {
-    // The number of the segment in which the length `target` lies, by halving; an equal length goes right.
-    fn segment_at(self, target: f64) -> usize
-        ensures value { result ≡ segment_at self.entry.knots.now target }
-        ensures result_bound { result + 1 < knot_count self.entry.knots.now }
-    {
-        let mut lo = 0usize;
-        let mut hi = self.knots.len() - 1;
-        while hi - lo > 1 {
-            let mid = (lo + hi) / 2;
-            if self.knots[mid].length <= target {
-                lo = mid;
-            } else {
-                hi = mid;
-            }
-        }
-        lo
-    }
-
-    // Whether the target lies in the segment k.
-    fn in_segment(self, k: usize, target: f64) -> bool
-        requires { k ≤ knot_count self.knots.now }
-        ensures { result ≡ true → InSegment self.entry.knots.now k target }
-    {
-        k + 1 < self.knots.len()
-            && self.knots[k].length <= target
-            && target < self.knots[k + 1].length
-    }
-
-    // The same segment, looked for at the hint `near` and on either side of it before halving: along a seam the next target lies close by.
-    fn segment_near(self, target: f64, near: usize) -> usize
-        ensures value { result ≡ segment_at self.entry.knots.now target }
-        ensures result_bound { result + 1 < knot_count self.entry.knots.now }
-    {
-        // any number may be lent as a hint, also one that has no next
-        if near < self.knots.len() {
-            if self.in_segment(near, target) {
-                return near;
-            }
-            if self.in_segment(near + 1, target) {
-                return near + 1;
-            }
-            if near > 0 && self.in_segment(near - 1, target) {
-                return near - 1;
-            }
-        }
-        self.segment_at(target)
-    }
-
-    // The point of the segment k where the length `target` has been run.
-    fn blend_at(self, k: usize, target: f64) -> Point
-        requires { k + 1 < knot_count self.knots.now }
-        ensures { result ≡ blend (segment self.entry.knots.now k) target }
-    {
-        let segment = Segment {
-            start: self.knots[k],
-            end: self.knots[k + 1],
-        };
-        segment.blend(target)
-    }
-
-    // The length at a fraction of the curve.
-    #[tactic(auto, unfolding(crate::specs::Curve::target_of))]
-    fn length_along(self, t: f64) -> f64
-        ensures { result ≡ target_of self.entry.knots.now t }
-    {
-        t * self.knots[self.knots.len() - 1].length
-    }
-
-    // The ends of a curve are the points that were lent: a blend may miss them by a bit, and a last segment of length 0 by more.
-    fn first_end(self) -> Located
-        ensures { result.point ≡ stored_point self.entry.knots.now 0 }
-    {
-        Located {
-            point: self.knots[0].point(),
-            segment: 0,
-        }
-    }
-
-    fn last_end(self) -> Located
-        ensures { result.point ≡ stored_point self.entry.knots.now (knot_count self.entry.knots.now - 1) }
-    {
-        let last = self.knots.len() - 1;
-        Located {
-            point: self.knots[last].point(),
-            segment: last - 1,
-        }
-    }
-
-    // 000's `at`: the point at the fraction t of the curve's length, t clamped to 0..1, which between 0 and 1 leaves it as it is. A good hint spares
-    // the halving, and any number serves. This is the innermost loop of a grid.
+    // The point at the fraction t of the curve's length, asked with a hint, which may be any number. This is the innermost loop of a grid.
     pub(crate) fn near(self, t: f64, hint: usize) -> Located
         ensures { result.point ≡ curve_at self.entry.knots.now t }
     {
-        if t <= 0.0 {
-            return self.first_end();
-        }
-        if 1.0 <= t {
-            return self.last_end();
-        }
-        let target = self.length_along(t);
-        let k = self.segment_near(target, hint);
-        let point = self.blend_at(k, target);
-        Located { point, segment: k }
+        curve_near(self.knots, t, hint)
     }
+}
+
+// The number of the segment in which the length `target` lies, by halving; an equal length goes right.
+fn segment_at(knots: &[Knot], target: f64) -> usize
+    requires { 2 ≤ knot_count knots.now }
+    ensures value { result ≡ segment_at knots.now target }
+    ensures result_bound { result + 1 < knot_count knots.now }
+{
+    let mut lo = 0usize;
+    let mut hi = knots.len() - 1;
+    while hi - lo > 1 {
+        let mid = (lo + hi) / 2;
+        if knots[mid].length <= target {
+            lo = mid;
+        } else {
+            hi = mid;
+        }
+    }
+    lo
+}
+
+// Whether the target lies in the segment k.
+fn in_segment(knots: &[Knot], k: usize, target: f64) -> bool
+    requires { k ≤ knot_count knots.now }
+    ensures { result ≡ true → InSegment knots.now k target }
+{
+    k + 1 < knots.len() && knots[k].length <= target && target < knots[k + 1].length
+}
+
+// The same segment, looked for at the hint `near` and on either side of it before halving: along a seam the next target lies close by.
+fn segment_near(knots: &[Knot], target: f64, near: usize) -> usize
+    requires { Hinted knots.now near }
+    ensures value { result ≡ segment_at knots.now target }
+    ensures result_bound { result + 1 < knot_count knots.now }
+{
+    // any number may be lent as a hint, also one that has no next
+    if near < knots.len() {
+        if in_segment(knots, near, target) {
+            return near;
+        }
+        if in_segment(knots, near + 1, target) {
+            return near + 1;
+        }
+        if near > 0 && in_segment(knots, near - 1, target) {
+            return near - 1;
+        }
+    }
+    segment_at(knots, target)
+}
+
+// The point of the segment k where the length `target` has been run.
+fn blend_at(knots: &[Knot], k: usize, target: f64) -> Point
+    requires { k + 1 < knot_count knots.now }
+    ensures { result ≡ blend (segment knots.now k) target }
+{
+    let segment = Segment {
+        start: knots[k],
+        end: knots[k + 1],
+    };
+    segment.blend(target)
+}
+
+// The length at a fraction of the curve.
+#[tactic(auto, unfolding(crate::specs::Curve::target_of))]
+fn length_along(knots: &[Knot], t: f64) -> f64
+    requires { 2 ≤ knot_count knots.now }
+    ensures { result ≡ target_of knots.now t }
+{
+    t * knots[knots.len() - 1].length
+}
+
+// The ends of a curve are the points that were lent: a blend may miss them by a bit, and a last segment of length 0 by more.
+fn first_end(knots: &[Knot]) -> Located
+    requires { 2 ≤ knot_count knots.now }
+    ensures { result.point ≡ stored_point knots.now 0 }
+{
+    Located {
+        point: knots[0].point(),
+        segment: 0,
+    }
+}
+
+fn last_end(knots: &[Knot]) -> Located
+    requires { 2 ≤ knot_count knots.now }
+    ensures { result.point ≡ stored_point knots.now (knot_count knots.now - 1) }
+{
+    let last = knots.len() - 1;
+    Located {
+        point: knots[last].point(),
+        segment: last - 1,
+    }
+}
+
+// The point at the fraction t of the curve's length, t clamped to 0..1, which between 0 and 1 leaves it as it is. A good hint `near` spares the
+// halving; any number serves where no length is above the next, and one past the list is none.
+fn curve_near(knots: &[Knot], t: f64, near: usize) -> Located
+    requires { Hinted knots.now near }
+    ensures { result.point ≡ curve_at knots.now t }
+{
+    if t <= 0.0 {
+        return first_end(knots);
+    }
+    if 1.0 <= t {
+        return last_end(knots);
+    }
+    let target = length_along(knots, t);
+    let k = segment_near(knots, target, near);
+    let point = blend_at(knots, k, target);
+    Located { point, segment: k }
+}
+
+// 000's `at`: the point of any list of knots, that of a side, without a hint. Where they make no segment, the curve is refused (13).
+pub(crate) fn curve_at(knots: &[Knot], side: u32, t: f64) -> Result<Point, Refusal>
+    ensures { answered result ≡ at_answer knots.now side t }
+{
+    if knots.len() < 2 {
+        return Err(Refusal::CurveTooShort(side));
+    }
+    Ok(curve_near(knots, t, knots.len()).point)
 }
 
 pub(crate) fn point_at(points: &[f64], k: usize) -> Point

@@ -57,7 +57,7 @@ fn combined(p: Point, q: Point, r: Point) -> Point
 }
 
 // What u decides. A hint for each side is lent, and its segment left there: it may be any number.
-#[tactic(auto, unfolding(crate::specs::inner::Columns::column_at))]
+#[tactic(auto, unfolding(crate::specs::inner::Columns::column_on))]
 pub(crate) fn column_at(patch: &Patch, u: f64, hints: &mut Sides<usize>) -> Column
     ensures { result ≡ column_at patch.now u }
 {
@@ -76,7 +76,7 @@ pub(crate) fn column_at(patch: &Patch, u: f64, hints: &mut Sides<usize>) -> Colu
 }
 
 // What v decides, with hints as above.
-#[tactic(auto, unfolding(crate::specs::inner::Columns::row_at))]
+#[tactic(auto, unfolding(crate::specs::inner::Columns::row_on))]
 pub(crate) fn row_at(patch: &Patch, v: f64, hints: &mut Sides<usize>) -> Row
     ensures { result ≡ row_at patch.now v }
 {

@@ -7,6 +7,9 @@ mod operation;
 mod reading;
 mod solver;
 
+ghost use Rattle.std.specs.Prelude.{IfOk};
+ghost use Rattle.replay.specs.Counting.{Counts};
+
 use crate::operation::Operation;
 use crate::reading::Case;
 use std::fs::File;
@@ -14,7 +17,7 @@ use std::io;
 use std::io::Read;
 use std::rt::Files;
 
-// A file's first eight bytes, as two numbers.
+// A file's first eight bytes.
 const MARK: [u8; 8] = *b"replay 2";
 
 // How many cases of an operation were run, and how many of them differ.
@@ -38,7 +41,9 @@ type Tallies = [Tally; Operation::COUNT];
 
 // Reads until the buffer is full or the file ends, and answers how many bytes it put at the start.
 // stays: `read_exact` doesn't say how many bytes there were before the file ended, which a cut-off header is told by
-fn read_full(file: &mut impl Read, buf: &mut [u8]) -> io::Result<usize> {
+fn read_full(file: &mut impl Read, buf: &mut [u8]) -> io::Result<usize>
+    ensures { IfOk result (λ n. Counts n buf.new) }
+{
     let mut done = 0;
     while done < buf.len() {
         let n = file.read(&mut buf[done..])?;

@@ -22,6 +22,9 @@ pub(crate) struct Case<'a> {
 
 // What a list of a case is made of.
 pub(crate) trait Value: Copy {
+    // How many bytes one takes.
+    const SIZE: usize;
+
     fn read(case: &mut Case) -> Self;
 
     // Whether the two are the same to the bit.
@@ -32,6 +35,8 @@ pub(crate) trait Value: Copy {
 }
 
 impl Value for u16 {
+    const SIZE: usize = 2;
+
     fn read(case: &mut Case) -> u16 {
         u16::from_le_bytes(case.take())
     }
@@ -47,6 +52,8 @@ impl Value for u16 {
 }
 
 impl Value for u32 {
+    const SIZE: usize = 4;
+
     fn read(case: &mut Case) -> u32 {
         u32::from_le_bytes(case.take())
     }
@@ -62,6 +69,8 @@ impl Value for u32 {
 }
 
 impl Value for f64 {
+    const SIZE: usize = 8;
+
     fn read(case: &mut Case) -> f64 {
         float_of(u64::from_le_bytes(case.take()))
     }
@@ -81,6 +90,8 @@ impl Value for f64 {
 
 // A number, of which 0 is false.
 impl Value for bool {
+    const SIZE: usize = 4;
+
     fn read(case: &mut Case) -> bool {
         u32::read(case) != 0
     }
@@ -103,6 +114,15 @@ fn float_of(pattern: u64) -> f64 {
     f64::from_bits(pattern)
 }
 
+// The bytes that are left, and zeros behind them.
+fn padded<const N: usize>(rest: &[u8]) -> [u8; N] {
+    let mut taken = [0; N];
+    for (to, byte) in taken.iter_mut().zip(rest) {
+        *to = *byte;
+    }
+    taken
+}
+
 impl<'a> Case<'a> {
     pub(crate) fn new(bytes: &'a [u8]) -> Case<'a> {
         Case { bytes, at: 0 }
@@ -110,20 +130,19 @@ impl<'a> Case<'a> {
 
     // The next N bytes.
     pub(crate) fn take<const N: usize>(&mut self) -> [u8; N] {
-        let mut taken = [0; N];
-        for (i, byte) in taken.iter_mut().enumerate() {
-            *byte = self.byte(i);
-        }
+        let rest = self.rest();
+        let taken = match rest.first_chunk::<N>() {
+            Some(taken) => *taken,
+            None => padded(rest),
+        };
         self.at = self.at.saturating_add(N);
         taken
     }
 
-    // The byte i further.
-    fn byte(&self, i: usize) -> u8 {
-        match self.bytes.get(self.at.saturating_add(i)) {
-            Some(byte) => *byte,
-            None => 0,
-        }
+    // The bytes from here on; none past the end.
+    fn rest(&self) -> &'a [u8] {
+        let from = self.at.min(self.bytes.len());
+        &self.bytes[from..]
     }
 
     pub(crate) fn next<T: Value>(&mut self) -> T {
@@ -162,17 +181,18 @@ impl<'a> Case<'a> {
         if n > LONG { 0 } else { n as usize }
     }
 
-    // The list that comes next, put to the start of `out`: as much of it as there is room for.
+    // The list that comes next, put to the start of `out`: as much of it as there is room for. The rest is passed over unread, since a length
+    // may say more than a case has.
     pub(crate) fn list<'b, T: Value>(&mut self, out: &'b mut [T]) -> &'b mut [T] {
         let n = self.length();
-        for i in 0..n {
-            let value = self.next();
-            if i < out.len() {
-                out[i] = value;
-            }
-        }
         let room = out.len();
-        &mut out[..n.min(room)]
+        let list = &mut out[..n.min(room)];
+        for slot in list.iter_mut() {
+            *slot = self.next();
+        }
+        let rest = n.saturating_sub(room);
+        self.at = self.at.saturating_add(rest.saturating_mul(T::SIZE));
+        list
     }
 
     // Whether the list that comes next is just `values`.
@@ -194,10 +214,11 @@ impl<'a> Case<'a> {
         if n > out.len() {
             return None;
         }
-        for (i, slot) in out.iter_mut().enumerate() {
+        let lent = &mut out[..n];
+        for (i, slot) in lent.iter_mut().enumerate() {
             *slot = T::lent(i);
         }
-        Some(&mut out[..n])
+        Some(lent)
     }
 
     // Whether an output has the list that comes next written to its start, and is else as it was lent.

@@ -11,14 +11,16 @@ use lib.Dec.{leb, ltb}
 use lib.IntN.{ℤ}
 use lib.Ieee.{Float, nan, inf, fin, binary64, of_bits, lt, up, down}
 use lib.Ieee.Fits.{up_pos}
-use Rattle.std.specs.Prelude.{Option, Some, None}
+use Rattle.std.specs.Prelude.{Result, Err, IsErrAnd, Option, Some, None}
+use Rattle.std.specs.Result.{result_and}
 use Rattle.std.specs.List.{position, position_from, zip}
 use Rattle.std.proofs.lemmas.Bool.Decides.{nat_tests}
 use Rattle.std.proofs.lemmas.Iterator.Adapters.{position_from-zero}
 use Rattle.base.specs.declared.verdict.Verdict.{Verdict}
-use Rattle.base.specs.Refusal.{passed, refused}
+use Rattle.base.specs.declared.refusal.Refusal.{Refusal}
+use Rattle.base.specs.Refusal.{passed, refused, outcome, then_test}
 use Rattle.base.proofs.BoolLaws.{by_truth}
-use Rattle.base.proofs.TestLaws.{chain_stops, chain_goes_on, was_passed, was_refused}
+use Rattle.base.proofs.TestLaws.{chain_stops, chain_goes_on, was_passed, was_refused, and_told, in_a_row, exit_stops, then_test_assoc}
 use Rattle.counts.proofs.SolverLaws.{exit_err}
 use Rattle.floats.specs.Scalar.{is_positive, is_finite}
 use Rattle.floats.proofs.scalar.Order.{positive_is}
@@ -26,6 +28,11 @@ use Rattle.counts.specs.Values.{first_bad, ideal_ok, ranges}
 
 -- ---- tests in a row, each left by a `?`: with these the check finds the answers of a function that makes them
 pub ruleset chains = (exit_err, chain_stops, chain_goes_on, was_passed, was_refused, nat_tests)
+
+-- two tests that are both made, and then more: what a `?` answers to the two
+pub exit_both : {A B : Type 0} (o : Result A Refusal) (r : Refusal) (x y : Result B Refusal) {u v : Verdict} (w : Verdict)
+    → IsErrAnd o (λ (e : Refusal). e ≡ r) → outcome x ≡ u → outcome y ≡ v → Err r ≡ result_and x y → outcome o ≡ then_test u (then_test v w)
+exit_both o r x y {u} {v} w h e f g = exit_stops o r w h (ap outcome g ∙ and_told x y ∙ in_a_row e f) ∙ then_test_assoc u v w
 
 -- ---- the first bad entry
 

@@ -14,14 +14,13 @@ use Rattle.base.specs.Answers.{Answer, good, turned_away, verdict}
 use Rattle.base.specs.Tests.{first_of}
 use Rattle.floats.specs.Scalar.{clamp_unit}
 use Rattle.curves.specs.Point.{point, no_point}
-use Rattle.curves.specs.Boundary.{BoundaryCurves}
+use Rattle.curves.specs.Boundary.{BoundaryCurves, curve_ends}
 use Rattle.curves.specs.Patch.{coons_point}
-use Rattle.curves.specs.inner.Columns.{column_at, row_at, patch_point, no_column, Table, LevelPoints}
+use Rattle.curves.specs.inner.Columns.{column_on, row_on, patch_point, no_column}
 use Rattle.curves.specs.Grid.{node, mapped, PointRow, crossings, row_of, row_test}
-use Rattle.curves.specs.inner.Curves.{curves_of}
 use Rattle.curves.specs.inner.Rows.{row_points, point_in, RowFilled}
 use Rattle.curves.specs.inner.Grids.{Mapped}
-use Rattle.curves.specs.declared.boundary.Patch.{Patch}
+use Rattle.curves.specs.declared.boundary.Ends.{Ends}
 use Rattle.curves.specs.declared.patch.Column.{Column}
 use Rattle.curves.specs.declared.patch.Row.{Row as PatchRow}
 use Rattle.curves.specs.declared.point.Point.{Point}
@@ -124,28 +123,33 @@ module _ (c : BoundaryCurves) (bottom top : List Float) (a b : Float) (j : ℕ) 
 
 -- ---- a level line, whose crossings lie at the seam's values
 
-module _ (p : Patch) (bottom top : List Float) (columns : List Column) (v : Float) (j n : ℕ) (across : PatchRow)
-    (w : Table p bottom columns) (long : length bottom ≡ n + 1) (ea : across ≡ row_at p v)
+-- by n + 1 columns or more, of which each point takes the one at its index
+module _ (c : BoundaryCurves) (b t : Ends) (bottom top : List Float) (columns : List Column) (v : Float) (j n : ℕ) (across : PatchRow)
+    (eb : b ≡ curve_ends c.bottom) (et : t ≡ curve_ends c.top)
+    (w : (i : ℕ) → i ≤ n → get_or columns i no_column ≡ column_on c.bottom c.top b t (clamp_unit (get_or bottom i nan)))
+    (ea : across ≡ row_on c.right c.left v)
     (h : (i : ℕ) → i ≤ n → (clamp_unit (get_or bottom i nan) ≡ get_or bottom i nan) × (crossings bottom top v v j i ≡ good (point (get_or bottom i nan) v))) where
   abbrev points_of : PointRow
-  points_of = row_of (curves_of p) bottom top v v j
+  points_of = row_of c bottom top v v j
 
-  level_at : (i : ℕ) → i ≤ n → points_of i ≡ good (coons_point (curves_of p) (get_or bottom i nan) v)
-  level_at i l = of_crossing (curves_of p) bottom top v v j i ∙ ap (mapped (curves_of p)) (h i l).1 ∙ mapped_good (curves_of p) (point (get_or bottom i nan) v)
+  level_at : (i : ℕ) → i ≤ n → points_of i ≡ good (coons_point c (get_or bottom i nan) v)
+  level_at i l = of_crossing c bottom top v v j i ∙ ap (mapped c) (h i l).1 ∙ mapped_good c (point (get_or bottom i nan) v)
 
   level_same : (i : ℕ) → i ≤ n → patch_point (get_or columns i no_column) across v ≡ node (points_of i)
   level_same i l =
       let u : Float = get_or bottom i nan in
-      let k : get_or columns i no_column ≡ column_at p u = w.holds i (omega arith) ∙ ap (column_at p) (h i l).0 in
+      let column = column_on c.bottom c.top b t in
+      let k : get_or columns i no_column ≡ column u = w i l ∙ ap column (h i l).0 in
       ap (λ (x : Column). patch_point x across v) k
-      ∙ ap (λ (x : PatchRow). patch_point (column_at p u) x v) ea
-      ∙ patched p u v
+      ∙ ap (λ (x : PatchRow). patch_point (column u) x v) ea
+      ∙ patched c u v eb et
       ∙ sym (ap node (level_at i l))
 
-  pub level_row : (points : List Point) → LevelPoints columns across v points → (points ≡ row_points points_of n) × (row_test points_of n ≡ passed)
+  pub level_row : (points : List Point) → length points ≡ n + 1
+      → ((i : ℕ) → i ≤ n → get_or points i no_point ≡ patch_point (get_or columns i no_column) across v)
+      → (points ≡ row_points points_of n) × (row_test points_of n ≡ passed)
   unfolding row_points row_test
-  level_row points q = (
-    by_index (λ (i : ℕ). node (points_of i)) (n + 1) points no_point (q.each ∙ w.each ∙ long)
-        (λ i l. q.holds i (omega (arith, w.each)) ∙ level_same i (omega arith)),
+  level_row points long q = (
+    by_index (λ (i : ℕ). node (points_of i)) (n + 1) points no_point long (λ i l. q i (omega arith) ∙ level_same i (omega arith)),
     first_all (λ (i : ℕ). verdict (points_of i)) 0 (n + 1) (λ i l. ap verdict (level_at i (omega arith))),
   )

@@ -43,7 +43,10 @@ pub level_filled : (p : Patch) {bottom top : List Float} {columns : List Column}
     → RowFilled (row_of (curves_of p) bottom top v0 v1 j) (row_cells bottom) row passed
 level_filled p {bottom} {top} {columns} {row} {v0 = v0} {across = across} j w h s ea er =
     let n = row_cells bottom in
-    let l = level_row p bottom top columns v0 j n across w.held (omega arith) ea (λ i k. crosses_there bottom top v0 i j (w.lines i (omega arith)) s.1) row er in
+    let held = w.held in
+    let l =
+    level_row (curves_of p) p.bottom p.top bottom top columns v0 j n across p.bottom_ends p.top_ends (λ i k. held.holds i (omega arith)) ea
+    (λ i k. crosses_there bottom top v0 i j (w.lines i (omega arith)) s.1) row (omega (arith, er.each, held.each)) (λ i k. er.holds i (omega (arith, held.each))) in
     record {
       told = sym l.1 ∙ ap (λ (x : Float). row_test (row_of (curves_of p) bottom top v0 x j) n) s.0;
       written = λ t. l.0 ∙ ap (λ (x : Float). row_points (row_of (curves_of p) bottom top v0 x j) n) s.0;

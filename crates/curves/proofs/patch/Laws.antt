@@ -5,9 +5,8 @@ use Rattle.floats.specs.Scalar.{one}
 use Rattle.curves.specs.Curve.{curve_at}
 use Rattle.curves.specs.Boundary.{BoundaryCurves, curve_ends}
 use Rattle.curves.specs.Patch.{coons_point, lerp2, combined}
-use Rattle.curves.specs.inner.Columns.{column_at, row_at, patch_point}
-use Rattle.curves.specs.inner.Curves.{curves_of}
-use Rattle.curves.specs.declared.boundary.Patch.{Patch}
+use Rattle.curves.specs.inner.Columns.{column_on, row_on, patch_point}
+use Rattle.curves.specs.declared.boundary.Ends.{Ends}
 
 -- as 000 writes it: the points of bottom and top blended, those of left and right, and the ends of bottom and top
 pub in_steps : (c : BoundaryCurves) (u v : Float)
@@ -18,7 +17,13 @@ pub in_steps : (c : BoundaryCurves) (u v : Float)
 unfolding coons_point curve_ends lerp2 combined
 in_steps c u v = refl
 
--- the point of a column and a row
-pub patched : (p : Patch) (u v : Float) → patch_point (column_at p u) (row_at p v) v ≡ coons_point (curves_of p) u v
-unfolding coons_point curve_ends column_at row_at patch_point
-patched p u v = rw (p.bottom_ends, p.top_ends)
+-- by a column and a row
+pub split_patch : (c : BoundaryCurves) (u v : Float)
+    → patch_point (column_on c.bottom c.top (curve_ends c.bottom) (curve_ends c.top) u) (row_on c.right c.left v) v ≡ coons_point c u v
+unfolding coons_point curve_ends column_on row_on patch_point
+split_patch c u v = refl
+
+-- the same where the ends of bottom and top are held
+pub patched : (c : BoundaryCurves) {b t : Ends} (u v : Float) → b ≡ curve_ends c.bottom → t ≡ curve_ends c.top
+    → patch_point (column_on c.bottom c.top b t u) (row_on c.right c.left v) v ≡ coons_point c u v
+patched c u v e f = rw (e, f) (split_patch c u v)

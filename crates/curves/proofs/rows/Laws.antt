@@ -11,7 +11,6 @@ use lib.ListN.{length, set}
 use lib.Ieee.{Float}
 use Rattle.base.specs.declared.verdict.Verdict.{Verdict}
 use Rattle.std.specs.Prelude.{Result, Ok, Err}
-use Rattle.std.specs.Result.{result_and}
 use Rattle.base.specs.declared.refusal.Refusal.{Refusal}
 use Rattle.base.specs.Refusal.{passed, refused, refuse_if, outcome, then_test}
 use Rattle.base.specs.Buffers.{concat_tabulate, splice}
@@ -226,13 +225,7 @@ nodes_fit n m h k =
     let e : (m + 1) * (3 * (n + 1)) ≤ (max_cells + 1) * (3 * (n + 1)) = mul-le-mul_right (3 * (n + 1)) l in
     omega arith
 
--- ---- outcomes joined by `and`
-
-pub and_told : {A B : Type 0} (x : Result A Refusal) (y : Result B Refusal) → outcome (result_and x y) ≡ then_test (outcome x) (outcome y)
-and_told (Ok a) y = refl
-and_told (Err r) y = rw refusal_number
-
--- with no test after it
+-- a test with none after it
 nothing_after : {A : Type 0} (x : Result A Refusal) → then_test (outcome x) passed ≡ outcome x
 nothing_after (Ok a) = refl
 nothing_after (Err r) = rw refusal_number

@@ -4,9 +4,10 @@ use Rattle.std.specs.Float.{nan, binary64}
 use Rattle.std.specs.Float.Ieee.{sub}
 use Rattle.floats.specs.Scalar.{one, clamp_unit}
 use Rattle.curves.specs.Point.{no_point}
-use Rattle.curves.specs.Curve.{curve_at}
+use Rattle.curves.specs.Curve.{ArcCurve, curve_at}
 use Rattle.curves.specs.Patch.{lerp2, combined}
 use Rattle.curves.specs.declared.point.Point.{Point}
+use Rattle.curves.specs.declared.boundary.Ends.{Ends}
 use Rattle.curves.specs.declared.boundary.Patch.{Patch}
 use Rattle.curves.specs.declared.patch.Column.{Column}
 use Rattle.curves.specs.declared.patch.Row.{Row}
@@ -14,20 +15,27 @@ use Rattle.curves.specs.declared.patch.Row.{Row}
 -- ---- the patch's point in two steps, so that what u or v alone decides can be worked out once for many points
 
 -- what u decides: it, the points of bottom and top, and of the straight lines between their ends
-unfoldable pub column_at : Patch → Float → Column
+unfoldable pub column_on : ArcCurve → ArcCurve → Ends → Ends → Float → Column
 unfolding sub curve_at lerp2
-column_at p u = record {
+column_on bottom top b t u = record {
   u = u;
-  bottom = curve_at p.curves.bottom.knots.now u;
-  top = curve_at p.curves.top.knots.now (sub binary64 one u);
-  low = lerp2 u p.bottom.start p.bottom.end;
-  high = lerp2 u p.top.end p.top.start;
+  bottom = curve_at bottom u;
+  top = curve_at top (sub binary64 one u);
+  low = lerp2 u b.start b.end;
+  high = lerp2 u t.end t.start;
 }
 
 -- what v decides: the points of right and left
-unfoldable pub row_at : Patch → Float → Row
+unfoldable pub row_on : ArcCurve → ArcCurve → Float → Row
 unfolding sub curve_at
-row_at p v = record { right = curve_at p.curves.right.knots.now v; left = curve_at p.curves.left.knots.now (sub binary64 one v) }
+row_on right left v = record { right = curve_at right v; left = curve_at left (sub binary64 one v) }
+
+-- the same of a patch, which holds its curves and those ends
+abbrev pub column_at : Patch → Float → Column
+column_at p u = column_on p.curves.bottom.knots.now p.curves.top.knots.now p.bottom p.top u
+
+abbrev pub row_at : Patch → Float → Row
+row_at p v = row_on p.curves.right.knots.now p.curves.left.knots.now v
 
 unfoldable pub patch_point : Column → Row → Float → Point
 unfolding lerp2 combined

@@ -1,5 +1,5 @@
 -- A curve as its knots: what lets a hint stand for the halving, and a length that shows that a curve passes. Assumes nothing.
-use Rattle.std.specs.Prelude.{◌≡◌, true, ℕ, ◌+◌, ◌%◌, ◌<◌, Float}
+use Rattle.std.specs.Prelude.{◌≡◌, true, ℕ, ◌+◌, ◌%◌, ◌<◌, ◌≤◌, length, Float}
 use Rattle.std.specs.Float.{binary64}
 use Rattle.std.specs.Float.Ieee.{add, le, lt}
 use Rattle.curves.specs.Point.{point}
@@ -15,6 +15,11 @@ next_knot k p = record { x = p.x; y = p.y; length = add binary64 k.length (dista
 -- no length is above the next
 abbrev pub Rising : ArcCurve → Type 0
 Rising c = (i : ℕ) → i + 1 < knot_count c → le (length_at c i) (length_at c (i + 1)) ≡ true
+
+-- one that can be asked with a hint: a number past the list is none, and then the lengths may be any
+pub record Hinted (c : ArcCurve) (near : ℕ) : Type 0 where
+  pub two : 2 ≤ knot_count c
+  pub rising : near < length c → Rising c
 
 -- the target lies in the segment k: no other one is found by halving, where the lengths rise
 pub record InSegment (c : ArcCurve) (k : ℕ) (target : Float) : Type 0 where

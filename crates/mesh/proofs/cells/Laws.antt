@@ -1,14 +1,16 @@
 -- The indices of a mesh as they are written, cell by cell and row by row; and which refusals leave zeros. Assumes nothing.
 use mathlib.Core.Path.{◌≡◌, refl, sym, ap, ◌∙◌}
-use mathlib.Core.Bool.{Bool, ◌&&◌}
+use mathlib.Core.Bool.{Bool, true, false, not, ◌&&◌, cond}
 use mathlib.Core.List.{List, [], ◌∷◌}
+use mathlib.Core.Logic.{inl, inr}
 use Prim.Native.Nat.{ℕ, suc, ◌+◌, ◌*◌, ◌<◌, ◌≤◌}
 use native.Mathlib.Nat.{mul_comm, mul_assoc, suc-mul, mul-le-mul_right}
 use native.Mathlib.Numerals.{add-one}
 use native.Mathlib.Omega.{arith}
 use lib.ListN.{length, set}
-use lib.Dec.{leb}
+use lib.Dec.{T, leb}
 use denote.Enum.Declared.{tag_of}
+use types.Run.{OneOf}
 use Rattle.base.specs.Refusal.{verdict_of}
 use Rattle.base.specs.declared.refusal.Refusal.{Refusal}
 use Rattle.base.specs.declared.refusal.Refusal.TheVariants as because
@@ -119,3 +121,26 @@ zeroes_by_tag because.NoCells = refl
 zeroes_by_tag (because.BreaksMismatch k) = refl
 zeroes_by_tag because.RootUndefined = refl
 zeroes_by_tag (because.RangeReversed e) = refl
+
+-- whether b is the answer for every tag of a list
+abbrev answers : Bool → List ℕ → Bool
+answers b [] = true
+answers b (k ∷ ks) = cond (among k) b (not b) && answers b ks
+
+both : (a b : Bool) → T (a && b) → T a × T b
+both true b t = (tt, t)
+both false b t = absurd t
+
+agree : (a b : Bool) → T (cond a b (not b)) → b ≡ a
+agree true true t = refl
+agree true false t = absurd t
+agree false true t = absurd t
+agree false false t = refl
+
+by_tags : (b : Bool) (k : ℕ) (ks : List ℕ) (x : ℕ) → T (answers b (k ∷ ks)) → OneOf (k ∷ ks) x → b ≡ among x
+by_tags b k [] x a e = agree (among k) b (both (cond (among k) b (not b)) true a).0 ∙ ap among (sym e)
+by_tags b k (l ∷ ks) x a (inl e) = agree (among k) b (both (cond (among k) b (not b)) (answers b (l ∷ ks)) a).0 ∙ ap among (sym e)
+by_tags b k (l ∷ ks) x a (inr o) = by_tags b l ks x (both (cond (among k) b (not b)) (answers b (l ∷ ks)) a).1 o
+
+pub zeroes_by_tags : (b : Bool) (k : ℕ) (ks : List ℕ) (r : Refusal) → T (answers b (k ∷ ks)) → OneOf (k ∷ ks) (tag_of the_type r) → b ≡ zeroes (verdict_of r)
+zeroes_by_tags b k ks r a o = by_tags b k ks (tag_of the_type r) a o ∙ zeroes_by_tag r

@@ -131,12 +131,13 @@ side_few p m l t (suc (suc zero)) h = leb→le _ p (first_fits p m l t).fits_2
 side_few p m l t (suc (suc (suc zero))) h = leb→le _ p (first_fits p m l t).fits_3
 side_few p m l t (suc (suc (suc (suc k)))) h = absurd (omega arith)
 
--- so none of its sides is longer
+-- a side has no more edges than its number says
+pub side_within : (p : ℕ) (l : List ℕ) (k : ℕ) → get_or l (k * side_size p) 0 ≤ p → length (side p l k) ≤ p
+side_within p l k h = let e = length-take (get_or l (k * side_size p) 0) (drop (suc (k * side_size p)) l) in omega arith
+
+-- so none of the record's sides is longer
 pub side_short : (p : ℕ) (l : List ℕ) → T (sides_fit p 1 l) → (k : ℕ) → k < 4 → length (side p l k) ≤ p
-side_short p l t k h =
-    let few = side_few p 0 l t k h in
-    let e = length-take (get_or l (k * side_size p) 0) (drop (suc (k * side_size p)) l) in
-    omega (arith, few, e)
+side_short p l t k h = side_within p l k (side_few p 0 l t k h)
 
 -- ---- whole records
 module _ (p : ℕ) (l : List ℕ) (t : T (records_whole p l)) where

@@ -11,5 +11,5 @@ loop-i-preserved c =
     let inv = c.loop-i.invariant in
     record {
       each = rw length-set inv.each;
-      holds = stored_more _ c.loop-i.columns _ (omega (arith, inv.each, c.loop-i-test.true)) inv.holds (c.column_at.ensures ∙ ap (column_at _) c.clamp_unit.ensures);
+      holds = stored_more _ c.loop-i.columns _ (omega (arith, inv.each, c.loop-i-test.true)) inv.holds (c.column_at.ensures ∙ ap (column_at c.args.patch.now) c.clamp_unit.ensures);
     }

@@ -7,7 +7,8 @@ use Rattle.std.specs.Borrow.{MutBor}
 use Rattle.std.proofs.Math.Seq.{take-length, drop-length}
 use Rattle.base.specs.Refusal.{outcome}
 use Rattle.curves.specs.declared.point.Point.{Point}
-use Rattle.curves.proofs.rows.Laws.{size_told, and_told}
+use Rattle.base.proofs.TestLaws.{and_told}
+use Rattle.curves.proofs.rows.Laws.{size_told}
 use Rattle.curves.proofs.grid.Filled.{no_rows, row_read, row_has_room, rows_refused, next_row, rows_done}
 use Rattle.curves.proofs.grid.grid_rows.Goals as goal
 use Rattle.curves.proofs.grid.grid_rows.Goals.{After-fill_row}
@@ -60,8 +61,8 @@ loop-j-preserved c =
     let low = ap (λ (m : MutBor (List Point)). m.now) c.swap.ensures.x_after ∙ upper_is fill in
     let high = ap (λ (m : MutBor (List Point)). m.now) c.swap.ensures.y_after in
     record {
-      low_row = rw low (row_long fill);
-      high_row = rw high inv.low_row;
+      low_row = ap length low ∙ row_long fill;
+      high_row = ap length high ∙ inv.low_row;
       same_out = c.write_row-below.auto.out ∙ inv.same_out;
       laid = rw low next;
     }

@@ -1,8 +1,8 @@
--- `Curve::near` meets its contract: the curve ends there, or the point is blended. Assumes nothing.
+-- `curve::curve_near` meets its contract: the curve ends there, or the point is blended. Assumes nothing.
 use mathlib.Core.Path.{sym, ◌∙◌}
 use Rattle.curves.specs.Curve.{between}
 use Rattle.curves.proofs.curve.Ends.{first_end, last_end, unclamped}
-use Rattle.curves.proofs.curve.Curve.near.Goals as goal
+use Rattle.curves.proofs.curve.curve_near.Goals as goal
 
 pub returns-then-t : goal.returns-then-t
 returns-then-t c = c.first_end.ensures ∙ sym (first_end _ _ c.if-t.true)
