@@ -110,6 +110,7 @@ pub(crate) fn check_solve(
     ensures { let spacing = within ranges.entry.least.now ranges.entry.most.now in
         outcome result ≡ solve_head places regions.now spacing room limit }
 {
+    // both are made, so that their order is a fact of its own
     check_spacing_limits(regions, ranges).and(check_limit(limit))?;
     if ranges.least.len() != ranges.most.len() {
         return Err(Refusal::LengthsDiffer);

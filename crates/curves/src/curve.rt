@@ -119,6 +119,7 @@ impl<'a> Curve<'a> {
 }
 
 // The number of the segment in which the length `target` lies, by halving; an equal length goes right.
+// stays: `curve_at` asks it of lists of knots that are no `Curve`
 fn segment_at(knots: &[Knot], target: f64) -> usize
     requires { 2 ≤ knot_count knots.now }
     ensures value { result ≡ segment_at knots.now target }
@@ -179,6 +180,7 @@ fn blend_at(knots: &[Knot], k: usize, target: f64) -> Point
 }
 
 // The length at a fraction of the curve.
+// stays: as `segment_at`
 #[tactic(auto, unfolding(crate::specs::Curve::target_of))]
 fn length_along(knots: &[Knot], t: f64) -> f64
     requires { 2 ≤ knot_count knots.now }
@@ -188,6 +190,7 @@ fn length_along(knots: &[Knot], t: f64) -> f64
 }
 
 // The ends of a curve are the points that were lent: a blend may miss them by a bit, and a last segment of length 0 by more.
+// stays: as `segment_at`
 fn first_end(knots: &[Knot]) -> Located
     requires { 2 ≤ knot_count knots.now }
     ensures { result.point ≡ stored_point knots.now 0 }
@@ -198,6 +201,7 @@ fn first_end(knots: &[Knot]) -> Located
     }
 }
 
+// stays: as `segment_at`
 fn last_end(knots: &[Knot]) -> Located
     requires { 2 ≤ knot_count knots.now }
     ensures { result.point ≡ stored_point knots.now (knot_count knots.now - 1) }

@@ -40,11 +40,11 @@ impl Tally {
 type Tallies = [Tally; Operation::COUNT];
 
 // Reads until the buffer is full or the file ends, and answers how many bytes it put at the start.
-// stays: `read_exact` doesn't say how many bytes there were before the file ended, which a cut-off header is told by
 fn read_full(file: &mut impl Read, buf: &mut [u8]) -> io::Result<usize>
     ensures { IfOk result (λ n. Counts n buf.new) }
 {
     let mut done = 0;
+    // stays: `read_exact` doesn't say how many bytes there were before the file ended, which a cut-off header is told by
     while done < buf.len() {
         let n = file.read(&mut buf[done..])?;
         if n == 0 {

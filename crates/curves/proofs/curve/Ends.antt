@@ -2,10 +2,11 @@
 -- point, at 1 and all above the last, infinities too, and else it is blended. Assumes nothing.
 use mathlib.Core.Path.{◌≡◌, refl, sym, ap, ◌∙◌}
 use mathlib.Core.Bool.{true, false}
-use Prim.Native.Nat.{ℕ, ◌-◌, ◌≤◌}
-use borrow.Author.Tests.{le-ltb}
+use Prim.Native.Nat.{ℕ, ◌-◌, ◌<◌, ◌≤◌}
+use borrow.Author.Tests.{le-ltb, lt-ltb}
 use lib.Ieee.{Float, lt, le, eq, of_bits}
-use Rattle.base.specs.Answers.{good}
+use Rattle.base.specs.Refusal.{refused}
+use Rattle.base.specs.Answers.{good, turned_away}
 use Rattle.base.proofs.BoolLaws.{by_truth}
 use Rattle.floats.specs.Scalar.{nought, one, clamp_unit}
 use Rattle.curves.specs.Curve.{ArcCurve, knot_count, stored_point, between, curve_at, at_answer}
@@ -17,6 +18,11 @@ use Rattle.floats.proofs.scalar.Laws.{impossible}
 pub answered : (c : ArcCurve) (side : ℕ) (t : Float) {p : Point} → 2 ≤ knot_count c → p ≡ curve_at c t → good p ≡ at_answer c side t
 unfolding at_answer
 answered c side t h e = rw (le-ltb (knot_count c) 2 h) (ap good e)
+
+-- and one without is 13
+pub no_segment : (c : ArcCurve) (side : ℕ) (t : Float) → knot_count c < 2 → at_answer c side t ≡ turned_away (refused 13 side 0)
+unfolding at_answer
+no_segment c side t h = rw (lt-ltb (knot_count c) 2 h)
 
 -- ---- 0 and 1
 
